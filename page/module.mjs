@@ -1,10 +1,13 @@
-// What stands between the page, or Node, and the WebAssembly module: a heap, and the module's eight calls.
+// What stands between the page, or Node, and the WebAssembly module: a heap, and the module's calls.
 
 const PAGE = 65536;
 // What the module's memory can have: pointers of 32 bits, without the last page.
 const MOST = 2 ** 32 - PAGE;
 // Fields that are turned into bytes, or back, at once.
 const AT_ONCE = 256;
+/** The day of an entry without one, and how the module has it. */
+export const NO_DAY = 2 ** 31 - 1;
+const NO_DAY_THERE = 2 ** 32 - 1;
 // Of three numbers the day stands first.
 const DAY_FIRST = 1;
 
@@ -373,7 +376,14 @@ export class Module {
    * @param {Int32Array} days
    */
   dayOrder(days) {
-    return Uint32Array.from(days.keys()).sort((one, other) => days[one] - days[other] || one - other);
+    const first = days.reduce((least, day) => Math.min(least, day), NO_DAY);
+    const lent = this.putNumbers(Uint32Array.from(days, (day) => (day === NO_DAY ? NO_DAY_THERE : day - first)));
+    const room = { ...this.malloc(4 * days.length), items: days.length };
+    const [ending] = this.call('day_order', 2, [lent, room]);
+    if (ending !== 0) throw new NoMemory();
+    const order = new Uint32Array(this.exports.memory.buffer, room.pointer, days.length).slice();
+    this.free(lent, room);
+    return order;
   }
 
   /**

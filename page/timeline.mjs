@@ -2,13 +2,12 @@
 // comes from the proved module: this script knows no calendar.
 
 import { FACTS } from './unbuilt-facts.mjs';
+import { NO_DAY } from './module.mjs';
 import { EVERY, Table, range, rowsOf } from './tables.mjs';
 
 const LINE_END = 10, QUOTE = 34, COMMA = 44, MINUS = 45, DIGIT_0 = 48, DIGIT_9 = 57;
 // The places of the id, the calendar and the date in a table.
 const CALENDAR = 2, TOLD = [1, CALENDAR, 3];
-// An entry without a day.
-const NO_DAY = 2 ** 31 - 1;
 /** Into so many parts the line of time is cut. */
 export const BINS = 200;
 // So many calendars have a row of their own, and so many entries and gaps are told one by one.

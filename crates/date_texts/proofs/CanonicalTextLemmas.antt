@@ -22,7 +22,8 @@ use Rattle.date_texts.specs.Calendars.{grammar, IsCivil}
 use Rattle.date_texts.specs.CivilText.{IsCivilText, canonical_civil, capital_week, of_month}
 use Rattle.date_texts.specs.DateText.{SaysDate, canonical_text}
 use Rattle.date_texts.specs.Dates.{calendar_of_date}
-use Rattle.date_texts.specs.Numerals.{IsNumeral, IsYearText, canonical_year, minus, padded, plain}
+use Rattle.byte_buffers.specs.Buffers.{padded}
+use Rattle.date_texts.specs.Numerals.{IsNumeral, IsYearText, canonical_year, minus, plain}
 use Rattle.date_texts.specs.RomanText.{IsNameText, canonical_name, of_ides, of_kalends, of_nones, of_second_sixth}
 use Rattle.date_texts.specs.Trimmed.{trim_start, trimmed}
 use Rattle.date_texts.proofs.ReadingLemmas.{decimal_numeral, padded_numeral, year_is_year}

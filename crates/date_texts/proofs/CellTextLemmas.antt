@@ -23,7 +23,7 @@ use Rattle.date_texts.specs.declared.target.Target.{Target}
 use Rattle.date_texts.proofs.CanonicalTextLemmas.{canonical_plain, canonical_short, marks_plain, numeral_short, place}
 use Rattle.date_texts.proofs.CanonicalTextLemmas.{short}
 use Rattle.date_texts.proofs.CellLemmas.{each_cell}
-use Rattle.date_texts.proofs.WritingLemmas.{one_or_two}
+use Rattle.byte_buffers.proofs.DigitLemmas.{one_or_two}
 
 abbrev pub ArePlain : List ℕ → Type 0
 ArePlain text = IsTrue (list_all is_plain text)

@@ -8,11 +8,9 @@
 --   CanonicalTextLemmas: the law `canonical_texts_read_back`, and the bytes and the lengths of canonical texts.
 --   CellTextLemmas: the laws `cells_are_short` and `cells_are_plain`, and with the first the room in `cell` and
 --     `write_cell`.
---   PairLemmas, WritingLemmas, BufferLemmas: the digits and pieces in `write_date` and `write_cell`.
---   PlaceLemmas: the places of long counts there.
+--   WritingLemmas, PlaceLemmas: the digits of years and the places of long counts in `write_date` and `write_cell`.
 --   DecisionLemmas, DateDecisionLemmas: what can be decided of numbers, texts and dates, for the laws of the crates
 --     above.
-pub mod PairLemmas
 pub mod PlaceLemmas
 pub mod TextWords
 pub mod ReadingLemmas
@@ -26,7 +24,6 @@ pub mod CellLemmas
 pub mod TargetNameLemmas
 pub mod TargetCountLemmas
 pub mod CellTextLemmas
-pub mod BufferLemmas
 pub mod WritingLemmas
 pub mod DecisionLemmas
 pub mod DateDecisionLemmas

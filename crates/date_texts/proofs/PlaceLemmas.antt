@@ -8,7 +8,8 @@ use Rattle.std.proofs.lemmas.Bool.{cases_lt}
 use Rattle.std.proofs.lemmas.Bool.Decides.{nat_tests}
 use Rattle.std.proofs.lemmas.Fmt.{decimal_digit}
 use Rattle.itoa.proofs.Decimal.{decimal_two}
-use Rattle.date_texts.specs.Buffers.{IsPut, place_row}
+use Rattle.byte_buffers.specs.Buffers.{IsPut}
+use Rattle.date_texts.specs.LongText.{place_row}
 
 -- the front of what was written
 pub put_front : {a b : List ℕ} {at i : ℕ} (x y : List ℕ) → at ≤ length a → IsPut a b at i (x ++ y)

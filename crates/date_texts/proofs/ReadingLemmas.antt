@@ -15,7 +15,8 @@ use Rattle.std.proofs.lemmas.Bool.Decides.{nat_tests}
 use Rattle.std.proofs.lemmas.Bool.{and_parts}
 use Rattle.day_numbers.specs.Dates.{IsBetween, IsYear}
 use Rattle.date_texts.specs.Joined.{Joined}
-use Rattle.date_texts.specs.Numerals.{IsNumeral, IsYearText, plain, minus, padded, canonical_year}
+use Rattle.byte_buffers.specs.Buffers.{padded}
+use Rattle.date_texts.specs.Numerals.{IsNumeral, IsYearText, plain, minus, canonical_year}
 use Rattle.date_texts.proofs.TextWords.{all_digits, value_after}
 use Rattle.date_texts.specs.Reading.{digits_at, number_at, after_byte, part_at, year_at, all_read}
 use Rattle.date_texts.specs.Reading.{signed_year, ◌>>=◌}

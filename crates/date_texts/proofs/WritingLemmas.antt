@@ -1,18 +1,11 @@
--- Digits two at a time.
-use Rattle.std.proofs.Common.{◌≡◌, ℕ, ◌+◌, ◌<◌, ◌≤◌, ◌%◌, ◌/◌, ◌∷◌, ◌++◌, length}
+-- The digits of a year, two at a time.
+use Rattle.std.proofs.Common.{◌≡◌, ℕ, ◌+◌, ◌<◌, ◌≤◌, ◌%◌, ◌/◌, ◌∷◌, ◌++◌}
 use Rattle.std.proofs.Common.{arith, append_assoc, length-append, eq-zero-or-pos}
-use Rattle.std.specs.Fmt.{decimal}
 use Rattle.std.proofs.lemmas.Fmt.{decimal_digit}
-use Rattle.itoa.proofs.Decimal.{pair, decimal_two, decimal_pair, decimal_four, length_one, length_two}
+use Rattle.itoa.proofs.Decimal.{pair, decimal_two, decimal_pair, decimal_four}
 use Rattle.itoa.proofs.Decimal.{length_pair}
-use Rattle.date_texts.specs.Numerals.{padded}
-
-pub two_digits : (n : ℕ) → n ≤ 99 → padded 2 n ≡ pair n
-two_digits n h = grind (arith, eq-zero-or-pos, decimal_digit, decimal_two)
-
--- a number below a hundred has one digit or two
-pub one_or_two : (n : ℕ) → n ≤ 99 → (1 ≤ length (decimal n)) × (length (decimal n) ≤ 2)
-one_or_two n h = grind (arith, eq-zero-or-pos, length_one, length_two)
+use Rattle.byte_buffers.specs.Buffers.{padded}
+use Rattle.byte_buffers.proofs.DigitLemmas.{two_digits}
 
 -- a year of four digits or fewer
 small_year : (n : ℕ) → n < 100 → padded 4 n ≡ 48 ∷ 48 ∷ padded 2 n

@@ -4,8 +4,9 @@ use Rattle.std.specs.Prelude.{ℕ, List, ◌∷◌, ◌++◌, codes, ℤ}
 use Rattle.std.specs.Fmt.{decimal}
 use Rattle.date_texts.specs.declared.grammar.Grammar.{Grammar}
 use Rattle.date_texts.specs.declared.grammar.Grammar.TheVariants.{Civil, Week}
+use Rattle.byte_buffers.specs.Buffers.{padded}
 use Rattle.date_texts.specs.Joined.{Joined}
-use Rattle.date_texts.specs.Numerals.{IsNumeral, IsYearText, padded, canonical_year}
+use Rattle.date_texts.specs.Numerals.{IsNumeral, IsYearText, canonical_year}
 
 -- a month, or a week, which has the letter W of either case before it
 pub data IsMonthText : Grammar → List ℕ → ℕ → Type 0 where

@@ -13,6 +13,5 @@ pub mod Reading
 pub mod CivilReading
 pub mod LongReading
 pub mod RomanReading
-pub mod Buffers
 pub mod Cells
 pub mod Laws

@@ -1,9 +1,9 @@
 -- Numbers and years in date texts: which digits stand for a number, and the digits that it is written with.
-use Rattle.std.specs.Prelude.{◌≡◌, ℕ, ◌+◌, ◌-◌, ◌*◌, ◌≤◌, List, ◌∷◌, ◌++◌, length, replicate, fold}
+use Rattle.std.specs.Prelude.{◌≡◌, ℕ, ◌+◌, ◌-◌, ◌*◌, ◌≤◌, List, ◌∷◌, length, fold}
 use Rattle.std.specs.Prelude.{IsTrue, ℤ, pos, negsuc, suc, neg_ℤ}
 use Rattle.std.specs.Char.{is_ascii_digit}
 use Rattle.std.specs.List.{list_all}
-use Rattle.std.specs.Fmt.{decimal}
+use Rattle.byte_buffers.specs.Buffers.{padded}
 
 -- one to `most` ASCII digits, and the number that they spell in decimal
 pub record IsNumeral (most : ℕ) (text : List ℕ) (n : ℕ) : Type 0 where
@@ -16,10 +16,6 @@ pub record IsNumeral (most : ℕ) (text : List ℕ) (n : ℕ) : Type 0 where
 pub data IsYearText : List ℕ → ℤ → Type 0 where
   plain : {text : List ℕ} {n : ℕ} → IsNumeral 5 text n → IsYearText text (pos n)
   minus : {text : List ℕ} {n : ℕ} → IsNumeral 5 text n → IsYearText (45 ∷ text) (neg_ℤ (pos n))
-
--- the decimal digits of n, with zeros before them up to a width
-abbrev pub padded : ℕ → ℕ → List ℕ
-padded width n = replicate (width - length (decimal n)) 48 ++ decimal n
 
 -- a year as it is written: at least four digits, after a minus sign where it is negative
 abbrev pub canonical_year : ℤ → List ℕ

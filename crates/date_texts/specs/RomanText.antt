@@ -6,8 +6,9 @@ use Rattle.std.specs.Str.{str_to_ascii_lowercase}
 use Rattle.std.specs.Fmt.{decimal}
 use Rattle.solar_calendars.specs.declared.roman_date.RomanName.{RomanName}
 use Rattle.solar_calendars.specs.declared.roman_date.RomanName.TheVariants.{Kalends, Nones, Ides, SecondSixth}
+use Rattle.byte_buffers.specs.Buffers.{padded}
 use Rattle.date_texts.specs.Joined.{Joined}
-use Rattle.date_texts.specs.Numerals.{IsNumeral, IsYearText, padded, canonical_year}
+use Rattle.date_texts.specs.Numerals.{IsNumeral, IsYearText, canonical_year}
 
 -- the name of a day: the letter k (107), n (110) or i (105) with a count of one or two digits, or k6b, in letters of
 -- either case

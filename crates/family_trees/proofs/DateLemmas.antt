@@ -1,5 +1,6 @@
 -- One line of a tree more.
-use Rattle.std.proofs.Common.{◌≡◌, ◌<◌, ◌+◌, ◌++◌, [], ◌∷◌, ℕ, List, append_assoc, arith, drop, false, get_or, length, map, reverse}
+use Rattle.std.proofs.Common.{◌≡◌, ◌<◌, ◌+◌, ◌++◌, [], ◌∷◌, ℕ, List, append_assoc, arith, drop, false, get_or, length}
+use Rattle.std.proofs.Common.{map, reverse}
 use Rattle.std.proofs.Common.{take, true}
 use Rattle.family_trees.specs.LineViews.{line_seen}
 use Rattle.family_trees.specs.Lines.{TreeLine}

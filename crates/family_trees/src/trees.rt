@@ -25,7 +25,7 @@ fn is_wanted(line: &Line, level: u8, tag: &[u8]) -> bool
 }
 
 /// The value of the first of these lines with this level and tag, of those before one of a lower level.
-#[tactic(auto, using(crate::proofs::TreeLemmas::first_behind, crate::proofs::TreeLemmas::last_before, crate::proofs::TreeLemmas::all_before))]
+#[tactic(auto, using(crate::proofs::TreeLemmas::first_behind))]
 pub(crate) fn value_in<'a>(lines: &[Line<'a>], level: u8, tag: &[u8]) -> &'a [u8]
     ensures { result.now ≡ value_in level tag.now (map line_seen lines.now) }
 {
@@ -41,7 +41,7 @@ pub(crate) fn value_in<'a>(lines: &[Line<'a>], level: u8, tag: &[u8]) -> &'a [u8
 }
 
 /// The same, from the last of these lines on.
-#[tactic(auto, using(crate::proofs::TreeLemmas::first_behind, crate::proofs::TreeLemmas::last_before, crate::proofs::TreeLemmas::all_before))]
+#[tactic(auto, using(crate::proofs::TreeLemmas::last_before, crate::proofs::TreeLemmas::all_before))]
 pub(crate) fn value_before<'a>(lines: &[Line<'a>], level: u8, tag: &[u8]) -> &'a [u8]
     ensures { result.now ≡ value_in level tag.now (reverse (map line_seen lines.now)) }
 {
@@ -60,7 +60,7 @@ pub(crate) fn value_before<'a>(lines: &[Line<'a>], level: u8, tag: &[u8]) -> &'a
 }
 
 /// The last of these lines that is of this level or of a lower one.
-#[tactic(auto, using(crate::proofs::TreeLemmas::first_behind, crate::proofs::TreeLemmas::last_before, crate::proofs::TreeLemmas::all_before))]
+#[tactic(auto, using(crate::proofs::TreeLemmas::last_before, crate::proofs::TreeLemmas::all_before))]
 pub(crate) fn line_over<'a>(lines: &[Line<'a>], level: u8) -> Option<Line<'a>>
     ensures { option_map line_seen result ≡ line_over level (reverse (map line_seen lines.now)) }
 {

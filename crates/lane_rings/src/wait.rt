@@ -19,33 +19,18 @@ const SHARE_OF_ONE_ALONE: u32 = 7;
 /// How many parts make all the processors.
 const PARTS_OF_A_SHARE: u32 = 8;
 
-/// How many naps follow where others are at work, the first time: so many of the shortest take 4 milliseconds.
-const FEWEST_NAPS: u32 = 64;
-
-/// How many naps follow at most: so many of the shortest take 230 milliseconds.
-const MOST_NAPS: u32 = 4096;
-
 /// How many times as many naps follow each time. Each short yield takes one off. So a single stray long yield costs
 /// little, and beside others that stay the thread seldom tries a yield, which costs it a slice of theirs.
 const TIMES_AS_MANY: u32 = 4;
 
-/// A nap in microseconds where a run has few sources: the shortest, which the system makes some 55, loses the least.
-const SHORT_NAP: u64 = 1;
-
-/// A nap in microseconds where it has many: short naps of so many threads would take the processors from those that
-/// have something to do.
-const LONG_NAP: u64 = 100;
+/// How many times as many as the first time follow at most.
+const TIMES_AT_MOST: u32 = 64;
 
 /// From this many sources on a run has many more threads than a machine has processors.
 const MANY_SOURCES: usize = 5;
 
-/// By how many microseconds a nap is longer one lane downstream of the reader, where threads share processors. The
-/// system ends naps that end near one another together, and the one that is due first runs first: so the threads run in
-/// the order of their lanes, and each finds what the one before it has left.
-const LONGER_BY_A_LANE: u64 = 15;
-
 /// With so many processors the reader, a converter and the thread that writes have one each.
-const ONE_FOR_EACH_THREAD: usize = 3;
+const ONE_FOR_EACH_THREAD: u32 = 3;
 
 /// A wait of more microseconds is one for something outside, as a slow source: the threads of a run answer one another
 /// sooner.
@@ -66,6 +51,34 @@ const PART_OF_A_SILENCE: u32 = 256;
 /// The longest sleep of a silence in microseconds: with all its threads a run then takes next to no processor time.
 const LONGEST_SLEEP_OF_A_SILENCE: u64 = 10_000;
 
+/// Naps of one kind.
+#[derive(Clone, Copy, Debug)]
+struct Naps {
+    // How long one is, in microseconds.
+    micros: u64,
+    // By how many microseconds one is longer one lane downstream of the reader, where threads share processors. The system
+    // ends naps that end near one another together, and the one that is due first runs first: so the threads run in the
+    // order of their lanes, and each finds what the one before it has left.
+    longer: u64,
+    // How many follow where others are at work, the first time.
+    fewest: u32,
+}
+
+/// Those of a run of few sources. A shorter one often ends before the thread that it waits for has had its turn. The system
+/// ends it five microseconds late where the program asked for that, and else fifty; so many take 4 milliseconds.
+const SHORT_NAPS: Naps = Naps {
+    micros: 12,
+    longer: 5,
+    fewest: 256,
+};
+
+/// Those of a run of many: short naps of so many threads would take the processors from those that have something to do.
+const LONG_NAPS: Naps = Naps {
+    micros: 100,
+    longer: 15,
+    fewest: 64,
+};
+
 /// What the clocks showed at the end of a long yield.
 #[derive(Clone, Copy, Debug)]
 struct YieldEnd {
@@ -85,9 +98,7 @@ struct YieldEnd {
 #[derive(Clone, Copy, Debug)]
 pub struct Patience {
     processors: u32,
-    // A nap in microseconds, and by how much it is longer one lane downstream.
-    nap: u64,
-    longer: u64,
+    kind: Naps,
     // The looks of this wait that were followed by the next one at once.
     looks: u32,
     // When this wait came to its first yield.
@@ -102,30 +113,32 @@ pub struct Patience {
 impl Patience {
     /// For the readers of a run with so many sources, on so many processors.
     pub fn for_run(sources: usize, processors: usize) -> Patience {
+        let kind = if sources < MANY_SOURCES {
+            SHORT_NAPS
+        } else {
+            LONG_NAPS
+        };
         Patience {
             processors: u32::try_from(processors).unwrap_or(u32::MAX),
-            nap: if sources < MANY_SOURCES {
-                SHORT_NAP
-            } else {
-                LONG_NAP
-            },
-            longer: if processors < ONE_FOR_EACH_THREAD {
-                LONGER_BY_A_LANE
-            } else {
-                0
-            },
+            kind,
             looks: 0,
             since: None,
             last_long: None,
             naps: 0,
-            next_naps: FEWEST_NAPS,
+            next_naps: kind.fewest,
         }
     }
 
     /// For the thread one lane downstream.
     pub fn one_lane_downstream(self) -> Patience {
+        let share = self.processors < ONE_FOR_EACH_THREAD;
+        let longer = if share { self.kind.longer } else { 0 };
+        let micros = self.kind.micros.saturating_add(longer);
         Patience {
-            nap: self.nap.saturating_add(self.longer),
+            kind: Naps {
+                micros,
+                ..self.kind
+            },
             ..self
         }
     }
@@ -152,7 +165,7 @@ impl Patience {
     pub fn rest(&mut self, clock: &(impl Clock + CpuClock)) {
         if self.naps > 0 {
             self.naps -= 1;
-            thread::sleep(clock, Duration::from_micros(self.nap));
+            thread::sleep(clock, Duration::from_micros(self.kind.micros));
             return;
         }
         let Ok(now) = Instant::now(clock) else {
@@ -174,10 +187,11 @@ impl Patience {
             return;
         };
         if now.duration_since(begun) <= Duration::from_micros(LONG_YIELD) {
-            self.next_naps = self.next_naps.saturating_sub(1).max(FEWEST_NAPS);
+            self.next_naps = self.next_naps.saturating_sub(1).max(self.kind.fewest);
         } else if self.are_others_at_work(clock, now) {
+            let most = self.kind.fewest.saturating_mul(TIMES_AT_MOST);
             self.naps = self.next_naps;
-            self.next_naps = self.next_naps.saturating_mul(TIMES_AS_MANY).min(MOST_NAPS);
+            self.next_naps = self.next_naps.saturating_mul(TIMES_AS_MANY).min(most);
         }
     }
 

@@ -139,7 +139,7 @@ fn naps_and_sleeps_by_jumps() -> bool {
     let clock = StepClock::new(Step::Forward(HOUR));
     let mut patience = Patience::for_run(1, 4);
     clock.rest_anew(&mut patience, 2) == (0, 0)
-        && clock.rest(&mut patience, 64) == (64, 1)
+        && clock.rest(&mut patience, 256) == (256, 12)
         && clock.rest(&mut patience, 1) == (1, 10_000)
 }
 
@@ -213,25 +213,25 @@ fn nap_after(sources: usize, processors: usize, used: u64) -> u64 {
 // Six milliseconds of one processor or of four: seven eighths are 5250 microseconds, and 21,000.
 #[test]
 fn naps_follow_a_share_under_seven_eighths(rt: HostRuntime) {
-    assert!(rt; [5249, 5250, 6000].map(|used| nap_after(1, 1, used)) == [1, 0, 0]);
-    assert!(rt; [20_999, 21_000, 24_000].map(|used| nap_after(4, 4, used)) == [1, 0, 0]);
+    assert!(rt; [5249, 5250, 6000].map(|used| nap_after(1, 1, used)) == [12, 0, 0]);
+    assert!(rt; [20_999, 21_000, 24_000].map(|used| nap_after(4, 4, used)) == [12, 0, 0]);
     assert!(rt; [20_999, 21_000, 24_000].map(|used| nap_after(5, 4, used)) == [100, 0, 0]);
 }
 
-// Whether 64 naps follow the first time, and 256 the next time.
-fn naps_grow() -> bool {
+// Whether so many naps of a run with so many sources follow the first time, and four times as many the next time.
+fn naps_grow(sources: usize, naps: u32, nap: u64) -> bool {
     let clock = StepClock::of_long_yields(Step::Forward(1));
-    let mut patience = Patience::for_run(1, 4);
+    let mut patience = Patience::for_run(sources, 4);
     clock.rest_anew(&mut patience, 2) == (0, 0)
-        && clock.rest_anew(&mut patience, 64) == (64, 1)
+        && clock.rest_anew(&mut patience, naps) == (u64::from(naps), nap)
         && clock.rest_anew(&mut patience, 1) == (0, 0)
-        && clock.rest_anew(&mut patience, 256) == (256, 1)
+        && clock.rest_anew(&mut patience, 4 * naps) == (u64::from(4 * naps), nap)
         && clock.rest_anew(&mut patience, 1) == (0, 0)
 }
 
 #[test]
 fn naps_grow_beside_others_that_stay(rt: HostRuntime) {
-    assert!(rt; naps_grow());
+    assert!(rt; naps_grow(4, 256, 12) && naps_grow(5, 64, 100));
 }
 
 // The naps of the reader's thread and of those one and two lanes downstream.
@@ -248,9 +248,9 @@ fn naps_by_lane(sources: usize, processors: usize) -> [u64; 3] {
 
 #[test]
 fn naps_are_longer_one_lane_downstream_where_threads_share_processors(rt: HostRuntime) {
-    assert!(rt; naps_by_lane(1, 2) == [1, 16, 31]);
+    assert!(rt; naps_by_lane(1, 2) == [12, 17, 22]);
     assert!(rt; naps_by_lane(5, 2) == [100, 115, 130]);
-    assert!(rt; naps_by_lane(1, 4) == [1, 1, 1]);
+    assert!(rt; naps_by_lane(1, 4) == [12, 12, 12]);
     assert!(rt; naps_by_lane(5, 4) == [100, 100, 100]);
 }
 

@@ -9,9 +9,14 @@ use register_arguments::MEMORY_FAULT;
 use register_files::{Destination, Disk, LoggedWriter, Source, lines_to};
 use register_records::PlainOutput;
 use std::fs::OpenOptions;
+use std::io::Write;
 use std::process::ExitCode;
 use std::rt::{Env, Files};
 use std::{env, io};
+
+/// From so many arguments on a run may have many files. It then has many more threads than a machine has processors, and
+/// does better where the system lets more of them sleep on and wakes them together.
+const MANY_ARGUMENTS: usize = 8;
 
 /// The arguments after the name of the program.
 fn arguments_of<R: Env + AllocGlobal>(rt: &R) -> io::Result<Vec<String>> {
@@ -34,6 +39,15 @@ fn open_nothing<R: Files>(rt: &R) -> Option<R::File> {
     OpenOptions::new().read(true).open(rt, "/dev/null").ok()
 }
 
+/// Asks the system to end each sleep at most 5 microseconds late, in place of 50: this thread's, and those of threads that
+/// start later. Where it cannot be asked, they sleep a little longer.
+fn shorten_naps(rt: &impl Files) {
+    let asked = OpenOptions::new()
+        .write(true)
+        .open(rt, "/proc/self/timerslack_ns");
+    let _ = asked.and_then(|mut slack| slack.write(b"5000"));
+}
+
 fn main(rt: HostRuntime) -> ExitCode {
     // A standard stream that is closed leaves its number, 0, 1 or 2, free. It is taken here, so that no file that the
     // arguments name gets it: else what is meant for standard error could be written into a table.
@@ -42,9 +56,12 @@ fn main(rt: HostRuntime) -> ExitCode {
         Ok(arguments) => arguments,
         Err(error) => return unread_arguments(&rt, &error),
     };
+    if arguments.len() < MANY_ARGUMENTS {
+        shorten_naps(&rt);
+    }
     let input = Source::Input(rt.stdin());
     let output = PlainOutput::new(LoggedWriter::new(Destination::Output(rt.stdout())), 1);
-    let mut errors = PlainOutput::new(LoggedWriter::new(lines_to(rt.stderr())), 0);
+    let mut errors = PlainOutput::new(LoggedWriter::new(lines_to(rt.stderr(), "register")), 0);
     let outcome = answer(
         &rt,
         rt.alloc(),

@@ -7,7 +7,10 @@ use Rattle.register_records.specs.Sources.{is_whole_end}
 use Rattle.register_records.specs.declared.ends.SourceEnd.{SourceEnd}
 use Rattle.register_records.specs.declared.ends.SourceEnd.TheVariants as ended
 use Rattle.register_records.specs.declared.ends.Note.{Note}
-use Rattle.register_app.specs.Reports.{count_text, counts_from, line_of_end, lines_from, refusal_numbers, refused_with}
+use Rattle.date_texts.specs.Refusals.{refusal_number}
+use Rattle.date_texts.specs.declared.refusal.Refusal.{Refusal}
+use Rattle.register_records.specs.RefusalCounts.{refused_with}
+use Rattle.register_app.specs.Reports.{count_text, counts_from, every_refusal, line_of_end, lines_from}
 
 -- with the next line written, one line fewer is left
 pub lines_more : (summary : Bool) (ends : List SourceEnd) (i : ℕ) (e : SourceEnd) (text all : List ℕ) → i < length ends
@@ -36,17 +39,19 @@ taken_alone xs [] x is one = refl
 taken_alone xs (y ∷ rest) x is one = absurd (omega (arith, ap length is, length-append rest (x ∷ []), one))
 
 -- with the next count added, or none where there is none, one number fewer is left
-pub count_added : (line new all : List ℕ) (is_first : Bool) (journal : List Note) (i d count : ℕ) → i < 7
-    → count ≡ refused_with journal (get_or refusal_numbers i d) → 0 < count
-    → new ≡ line ++ count_text is_first (get_or refusal_numbers i d) count
-    → line ++ counts_from is_first journal (drop i refusal_numbers) ≡ all
-    → new ++ counts_from false journal (drop (i + 1) refusal_numbers) ≡ all
-count_added line new all is_first journal i d count lt counted some added is =
-    grind (arith, append_assoc, drop_more refusal_numbers i d lt)
+pub count_added : (line new all : List ℕ) (is_first : Bool) (journal : List Note) (i : ℕ) (d : Refusal)
+    (number count : ℕ) → i < 7 → number ≡ refusal_number (get_or every_refusal i d)
+    → count ≡ refused_with journal (get_or every_refusal i d) → 0 < count
+    → new ≡ line ++ count_text is_first number count
+    → line ++ counts_from is_first journal (drop i every_refusal) ≡ all
+    → new ++ counts_from false journal (drop (i + 1) every_refusal) ≡ all
+count_added line new all is_first journal i d number count lt numbered counted some added is =
+    grind (arith, append_assoc, drop_more every_refusal i d lt)
 
-pub count_left_out : (line all : List ℕ) (is_first : Bool) (journal : List Note) (i d count : ℕ) → i < 7
-    → count ≡ refused_with journal (get_or refusal_numbers i d) → count ≡ 0
-    → line ++ counts_from is_first journal (drop i refusal_numbers) ≡ all
-    → line ++ counts_from is_first journal (drop (i + 1) refusal_numbers) ≡ all
+pub count_left_out : (line all : List ℕ) (is_first : Bool) (journal : List Note) (i : ℕ) (d : Refusal) (count : ℕ)
+    → i < 7
+    → count ≡ refused_with journal (get_or every_refusal i d) → count ≡ 0
+    → line ++ counts_from is_first journal (drop i every_refusal) ≡ all
+    → line ++ counts_from is_first journal (drop (i + 1) every_refusal) ≡ all
 count_left_out line all is_first journal i d count lt counted none is =
-    grind (arith, append_assoc, drop_more refusal_numbers i d lt)
+    grind (arith, append_assoc, drop_more every_refusal i d lt)

@@ -3,12 +3,13 @@
 ghost use Rattle.std.specs.Prelude.{◌≡◌, ◌≤◌, ◌<◌, ◌+◌, ◌++◌, ◌∷◌, [], MatchOption, codes, length, true, false};
 ghost use Rattle.std.specs.Fmt.{decimal};
 ghost use Rattle.std.specs.Io.KnownBytes.{Appends};
-ghost use Rattle.register_app.specs.Reports.{count_text, counts_from, line_of_end, lines_from, refusal_numbers};
-ghost use Rattle.register_app.specs.Reports.{refused_with, rows_text};
+ghost use Rattle.register_app.specs.Reports.{count_text, counts_from, every_refusal, line_of_end, lines_from};
+ghost use Rattle.register_app.specs.Reports.{rows_text};
 
 use arrayvec::ArrayString;
+use date_texts::Refusal;
 use itoa::Buffer;
-use register_records::{Cause, Note, Output, SourceEnd, send};
+use register_records::{Cause, Note, Output, RefusalCounts, SourceEnd, send};
 
 /// The most bytes of a line on a source.
 const LINE: usize = 256;
@@ -45,18 +46,16 @@ fn line_of_broken(place: usize, cause: Cause) -> Line
     line
 }
 
-/// How many records were refused with this number.
-fn refused_with_number(journal: &[Note], number: u8) -> usize
-    ensures { result ≡ refused_with journal.now number }
-{
-    journal
-        .iter()
-        .filter(|note| note.refusal.number() == number)
-        .count()
-}
-
-/// The numbers of the refusals.
-const REFUSALS: [u8; 7] = [1, 2, 3, 4, 5, 6, 7];
+/// The refusals, in the order of their numbers.
+const REFUSALS: [Refusal; 7] = [
+    Refusal::FieldCount,
+    Refusal::FieldTooLong,
+    Refusal::NotUtf8,
+    Refusal::UnknownCalendar,
+    Refusal::DateText,
+    Refusal::NoSuchDate,
+    Refusal::OutOfRange,
+];
 
 /// Adds to a line how many records were refused with one number, the first of the line or a further one.
 fn push_count(line: &mut Line, is_first: bool, number: u8, count: usize)
@@ -87,14 +86,15 @@ fn begin_whole(place: usize, rows: u32, refused: u32) -> Line
 /// Adds to a line how many records were refused with each number.
 fn push_counts(line: &mut Line, journal: &[Note])
     requires room { length line.old.bytes ≤ WHOLE }
-    ensures bytes { line.new.bytes ≡ line.old.bytes ++ counts_from true journal.now refusal_numbers }
+    ensures bytes { line.new.bytes ≡ line.old.bytes ++ counts_from true journal.now every_refusal }
     ensures short { length line.new.bytes < LINE }
 {
+    let counts = RefusalCounts::of(journal);
     let mut is_first = true;
-    'numbers: for number in &REFUSALS {
-        let count = refused_with_number(journal, *number);
+    'refusals: for refusal in &REFUSALS {
+        let count = counts.count(*refusal);
         if count > 0 {
-            push_count(line, is_first, *number, count);
+            push_count(line, is_first, refusal.number(), count);
             is_first = false;
         }
     }
@@ -106,7 +106,7 @@ fn push_counts(line: &mut Line, journal: &[Note])
 /// The line of a whole source.
 fn line_of_whole(place: usize, rows: u32, refused: u32, journal: &[Note]) -> Line
     ensures { result.bytes
-        ≡ rows_text place rows refused ++ (counts_from true journal.now refusal_numbers ++ 10 ∷ []) }
+        ≡ rows_text place rows refused ++ (counts_from true journal.now every_refusal ++ 10 ∷ []) }
 {
     let mut line = begin_whole(place, rows, refused);
     push_counts(&mut line, journal);

@@ -21,5 +21,5 @@ destination_contents of_output of_file (destination.File file) = of_file file
 
 -- the bytes that the stream of lines holds, where they go there as they are; nothing is known of a terminal
 abbrev pub lines_contents : {E : Type 0} → (E → Option (List ℕ)) → Lines E → Option (List ℕ)
-lines_contents of_stream (lines.ToTerminal terminal) = None
+lines_contents of_stream (lines.ToTerminal terminal program) = None
 lines_contents of_stream (lines.AsTheyAre stream) = of_stream stream

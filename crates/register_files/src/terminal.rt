@@ -14,14 +14,15 @@ use std::io::{IsTerminal, Write};
 /// so do all those of a text of several lines. Elsewhere everything stays as it is.
 #[derive(Drop)]
 pub enum Lines<E> {
-    ToTerminal(E),
+    /// To a terminal, from the program of this name.
+    ToTerminal(E, &'static str),
     AsTheyAre(E),
 }
 
-/// The lines of this stream.
-pub fn lines_to<E: Write + IsTerminal>(stream: E) -> Lines<E> {
+/// The lines of this stream, from the program of this name.
+pub fn lines_to<E: Write + IsTerminal>(stream: E, program: &'static str) -> Lines<E> {
     if stream.is_terminal() {
-        Lines::ToTerminal(stream)
+        Lines::ToTerminal(stream, program)
     } else {
         Lines::AsTheyAre(stream)
     }
@@ -82,12 +83,20 @@ fn write_piece<E: Write>(terminal: &mut E, text: &[u8], one_line: bool) -> io::R
     Ok(len)
 }
 
+/// Whether a text begins with the name of a program, a colon and a space.
+fn is_message(text: &[u8], program: &str) -> bool {
+    match text.strip_prefix(program.as_bytes()) {
+        Some(rest) => rest.starts_with(b": "),
+        None => false,
+    }
+}
+
 /// Writes a text to a terminal, its control characters as text. A message of the program's own is one line; what `clap`
 /// says has several. A text that comes in two calls is not seen to be one; messages come whole.
-fn write_shown<E: Write>(terminal: &mut E, text: &[u8]) -> io::Result<usize>
+fn write_shown<E: Write>(terminal: &mut E, program: &str, text: &[u8]) -> io::Result<usize>
     ensures bound { WritesAtMost result text.now }
 {
-    let one_line = text.starts_with(b"register: ");
+    let one_line = is_message(text, program);
     let mut next = 0;
     for at in 0..text.len() {
         if at == next {
@@ -102,14 +111,14 @@ impl<E: Write> Write for Lines<E> {
 
     fn write(&mut self, buf: &[u8]) -> io::Result<usize> {
         match self {
-            Lines::ToTerminal(terminal) => write_shown(terminal, buf),
+            Lines::ToTerminal(terminal, program) => write_shown(terminal, program, buf),
             Lines::AsTheyAre(stream) => stream.write(buf),
         }
     }
 
     fn flush(&mut self) -> io::Result<()> {
         match self {
-            Lines::ToTerminal(terminal) => terminal.flush(),
+            Lines::ToTerminal(terminal, _) => terminal.flush(),
             Lines::AsTheyAre(stream) => stream.flush(),
         }
     }

@@ -1,8 +1,5 @@
 -- What has become of a text and of the room for its table.
-use Rattle.std.specs.Prelude.{◌≡◌, ◌≢◌, ◌==◌, ◌≤◌, ℕ, Bool, true, false, List, [], length, Some, Result, Ok, Err}
-use Rattle.std.specs.List.{count_by}
-use Rattle.date_texts.specs.Refusals.{refusal_number}
-use Rattle.date_texts.specs.declared.refusal.Refusal.{Refusal}
+use Rattle.std.specs.Prelude.{◌≡◌, ◌≢◌, ◌≤◌, ℕ, Bool, true, false, List, [], length, Some, Result, Ok, Err}
 use Rattle.register_records.specs.Entries.{HasNoHeader, HasTooMany, IsNotSealed, Reading, record_limit}
 use Rattle.register_records.specs.SetupRules.{NamesTwice, is_delimiter}
 use Rattle.register_records.specs.Sources.{ArePartOfTable, IfBroken, IfWhole, IsFrontOfTable, IsTableOfAll}
@@ -10,7 +7,6 @@ use Rattle.register_records.specs.Sources.{IsWholeTable}
 use Rattle.register_records.specs.Tables.{Layout}
 use Rattle.register_records.specs.declared.setups.Form.TheVariants.{Sealed}
 use Rattle.register_records.specs.declared.ends.Cause.TheVariants as cause
-use Rattle.register_records.specs.declared.ends.Note.{Note}
 use Rattle.register_records.specs.declared.ends.SourceEnd.{SourceEnd}
 use Rattle.register_records.specs.declared.ends.SourceEnd.TheVariants as end
 use Rattle.register_page.specs.Requests.{goes_beyond, layout_by, reading_by, targets_at}
@@ -18,16 +14,6 @@ use Rattle.register_page.specs.Rooms.{Puts}
 use Rattle.register_page.specs.declared.converting.Converted.{Converted}
 use Rattle.register_page.specs.declared.requests.RequestFault.{RequestFault}
 use Rattle.register_page.specs.declared.requests.RequestFault.TheVariants as fault
-
--- how many of the refused rows have this refusal
-abbrev pub refused_with : List Note → Refusal → ℕ
-refused_with journal refusal =
-    count_by (λ (note : Note). refusal_number note.refusal == refusal_number refusal) journal
-
--- the refused rows of a source that ended whole
-abbrev pub journal_in : SourceEnd → List Note
-journal_in (end.Whole rows refused journal) = journal.items
-journal_in (end.Broken cause) = []
 
 -- what is known to be a table, or a front of one, of the bytes that were made: nothing of them where the output failed,
 -- which is that memory ran out for it

@@ -6,7 +6,6 @@ ghost use Rattle.register_page.specs.Conversions.{IsConverted, IsReturned, sound
 
 use crate::requests::{RequestFault, setup_for};
 use crate::rooms::{bytes_for, copy_if_fits};
-use date_texts::Refusal;
 use register_records::{Cause, PlainOutput, Setup, SourceEnd, convert_source};
 use std::alloc::Global;
 
@@ -15,24 +14,6 @@ use std::alloc::Global;
 pub struct Converted {
     pub end: SourceEnd,
     pub length: usize,
-}
-
-impl Converted {
-    ghost use Rattle.register_page.specs.Conversions.{journal_in, refused_with};
-
-    /// How many rows of the whole table were refused with `refusal`; none where there is no such table.
-    pub fn refused_with(&self, refusal: Refusal) -> usize
-        ensures { result ≡ refused_with (journal_in self.now.end) refusal }
-    {
-        let number = refusal.number();
-        match &self.end {
-            SourceEnd::Whole { journal, .. } => journal
-                .iter()
-                .filter(|note| note.refusal.number() == number)
-                .count(),
-            SourceEnd::Broken { .. } => 0,
-        }
-    }
 }
 
 /// What is a table, or a front of one, of the bytes that were made: nothing where there was no memory for more of them.

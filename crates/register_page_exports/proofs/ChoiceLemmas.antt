@@ -4,18 +4,13 @@ use Rattle.std.proofs.Common.{append_assoc, arith, drop, lt-ltb, slice_get, slic
 use Rattle.std.specs.Prelude.{nat_lt}
 use Rattle.date_texts.specs.Calendars.{all_targets}
 use Rattle.date_texts.specs.declared.target.Target.{Target}
-use Rattle.date_texts.specs.declared.calendar.Calendar.{Calendar as CalendarValue}
 use Rattle.written_dates.specs.Signs.{◌>>=◌}
-use Rattle.written_dates.specs.declared.meanings.Name.{Name}
 use Rattle.written_dates.specs.declared.written.Choice.{Choice}
-use Rattle.register_records.specs.Entries.{Fields}
 use Rattle.register_sheets.specs.declared.choices.AskedColumn.{AskedColumn}
 use Rattle.register_sheets.specs.declared.choices.AskedColumn.TheVariants.{Cells}
 use Rattle.register_sheets.specs.declared.choices.DateColumn.{DateColumn}
-use Rattle.register_sheets.specs.declared.choices.SheetChoice.{SheetChoice}
 use Rattle.register_page_exports.specs.AskedViews.{all_before}
-use Rattle.register_page_exports.specs.SheetTables.{IsChoiceOf}
-use Rattle.register_page_exports.specs.SheetChoices.{SheetAsked, asked_by, before, column_by, columns_by, date_by, dates_by, id_by}
+use Rattle.register_page_exports.specs.SheetChoices.{asked_by, before, column_by, columns_by, date_by, dates_by, id_by}
 use Rattle.register_page_exports.specs.SheetChoices.{reading_by}
 
 -- what is asked by seven numbers in front and the others
@@ -55,8 +50,3 @@ pub next_date : (rest group others : List ℕ) (items : List DateColumn) (d : Da
 next_date (a ∷ b ∷ c ∷ rest) group others items d front behind count is =
     let named = rw front at is in rw (behind, named) (push_before items d (dates_by rest))
 next_date rest group others items d front behind count is = absurd (omega (arith, count))
-
--- the choice by what is known is that by what it was made of
-pub choice_asked : (a b : SheetAsked) (m n : List Name) (p q : List (List ℕ × CalendarValue)) (x y : Fields)
-    (choice : SheetChoice) → a ≡ b → m ≡ n → p ≡ q → x ≡ y → IsChoiceOf a m p x choice → IsChoiceOf b n q y choice
-choice_asked a b m n p q x y choice ea em ep ex is = rw (ea, em, ep, ex) at is

@@ -1,25 +1,19 @@
 -- What a clause sees of what is asked and known. No public contract cites this file.
-use Rattle.std.specs.Prelude.{◌≡◌, ⊤, ℕ, List, IsSome, None, map}
-use Rattle.written_dates.specs.Fields.{entries}
+use Rattle.std.specs.Prelude.{◌≡◌, ⊤, ℕ, List, IsSome, None}
+use Rattle.register_sheets.specs.AskedOfSheets.{IsChoiceBy}
+use Rattle.register_sheets.specs.declared.asked_of_sheets.AskedByNames.{AskedByNames}
 use Rattle.register_sheets.specs.declared.choices.SheetChoice.{SheetChoice}
 use Rattle.register_sheets.specs.declared.sheet_ends.SheetCause.{SheetCause}
 use Rattle.register_sheets.specs.declared.sheet_ends.SheetCause.TheVariants as cause
-use Rattle.register_page_exports.specs.AskedViews.{seen}
 use Rattle.register_page_exports.specs.SheetChoices.{asked_by}
-use Rattle.register_page_exports.specs.SheetTables.{HasFault, IsAsked, IsChoiceOf}
-use Rattle.register_page_exports.specs.declared.sheet_tables.Known.{Known}
+use Rattle.register_page_exports.specs.SheetTables.{HasFault, IsAsked}
 use Rattle.register_page_exports.specs.declared.sheet_tables.SheetEnding.{SheetEnding}
 use Rattle.register_page_exports.specs.declared.sheet_tables.SheetEnding.TheVariants as ending
 
-abbrev pub IsChoiceOfKnown : Known → SheetChoice → Type 0
-IsChoiceOfKnown known =
-    IsChoiceOf (seen known.asked) known.names.listed.now (entries known.calendars)
-    (map (λ heading. heading.now) known.headings.items)
-
 -- a choice by what is known is what these numbers and names ask
-abbrev pub KnowsAsked : List ℕ → List ℕ → List ℕ → List ℕ → Known → Type 0
+abbrev pub KnowsAsked : List ℕ → List ℕ → List ℕ → List ℕ → AskedByNames → Type 0
 KnowsAsked numbers columns names sheet known =
-    (choice : SheetChoice) → IsChoiceOfKnown known choice → IsAsked numbers columns names sheet choice
+    (choice : SheetChoice) → IsChoiceBy known choice → IsAsked numbers columns names sheet choice
 
 -- why nothing comes of what is asked before there is a choice
 abbrev pub EndsEarly : List ℕ → List ℕ → List ℕ → SheetEnding → Type 0

@@ -1,26 +1,14 @@
 -- What the numbers of a report say.
 use Rattle.std.specs.Prelude.{◌≡◌, ◌+◌, ℕ, List, [], Result, Ok, Err}
-use Rattle.date_texts.specs.declared.refusal.Refusal.TheVariants as refusal
+use Rattle.register_records.specs.RefusalCounts.{AreCounts}
 use Rattle.register_records.specs.Sources.{cause_number}
 use Rattle.register_records.specs.declared.ends.Note.{Note}
 use Rattle.register_records.specs.declared.ends.SourceEnd.{SourceEnd}
 use Rattle.register_records.specs.declared.ends.SourceEnd.TheVariants as end
-use Rattle.register_page.specs.Conversions.{refused_with}
 use Rattle.register_page.specs.Requests.{fault_number}
 use Rattle.register_page.specs.declared.converting.Converted.{Converted}
 use Rattle.register_page.specs.declared.requests.RequestFault.{RequestFault}
-use Rattle.register_page_exports.specs.declared.Counts.{Counts}
 use Rattle.register_page_exports.specs.declared.Report.{Report}
-
--- how many of the refused rows have each refusal
-pub record AreCounts (counts : Counts) (journal : List Note) : Type 0 where
-  pub field_count : counts.field_count ≡ refused_with journal refusal.FieldCount
-  pub field_too_long : counts.field_too_long ≡ refused_with journal refusal.FieldTooLong
-  pub not_utf8 : counts.not_utf8 ≡ refused_with journal refusal.NotUtf8
-  pub unknown_calendar : counts.unknown_calendar ≡ refused_with journal refusal.UnknownCalendar
-  pub date_text : counts.date_text ≡ refused_with journal refusal.DateText
-  pub no_such_date : counts.no_such_date ≡ refused_with journal refusal.NoSuchDate
-  pub out_of_range : counts.out_of_range ≡ refused_with journal refusal.OutOfRange
 
 -- each number of the report
 pub record Says (report : Report) (ending bytes rows refused : ℕ) (journal : List Note) : Type 0 where

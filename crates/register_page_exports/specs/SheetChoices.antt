@@ -2,6 +2,7 @@
 use Rattle.std.specs.Prelude.{◌==◌, ◌%◌, ◌&&◌, ℕ, zero, suc, Bool, true, false, nat_le, nat_lt, if◌then◌else◌}
 use Rattle.std.specs.Prelude.{List, [], ◌∷◌, Option, None, Some, slice_get}
 use Rattle.date_texts.specs.Calendars.{all_calendars, all_targets}
+use Rattle.register_sheets.specs.AskedOfSheets.{SheetAsked}
 use Rattle.register_sheets.specs.declared.choices.AskedColumn.{AskedColumn}
 use Rattle.register_sheets.specs.declared.choices.AskedColumn.TheVariants.{Cells, DayNumber, Weekday}
 use Rattle.register_sheets.specs.declared.choices.CalendarField.{CalendarField}
@@ -80,15 +81,6 @@ column_by (suc (suc n)) = slice_get all_targets n >>= λ target. Some (Cells tar
 abbrev pub columns_by : List ℕ → Option (List AskedColumn)
 columns_by [] = Some []
 columns_by (n ∷ rest) = column_by n >>= λ column. before column (columns_by rest)
-
--- what is asked of a sheet
-pub record SheetAsked : Type 0 where
-  pub delimiter : ℕ
-  pub above : ℕ
-  pub id : IdField
-  pub reading : Choice
-  pub dates : List DateColumn
-  pub columns : List AskedColumn
 
 -- the delimiter is a byte
 abbrev pub if_byte : {A : Type 0} → ℕ → Option A → Option A

@@ -1,13 +1,9 @@
 -- What becomes of a sheet for a page.
-use Rattle.std.specs.Prelude.{◌≡◌, ◌≢◌, ◌⊎◌, ◌≤◌, ◌<◌, ⊤, ℕ, true, List, [], IsSome, None, Some, get_or, length, map, slice_get}
-use Rattle.date_texts.specs.declared.calendar.Calendar.{Calendar}
-use Rattle.register_records.specs.Entries.{Fields, record_limit, text_records}
-use Rattle.register_records.specs.SetupRules.{is_delimiter}
-use Rattle.register_sheets.specs.Choices.{AsksOnce, HasDates, added}
+use Rattle.std.specs.Prelude.{◌≡◌, ◌≢◌, ◌⊎◌, ◌≤◌, ◌<◌, ⊤, ℕ, List, [], IsSome, None, Some, length, slice_get}
+use Rattle.register_records.specs.Entries.{record_limit, text_records}
+use Rattle.register_sheets.specs.AskedOfSheets.{IsChoice, IsListedChoice, SheetAsked}
 use Rattle.register_sheets.specs.Converted.{IsWholeSheet, below}
-use Rattle.register_sheets.specs.Headings.{AreHeadings, wanted_headings}
-use Rattle.register_sheets.specs.NameLists.{IsFaultOf, IsListOf, calendar_names_in, calendar_seen, name_seen}
-use Rattle.register_sheets.specs.NameLists.{names_in_dates}
+use Rattle.register_sheets.specs.NameLists.{IsFaultOf, IsListOf}
 use Rattle.register_sheets.specs.Registers.{IsRegister}
 use Rattle.register_sheets.specs.UnknownNames.{IsUnknown, NameCount, list_text}
 use Rattle.register_sheets.specs.declared.choices.DateColumn.{DateColumn}
@@ -15,10 +11,7 @@ use Rattle.register_sheets.specs.declared.choices.SheetChoice.{SheetChoice}
 use Rattle.register_sheets.specs.declared.name_lists.NameLine.{NameLine}
 use Rattle.register_sheets.specs.declared.name_lists.NameListFault.{NameListFault}
 use Rattle.register_sheets.specs.declared.name_lists.NameListFault.TheVariants as fault
-use Rattle.written_dates.specs.Fields.{bare_name, entries}
-use Rattle.written_dates.specs.declared.fields.CalendarName.{CalendarName}
-use Rattle.written_dates.specs.declared.meanings.Name.{Name}
-use Rattle.register_page_exports.specs.SheetChoices.{SheetAsked, asked_by}
+use Rattle.register_page_exports.specs.SheetChoices.{asked_by}
 use Rattle.register_page_exports.specs.declared.sheet_tables.SheetEnding.{SheetEnding}
 use Rattle.register_page_exports.specs.declared.sheet_tables.SheetEnding.TheVariants as ending
 
@@ -30,47 +23,15 @@ ending_number ending.Choice = 3
 ending_number ending.NoNames = 4
 ending_number ending.TooManyRecords = 5
 
--- the choice is what is asked of a sheet, with these names in dates, these of calendars, and these headings
-pub record IsChoiceOf (asked : SheetAsked) (names : List Name) (calendars : List (List ℕ × Calendar))
-    (headings : Fields) (choice : SheetChoice) : Type 0 where
-  pub delimiter : choice.delimiter ≡ asked.delimiter
-  pub above : choice.above ≡ asked.above
-  pub id : choice.id ≡ asked.id
-  pub dates : choice.dates.now ≡ asked.dates
-  pub columns : choice.columns.now ≡ asked.columns
-  pub headings_are : map (λ heading. heading.now) choice.headings.now ≡ headings
-  pub reading : choice.reading ≡ asked.reading
-  pub names_are : choice.names.now.listed.now ≡ names
-  pub calendars_are : entries choice.calendars.now ≡ calendars
-
--- these are the headings for what is asked of a sheet
-abbrev pub HasHeadings : SheetAsked → List ℕ → Fields → Type 0
-HasHeadings asked sheet headings =
-    let own = get_or (text_records asked.delimiter sheet) asked.above [] in
-    AreHeadings own (wanted_headings asked.dates asked.columns own) headings
-
 -- the choice is what these numbers and this list of names ask of a sheet
 pub record IsAsked (numbers columns names sheet : List ℕ) (choice : SheetChoice) : Type 0 where
   pub asked : SheetAsked
   pub list : List NameLine
-  pub in_dates : List Name
-  pub of_calendars : List CalendarName
-  pub headings : Fields
   pub by_numbers : asked_by numbers columns ≡ Some asked
   pub by_names : IsListOf (text_records 44 names) list
-  pub dates_listed : map name_seen in_dates ≡ names_in_dates list
-  pub calendars_listed : map calendar_seen of_calendars ≡ calendar_names_in list
-  pub headed : HasHeadings asked sheet headings
-  pub chosen : IsChoiceOf asked in_dates (map bare_name of_calendars) headings choice
+  pub chosen : IsListedChoice asked list sheet choice
 
--- nothing is wrong with a choice
-pub record IsChoice (choice : SheetChoice) : Type 0 where
-  pub dated : HasDates choice
-  pub once : AsksOnce choice
-  pub delimited : is_delimiter choice.delimiter ≡ true
-  pub headed : length choice.headings.now ≡ added choice
-
--- nor with the place of one of its columns of dates
+-- nothing is wrong with a choice, nor with the place of one of its columns of dates
 abbrev pub IsChoiceAt : ℕ → SheetChoice → Type 0
 IsChoiceAt place choice = IsChoice choice × (place < length choice.dates.now)
 

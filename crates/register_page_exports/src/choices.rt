@@ -7,7 +7,7 @@ ghost use Rattle.register_page_exports.specs.SheetChoices.{flag_by, id_by, order
 
 use date_texts::laws::{all_calendars, all_targets};
 use date_texts::{Calendar, Target};
-use register_sheets::{AskedColumn, CalendarField, DateColumn, IdField};
+use register_sheets::{AskedColumn, AskedOfSheet, CalendarField, DateColumn, IdField};
 use std::alloc::{AllocError, Global};
 use written_dates::{Choice, Order, Short};
 
@@ -20,17 +20,6 @@ const HEAD: usize = 7;
 
 /// How many numbers a column of dates has.
 const DATE: usize = 3;
-
-/// What is asked of a sheet.
-#[derive(Drop)]
-pub(crate) struct Asked {
-    pub delimiter: u8,
-    pub above: u32,
-    pub id: IdField,
-    pub reading: Choice,
-    pub dates: Vec<DateColumn>,
-    pub columns: Vec<AskedColumn>,
-}
 
 fn id_of(place: u32) -> IdField
     ensures { result ≡ id_by place }
@@ -175,7 +164,7 @@ fn asked_of(
     head: &[u32; HEAD],
     dates: &[u32],
     columns: &[u8],
-) -> Result<Option<Asked>, AllocError>
+) -> Result<Option<AskedOfSheet>, AllocError>
     ensures { IfOk result (λ asked. asked_seen asked ≡ asked_by (head.now ++ dates.now) columns.now) }
 {
     let Ok(delimiter) = u8::try_from(head[0]) else {
@@ -190,7 +179,7 @@ fn asked_of(
     let Some(columns) = columns_of(alloc, columns)? else {
         return Ok(None);
     };
-    Ok(Some(Asked {
+    Ok(Some(AskedOfSheet {
         delimiter,
         above: head[1],
         id: id_of(head[2]),
@@ -200,17 +189,16 @@ fn asked_of(
     }))
 }
 
-impl Asked {
-    ghost use Rattle.register_page_exports.specs.AskedViews.{asked_seen};
-    ghost use Rattle.register_page_exports.specs.SheetChoices.{asked_by};
-
-    /// What these numbers ask; nothing where they are no choice.
-    pub fn by(alloc: Global, numbers: &[u32], columns: &[u8]) -> Result<Option<Asked>, AllocError>
-        ensures { IfOk result (λ asked. asked_seen asked ≡ asked_by numbers.now columns.now) }
-    {
-        match numbers.split_first_chunk::<HEAD>() {
-            Some((head, dates)) => asked_of(alloc, head, dates, columns),
-            None => Ok(None),
-        }
+/// What these numbers ask of a sheet; nothing where they are no choice.
+pub(crate) fn asked_by_numbers(
+    alloc: Global,
+    numbers: &[u32],
+    columns: &[u8],
+) -> Result<Option<AskedOfSheet>, AllocError>
+    ensures { IfOk result (λ asked. asked_seen asked ≡ asked_by numbers.now columns.now) }
+{
+    match numbers.split_first_chunk::<HEAD>() {
+        Some((head, dates)) => asked_of(alloc, head, dates, columns),
+        None => Ok(None),
     }
 }

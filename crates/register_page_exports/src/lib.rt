@@ -2,34 +2,21 @@
 #![tactic(auto)]
 
 ghost use Rattle.std.specs.Prelude.{Err, Ok, Result};
-ghost use Rattle.register_page.specs.Conversions.{IsReturned, journal_in};
+ghost use Rattle.register_page.specs.Conversions.{IsReturned};
 ghost use Rattle.register_page.specs.declared.converting.Converted.{Converted};
 ghost use Rattle.register_page.specs.declared.requests.RequestFault.{RequestFault};
-ghost use Rattle.register_page_exports.specs.Reports.{AreCounts, Reports, ReportsEnd};
+ghost use Rattle.register_page_exports.specs.Reports.{Reports, ReportsEnd};
 
 mod choices;
 pub mod dates;
+pub mod orders;
 pub mod sheet_tables;
 pub mod sheets;
 pub mod trees;
 
-use date_texts::Refusal;
 use register_page::{Converted, RequestFault, convert_text};
-use register_records::SourceEnd;
+use register_records::{RefusalCounts, SourceEnd};
 use std::alloc::Global;
-
-/// How many rows were refused with each refusal.
-#[repr(C)]
-#[derive(Clone, Copy)]
-pub struct Counts {
-    pub field_count: usize,
-    pub field_too_long: usize,
-    pub not_utf8: usize,
-    pub unknown_calendar: usize,
-    pub date_text: usize,
-    pub no_such_date: usize,
-    pub out_of_range: usize,
-}
 
 /// How a conversion ended. A number that says nothing is 0.
 #[repr(C)]
@@ -43,22 +30,7 @@ pub struct Report {
     /// The rows of a whole table, how many of them are refused, and for what.
     pub rows: usize,
     pub refused: usize,
-    pub refused_with: Counts,
-}
-
-/// Counts the refused rows by their refusals.
-fn counts_of(converted: &Converted) -> Counts
-    ensures { AreCounts result (journal_in converted.now.end) }
-{
-    Counts {
-        field_count: converted.refused_with(Refusal::FieldCount),
-        field_too_long: converted.refused_with(Refusal::FieldTooLong),
-        not_utf8: converted.refused_with(Refusal::NotUtf8),
-        unknown_calendar: converted.refused_with(Refusal::UnknownCalendar),
-        date_text: converted.refused_with(Refusal::DateText),
-        no_such_date: converted.refused_with(Refusal::NoSuchDate),
-        out_of_range: converted.refused_with(Refusal::OutOfRange),
-    }
+    pub refused_with: RefusalCounts,
 }
 
 /// The report of a conversion.
@@ -66,7 +38,7 @@ fn report_of(converted: &Converted) -> Report
     ensures { ReportsEnd result converted.now.end converted.now.length }
 {
     let length = converted.length;
-    let refused_with = counts_of(converted);
+    let refused_with = converted.end.refusal_counts();
     match &converted.end {
         SourceEnd::Whole { rows, refused, .. } => Report {
             ending: 0,
@@ -94,15 +66,7 @@ fn report_of_fault(fault: RequestFault) -> Report
         length: 0,
         rows: 0,
         refused: 0,
-        refused_with: Counts {
-            field_count: 0,
-            field_too_long: 0,
-            not_utf8: 0,
-            unknown_calendar: 0,
-            date_text: 0,
-            no_such_date: 0,
-            out_of_range: 0,
-        },
+        refused_with: RefusalCounts::none(),
     }
 }
 

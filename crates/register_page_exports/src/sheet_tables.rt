@@ -3,32 +3,29 @@
 ghost use Rattle.std.specs.Prelude.{◌≡◌, ◌≢◌, ◌⊎◌, [], IfErr, IfOk, IsErrAnd, List, None, Some, ℕ, map, slice_get};
 ghost use Rattle.std.specs.Fn.{FnOnceReturnsAt};
 ghost use Rattle.register_records.specs.Entries.{text_records};
+ghost use Rattle.register_sheets.specs.AskedOfSheets.{IsChoice, IsChoiceBy, asked_in};
 ghost use Rattle.register_sheets.specs.Converted.{IsWholeSheet};
-ghost use Rattle.register_sheets.specs.Headings.{items_of};
 ghost use Rattle.register_sheets.specs.NameLists.{IsListOf};
 ghost use Rattle.register_sheets.specs.Registers.{IsRegister};
 ghost use Rattle.register_sheets.specs.UnknownNames.{IsUnknown, list_text, name_seen};
+ghost use Rattle.register_sheets.specs.declared.asked_of_sheets.AskedByNames.{AskedByNames as AskedByNamesValue};
 ghost use Rattle.register_sheets.specs.declared.choices.DateColumn.{DateColumn as DateColumnValue};
 ghost use Rattle.register_sheets.specs.declared.choices.SheetChoice.{SheetChoice as SheetChoiceValue};
-ghost use Rattle.written_dates.specs.Fields.{bare_name, entries};
-ghost use Rattle.register_page_exports.specs.AskedViews.{seen};
-ghost use Rattle.register_page_exports.specs.KnownViews.{EndsEarly, IsChoiceOfKnown, KnowsAsked, ending_by};
+ghost use Rattle.register_page_exports.specs.KnownViews.{EndsEarly, KnowsAsked, ending_by};
 ghost use Rattle.register_page_exports.specs.SheetChoices.{asked_by};
 ghost use Rattle.register_page_exports.specs.SheetReports.{PutsText};
-ghost use Rattle.register_page_exports.specs.SheetTables.{EndsBy, EndsFor, HasFault, HasHeadings, IsAskedRegister, IsAskedSheet};
-ghost use Rattle.register_page_exports.specs.SheetTables.{IsAskedUnknown, IsChoice, IsChoiceAt, IsEndingOf};
-ghost use Rattle.register_page_exports.specs.declared.sheet_tables.Known.{Known as KnownValue};
+ghost use Rattle.register_page_exports.specs.SheetTables.{EndsBy, EndsFor, HasFault, IsAskedRegister, IsAskedSheet};
+ghost use Rattle.register_page_exports.specs.SheetTables.{IsAskedUnknown, IsChoiceAt, IsEndingOf};
 
-use crate::choices::Asked;
+use crate::choices::asked_by_numbers;
 use crate::sheets::{TextReport, put_text};
 use register_page::{bytes_for, copy_if_fits};
 use register_records::PlainOutput;
 use register_sheets::{
-    MAX_DATES, NameList, NameListFault, SheetCause, SheetChoice, SheetEnd, SheetSetup, Unknown,
-    convert_sheet, headings, unknown_names, write_register,
+    AskedByNames, AskedOfSheet, MAX_DATES, NameList, NameListFault, SheetCause, SheetEnd,
+    SheetSetup, Unknown, convert_sheet, unknown_names, write_register,
 };
 use std::alloc::{AllocError, Global};
-use written_dates::{CalendarName, CalendarNames, Name, Names};
 
 /// Why a page gets nothing of a sheet.
 #[derive(Clone, Copy, PartialEq, Eq, Debug)]
@@ -99,91 +96,24 @@ fn list_of(alloc: Global, names: &[u8]) -> Result<NameList, SheetEnding>
 }
 
 /// What these numbers ask of a sheet.
-fn asked_of(alloc: Global, choice: &[u32], columns: &[u8]) -> Result<Asked, SheetEnding>
-    ensures asked { IfOk result (λ asked. asked_by choice.now columns.now ≡ Some (seen asked)) }
+fn asked_of(alloc: Global, choice: &[u32], columns: &[u8]) -> Result<AskedOfSheet, SheetEnding>
+    ensures asked { IfOk result (λ asked. asked_by choice.now columns.now ≡ Some (asked_in asked)) }
     ensures none { IfErr result (λ e. (e ≡ SheetEnding.NoMemory)
         ⊎ ((e ≡ SheetEnding.Choice) × (asked_by choice.now columns.now ≡ None))) }
 {
-    match Asked::by(alloc, choice, columns)? {
+    match asked_by_numbers(alloc, choice, columns)? {
         Some(asked) => Ok(asked),
         None => Err(SheetEnding::Choice),
     }
 }
 
-/// The bytes of texts.
-fn slices_of(alloc: Global, texts: &[Vec<u8>]) -> Result<Vec<&[u8]>, AllocError>
-    ensures { IfOk result (λ slices. map (λ slice. slice.now) slices.items ≡ items_of texts.now) }
-{
-    let mut slices = Vec::new(alloc);
-    'texts: for text in texts {
-        slices.push(text.as_slice())?;
-    }
-    Ok(slices)
-}
-
-/// What is asked of a sheet, and what it is read by.
-// In one struct, since the borrow checker has one reference to what a setup is made of.
-#[derive(Drop)]
-struct Known<'a> {
-    asked: Asked,
-    names: Names<'a>,
-    calendars: CalendarNames<'a>,
-    headings: Vec<&'a [u8]>,
-}
-
-/// What is asked of a sheet, with what it is read by: these names and headings.
-fn known_by<'a>(
-    alloc: Global,
-    asked: Asked,
-    names: &'a [Name<'a>],
-    calendars: &'a [CalendarName<'a>],
-    headings: &'a [Vec<u8>],
-) -> Result<Known<'a>, AllocError>
-    ensures asked { IfOk result (λ known. known.asked ≡ asked) }
-    ensures names { IfOk result (λ known. known.names.listed.now ≡ names.now) }
-    ensures calendars { IfOk result (λ known. entries known.calendars ≡ map bare_name calendars.now) }
-    ensures headings { IfOk result (λ known. map (λ heading. heading.now) known.headings.items ≡ items_of headings.now) }
-{
-    Ok(Known {
-        asked,
-        names: Names::layered(alloc, names)?,
-        calendars: CalendarNames::layered(alloc, calendars)?,
-        headings: slices_of(alloc, headings)?,
-    })
-}
-
-/// What heads the columns asked of a sheet.
-fn headings_of(alloc: Global, sheet: &[u8], asked: &Asked) -> Result<Vec<Vec<u8>>, AllocError>
-    ensures { IfOk result (λ headings. HasHeadings (seen asked.now) sheet.now (items_of headings.items)) }
-{
-    headings(
-        alloc,
-        sheet,
-        asked.delimiter,
-        asked.above,
-        asked.dates.as_slice(),
-        asked.columns.as_slice(),
-    )
-}
-
 /// The setup of what is asked of a sheet.
-fn setup_of<'a>(known: &'a Known<'a>) -> Result<SheetSetup<'a>, SheetEnding>
-    ensures choice { IfOk result (λ setup. IsChoiceOfKnown known.now setup.choice × IsChoice setup.choice) }
+fn setup_of<'a>(known: &'a AskedByNames<'a>) -> Result<SheetSetup<'a>, SheetEnding>
+    ensures choice { IfOk result (λ setup. IsChoiceBy known.now setup.choice × IsChoice setup.choice) }
     ensures none { IfErr result (λ e. (e ≡ SheetEnding.Choice)
-        × ((choice : SheetChoiceValue) × IsChoiceOfKnown known.now choice × ¬ (IsChoice choice))) }
+        × ((choice : SheetChoiceValue) × IsChoiceBy known.now choice × ¬ (IsChoice choice))) }
 {
-    let setup = SheetSetup::new(SheetChoice {
-        delimiter: known.asked.delimiter,
-        above: known.asked.above,
-        id: known.asked.id,
-        dates: known.asked.dates.as_slice(),
-        columns: known.asked.columns.as_slice(),
-        headings: known.headings.as_slice(),
-        reading: known.asked.reading,
-        names: &known.names,
-        calendars: &known.calendars,
-    });
-    match setup {
+    match known.setup() {
         Ok(setup) => Ok(setup),
         Err(_) => Err(SheetEnding::Choice),
     }
@@ -201,12 +131,12 @@ struct SheetMade {
 fn converted_by(
     alloc: Global,
     sheet: &[u8],
-    known: &Known,
+    known: &AskedByNames,
     expected: usize,
 ) -> Result<SheetMade, SheetEnding>
-    ensures whole { IfOk result (λ made. (choice : SheetChoiceValue) × IsChoiceOfKnown known.now choice × IsChoice choice
+    ensures whole { IfOk result (λ made. (choice : SheetChoiceValue) × IsChoiceBy known.now choice × IsChoice choice
         × IsWholeSheet choice (text_records choice.delimiter sheet.now) made.rows made.refused made.text.items) }
-    ensures ends { IfErr result (EndsBy (IsChoiceOfKnown known.now) IsChoice sheet.now) }
+    ensures ends { IfErr result (EndsBy (IsChoiceBy known.now) IsChoice sheet.now) }
 {
     let setup = setup_of(known)?;
     let mut output = PlainOutput::new(bytes_for(alloc, expected), 0);
@@ -226,14 +156,14 @@ fn converted_by(
 fn register_by(
     alloc: Global,
     sheet: &[u8],
-    known: &Known,
+    known: &AskedByNames,
     column: usize,
     expected: usize,
 ) -> Result<Vec<u8>, SheetEnding>
-    ensures whole { IfOk result (λ text. (choice : SheetChoiceValue) × IsChoiceOfKnown known.now choice × IsChoice choice
+    ensures whole { IfOk result (λ text. (choice : SheetChoiceValue) × IsChoiceBy known.now choice × IsChoice choice
         × (found : DateColumnValue) × (count : ℕ) × (slice_get choice.dates.now column ≡ Some found)
         × IsRegister choice found (text_records choice.delimiter sheet.now) count text.items) }
-    ensures ends { IfErr result (EndsBy (IsChoiceOfKnown known.now) (IsChoiceAt column) sheet.now) }
+    ensures ends { IfErr result (EndsBy (IsChoiceBy known.now) (IsChoiceAt column) sheet.now) }
 {
     let setup = setup_of(known)?;
     let Some(column) = setup.choice().dates.get(column) else {
@@ -252,13 +182,13 @@ fn register_by(
 fn unknown_by(
     alloc: Global,
     sheet: &[u8],
-    known: &Known,
+    known: &AskedByNames,
     most: usize,
 ) -> Result<(Unknown, Vec<u8>), SheetEnding>
-    ensures whole { IfOk result (λ r. (choice : SheetChoiceValue) × IsChoiceOfKnown known.now choice × IsChoice choice
+    ensures whole { IfOk result (λ r. (choice : SheetChoiceValue) × IsChoiceBy known.now choice × IsChoice choice
         × IsUnknown choice (text_records choice.delimiter sheet.now) most (map name_seen r.0.names.items) r.0.more r.0.short
         r.0.kept × (r.1.items ≡ list_text (map name_seen r.0.names.items))) }
-    ensures ends { IfErr result (EndsBy (IsChoiceOfKnown known.now) IsChoice sheet.now) }
+    ensures ends { IfErr result (EndsBy (IsChoiceBy known.now) IsChoice sheet.now) }
 {
     let setup = setup_of(known)?;
     match unknown_names(alloc, sheet, &setup, most) {
@@ -271,7 +201,7 @@ fn unknown_by(
 }
 
 /// What is made of a sheet by what these numbers and names ask of it.
-fn made_by<T, F: FnOnce(&Known) -> Result<T, SheetEnding>>(
+fn made_by<T, F: FnOnce(&AskedByNames) -> Result<T, SheetEnding>>(
     alloc: Global,
     sheet: &[u8],
     choice: &[u32],
@@ -281,15 +211,15 @@ fn made_by<T, F: FnOnce(&Known) -> Result<T, SheetEnding>>(
 ) -> Result<T, SheetEnding>
     requires { F.IsAlwaysCallable make }
     ensures { IsErrAnd result (EndsEarly choice.now columns.now names.now)
-        ⊎ ((known : KnownValue) × KnowsAsked choice.now columns.now names.now sheet.now known
+        ⊎ ((known : AskedByNamesValue) × KnowsAsked choice.now columns.now names.now sheet.now known
         × FnOnceReturnsAt F.FnOnce make known result) }
 {
     let asked = asked_of(alloc, choice, columns)?;
     let list = list_of(alloc, names)?;
     let names = list.names(alloc)?;
     let calendars = list.calendar_names(alloc)?;
-    let headings = headings_of(alloc, sheet, &asked)?;
-    let known = known_by(
+    let headings = asked.headings(alloc, sheet)?;
+    let known = AskedByNames::new(
         alloc,
         asked,
         names.as_slice(),

@@ -10,6 +10,7 @@ use std::test::Fail;
 
 mod examples;
 mod names;
+mod orders;
 
 const REGISTER: &str = "id,calendar,date
 B-1582-17,Julian,1582-10-04
@@ -102,8 +103,9 @@ fn a_room_that_is_too_small_stays_as_it_was(rt: HostRuntime) -> Result<(), Fail>
     )?;
     assert!(rt; ending(&converted) == 0 && converted.length == TABLE.len());
     assert!(rt; room.iter().all(|byte| *byte == b'#'));
-    assert_eq!(rt; converted.refused_with(Refusal::NoSuchDate), 1);
-    assert_eq!(rt; converted.refused_with(Refusal::NotUtf8), 0);
+    let counts = converted.end.refusal_counts();
+    assert_eq!(rt; counts.count(Refusal::NoSuchDate), 1);
+    assert_eq!(rt; counts.count(Refusal::NotUtf8), 0);
     Ok(())
 }
 

@@ -1,12 +1,12 @@
 -- The fields of a line, while they are appended.
 use Rattle.std.proofs.Common.{◌≡◌, ◌<◌, ◌≤◌, ◌+◌, ◌^◌, ◌%◌, ◌++◌, ℕ, List, [], ◌∷◌, true, false, refl, sym, ap, ◌∙◌}
 use Rattle.std.proofs.Common.{rules, arith, append_assoc, append-nil, length, length-append, length-set, map, set, take}
-use Rattle.std.proofs.Common.{Bool, Result, drop, get_or, ℤ, length-take-le, take_all}
+use Rattle.std.proofs.Common.{Bool, Result, drop, get_or, ℤ, length-take-le}
 use Rattle.std.specs.Fmt.{decimal, signed_decimal}
 use Rattle.std.proofs.lemmas.Int.{ints}
 use Rattle.std.proofs.lemmas.Bool.{and_parts}
 use Rattle.std.proofs.lemmas.Bool.Decides.{nat_tests}
-use Rattle.std.proofs.lemmas.Fmt.{decimal_by_steps}
+use Rattle.std.proofs.lemmas.Fmt.{decimal_by_steps, length-decimal-le}
 use Rattle.std.proofs.lemmas.List.{at_drop_more, flat_map_more, map-append, take_more, take_more_set, take-append-le}
 use Rattle.std.proofs.Math.Seq.{take-append-add}
 use Rattle.std.proofs.lemmas.List.Folds.{list_any-append}
@@ -15,7 +15,7 @@ use borrow.Rule.Slice.PartMut.{put_mid}
 use Rattle.csv.specs.Writing.{field_text, fields_text, is_blank, needs_byte, needs_quotes, row_body}
 use Rattle.csv.proofs.WriteFacts.{fields-snoc}
 use Rattle.day_numbers.specs.Days.{IsDayNumber}
-use Rattle.register_records.specs.LineRoom.{columns_room, entry_room, name_limit, number_room, quoted_room, writing}
+use Rattle.register_records.specs.LineRoom.{Begins, GainsFields, columns_room, name_limit, number_room, writing}
 use Rattle.register_records.specs.Lines.{line_text}
 use Rattle.register_records.specs.SetupRules.{is_delimiter}
 use Rattle.date_texts.specs.Cells.{is_plain}
@@ -24,13 +24,12 @@ use Rattle.date_texts.specs.declared.refusal.Refusal.{Refusal}
 use Rattle.date_texts.specs.declared.target.Target.{Target}
 use Rattle.register_records.specs.Columns.{Column, cell_columns, columns, entry_order, kind_columns}
 use Rattle.register_records.specs.Columns.{tail_order}
-use Rattle.register_records.specs.TableColumns.{entry_field, field_shown, heading, kind_fields, kind_name}
+use Rattle.register_records.specs.TableColumns.{entry_field, text_shown, heading, kind_fields, kind_name}
 use Rattle.register_records.specs.TableColumns.{kind_names, laid_out, row_fields, row_with, tail_texts}
 use Rattle.register_records.specs.Outcomes.{TableRow}
 use Rattle.register_records.specs.declared.table_columns.ColumnKind.{ColumnKind}
-use Rattle.register_records.specs.declared.table_columns.ColumnKind.TheVariants.{Calendar, Cells, Date, DayNumber, Id}
-use Rattle.register_records.specs.declared.table_columns.ColumnKind.TheVariants.{Note, Number, Weekday}
-use Rattle.register_records.specs.declared.table_columns.ColumnKind.TheVariants.{Refusal as RefusalColumn}
+use Rattle.register_records.specs.declared.table_columns.ColumnKind.TheVariants.{Calendar, Cells, Date, Id}
+use Rattle.register_records.specs.declared.table_columns.ColumnKind.TheVariants.{Note, Number}
 use Rattle.register_records.specs.Records.{Texts}
 use Rattle.register_records.specs.BareTexts.{has_special}
 use Rattle.register_records.proofs.BareLemmas.{unquoted}
@@ -103,11 +102,6 @@ pub more_fields : (d : ℕ) (before : List ℕ) (fields more : List (List ℕ)) 
     → new ≡ before ++ body d (fields ++ more)
 more_fields d before fields more old new some is n = search (rules, more_fields_text, append_assoc)
 
--- bytes that are written at a place: what lies before, and they
-pub put_there : (room bytes : List ℕ) (at k : ℕ) → at ≤ length room
-    → take (at + length bytes) (put_mid at k room bytes) ≡ take at room ++ bytes
-put_there room bytes at k le = search (rules, length-take-le, put_mid, take-append-add, take-append-le, take_all)
-
 -- a byte is set in a list, and others are written from the place after it: what lies before, the byte, and some of them
 pub put_after : (room places : List ℕ) (at d k count : ℕ) → at < length room → count ≤ length places
     → take (at + 1 + count) (put_mid (at + 1) k (set room at d) places) ≡ take at room ++ d ∷ take count places
@@ -120,6 +114,12 @@ put_after room places at d k count lt few =
     ∙ ap (λ (t : List ℕ). take (at + 1) base ++ t) (take-append-le count places _ few)
     ∙ ap (λ (t : List ℕ). t ++ take count places) (take_more_set room at d lt)
     ∙ append_assoc (take at room) (d ∷ []) (take count places)
+
+-- fields that a line gained by a delimiter that is its own
+pub gained : (d e : ℕ) (before : List ℕ) (fields more : List (List ℕ)) (old new : List ℕ) → e ≡ d
+    → 1 ≤ length fields → Begins d before fields old → GainsFields e more old new
+    → Begins d before (fields ++ more) new
+gained d e before fields more old new same some begun more_put = (rw same at more_put) before fields some begun
 
 -- a digit or a minus sign needs no quotes
 plain_byte : (d c : ℕ) → is_delimiter d ≡ true → 45 ≤ c → c < 58 → needs_byte (writing d) c ≡ false
@@ -135,6 +135,14 @@ plain_decimal d h =
       before,
       plain_byte d (48 + n % 10) h (omega arith) (omega arith),
     ) refl)
+
+-- a line that a number begins
+pub only_number : (d : ℕ) (before bytes : List ℕ) → is_delimiter d ≡ true → (n : ℕ) → n ≤ 99999999
+    → bytes ≡ before ++ decimal n → bytes ≡ before ++ body d (decimal n ∷ [])
+only_number d before bytes h n small e = only_field d before (decimal n) bytes (plain_decimal d h n (omega arith)) e
+
+pub number_length : (n : ℕ) → n ≤ 99999999 → length (decimal n) ≤ number_room
+number_length n small = length-decimal-le 8 n (omega arith) (omega arith) (omega arith)
 
 -- a number of a day
 pub plain_day : (d : ℕ) → is_delimiter d ≡ true → (z : ℤ) → IsDayNumber z
@@ -171,19 +179,13 @@ pub first_field : (notes : Bool) (f : ColumnKind → List ℕ) (d : ℕ) (before
     → bytes ≡ before ++ body d (map f (take 1 (entry_order notes)))
 first_field notes f d before field bytes h is b = search (rules, only_field)
 
--- there is room for the columns that follow
-pub room_behind : (notes : Bool) → number_room + columns_room quoted_room (drop 1 (entry_order notes)) ≤ entry_room
-room_behind notes = search rules
-
-pub plain_column : (d : ℕ) → is_delimiter d ≡ true → (number : List ℕ) (body : Result Texts Refusal)
-    → needs_quotes (writing d) number ≡ false → has_special body ≡ false
-    → (column : ColumnKind) → needs_quotes (writing d) (field_shown number body column) ≡ false
-plain_column d h number body plain bare Number = plain
-plain_column d h number body plain bare Id = (unquoted d h body bare).0
-plain_column d h number body plain bare Calendar = (unquoted d h body bare).1
-plain_column d h number body plain bare Date = (unquoted d h body bare).2
-plain_column d h number body plain bare Note = (unquoted d h body bare).3
-plain_column d h number body plain bare kind = refl
+pub plain_column : (d : ℕ) → is_delimiter d ≡ true → (body : Result Texts Refusal) → has_special body ≡ false
+    → (column : ColumnKind) → needs_quotes (writing d) (text_shown body column) ≡ false
+plain_column d h body bare Id = (unquoted d h body bare).0
+plain_column d h body bare Calendar = (unquoted d h body bare).1
+plain_column d h body bare Date = (unquoted d h body bare).2
+plain_column d h body bare Note = (unquoted d h body bare).3
+plain_column d h body bare kind = refl
 
 -- equal fields
 pub same_body : (d : ℕ) (before : List ℕ) (fields wanted : List (List ℕ)) (bytes : List ℕ) → fields ≡ wanted

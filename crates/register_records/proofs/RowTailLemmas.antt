@@ -3,7 +3,7 @@ use Rattle.std.proofs.Common.{◌≡◌, ◌<◌, ◌≤◌, ◌+◌, ◌++◌, 
 use Rattle.std.proofs.Common.{add-one, append_assoc, append-nil, drop, drop-cons, get_or, length, length-drop, map, set}
 use Rattle.std.proofs.Common.{subst, take, ◌==◌, ℤ, pos, negsuc, Bool, IsTrue, nat_le, Ok, Err, Result, take_all}
 use Rattle.std.proofs.Common.{take_at}
-use Rattle.std.proofs.lemmas.Slice.Zip.{AllZip-long}
+use Rattle.std.proofs.lemmas.Slice.Zip.{AllZip-long, all_zipped_more}
 use Rattle.std.specs.Fmt.{decimal, signed_decimal}
 use Rattle.std.specs.List.{AllZip, flat_map, list_all, onto_first, position_or_len, slice_split}
 use Rattle.std.proofs.lemmas.Bool.{or_parts}
@@ -127,7 +127,7 @@ pub record Fits (d limit : ℕ) (text : List ℕ) : Type 0 where
   pub short : length text ≤ limit
 
 -- a day number has eight
-day_length : (z : ℤ) → IsDayNumber z → length (signed_decimal z) ≤ 8
+pub day_length : (z : ℤ) → IsDayNumber z → length (signed_decimal z) ≤ 8
 day_length (pos n) r = length_signed_le 7 (pos n) (omega (arith, ints, r.0, r.1)) (omega (arith, ints, r.0, r.1))
 day_length (negsuc n) r = length_signed_le 7 (negsuc n) (omega (arith, ints, r.0, r.1)) (omega (arith, ints, r.0, r.1))
 
@@ -204,6 +204,32 @@ pub shown_cells : OneCell → (o : Result ℤ Refusal) (ts : List Target) (field
 shown_cells law (Ok n) ts fields cells shown are =
     one_cells law (Ok n) ts fields cells shown are ∙ sym (day_cells n 0 cells ts cells refl are)
 shown_cells law (Err r) ts fields cells shown are = rw are (sym (no_cells r 0 ts fields shown))
+
+-- bytes to which the fields of these targets were appended
+pub record HasCells (d : ℕ) (o : Result ℤ Refusal) (ts : List Target) (old new : List ℕ) : Type 0 where
+  pub fields : List (List ℕ)
+  pub are : AllZip (IsCellField o) ts fields
+  pub put : Grown d fields old new
+
+pub no_cell : (d : ℕ) (o : Result ℤ Refusal) (old : List ℕ) → old ≡ text d (fields_behind d old) → HasCells d o [] old old
+no_cell d o old is = record { fields = []; are = tt; put = not_grown d old is }
+
+pub one_more_cell : {d : ℕ} {o : Result ℤ Refusal} {ts : List Target} {old bytes new : List ℕ} (t : Target)
+    → CellsArePlain → is_delimiter d ≡ true → HasCells d o ts old bytes
+    → (cell : List ℕ) × IsCellField o t cell × (new ≡ bytes ++ d ∷ cell) → HasCells d o (ts ++ t ∷ []) old new
+one_more_cell {d = d} {o = o} {ts = ts} {old = old} {bytes = bytes} {new = new} t law h before (cell, is, more) =
+    record {
+      fields = before.fields ++ cell ∷ [];
+      are = all_zipped_more (IsCellField o) ts before.fields t cell before.are is;
+      put = grown_more d before.fields cell old bytes new (plain_field law d h o t cell is) before.put more;
+    }
+
+pub all_cells : OneCell → (d : ℕ) (o : Result ℤ Refusal) (ts : List Target) (old new : List ℕ) → HasCells d o ts old new
+    → (cells : List (List ℕ)) → AreCells ts o cells
+    → fields_behind d new ≡ fields_behind d old ++ column_texts ts o cells Cells
+all_cells law d o ts old new has cells are =
+    has.put.fields
+    ∙ ap (λ (more : List (List ℕ)). fields_behind d old ++ more) (shown_cells law o ts has.fields cells has.are are)
 
 -- the cells stand among the fields of all columns of a tail
 cells_among : (ts : List Target) (o : Result Day Refusal) (cells : List (List ℕ)) (tail : RowTail)

@@ -135,7 +135,8 @@ rows_placed form targets entries rows are = search (rules, placed, of_form)
 texts_placed : (form : Form) (number : ℕ) (body : Result Texts Refusal) (outcome : Result ℤ Refusal)
     (cells : List (List ℕ)) (row : TableRow)
     → row ≡ record { number = number; body = body; outcome = outcome; cells = cells }
-    → map (entry_field (placed_row form row)) (entry_order (has_notes form)) ≡ map (entry_field row) (entry_order (has_notes form))
+    → map (entry_field (placed_row form row)) (entry_order (has_notes form))
+    ≡ map (entry_field row) (entry_order (has_notes form))
 texts_placed Plain number (Ok t) outcome cells row is = rw is refl
 texts_placed Plain number (Err r) outcome cells row is = rw is refl
 texts_placed Sealed number body outcome cells row is = refl

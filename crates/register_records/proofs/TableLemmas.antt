@@ -20,7 +20,8 @@ use Rattle.register_records.specs.Sources.{ArePartOfTable, Gains, IfWhole, IsFro
 use Rattle.register_records.specs.TableStates.{fault_of, is_of_table, lines_waiting, lost_output}
 use Rattle.register_records.specs.Tables.{Layout, heading_line, journal_of, lines_text, refusal_notes, row_line}
 use Rattle.register_records.specs.Tables.{table_text}
-use Rattle.register_records.specs.TablesWritten.{HasEnded, Holds, IsNextRow, IsSameTable, IsTableSoFar, entries_seen, has_lost_output, is_headed}
+use Rattle.register_records.specs.TablesWritten.{HasEnded, Holds, IsNextRow, IsSameTable, IsTableSoFar, entries_seen}
+use Rattle.register_records.specs.TablesWritten.{has_lost_output, is_headed}
 use Rattle.register_records.specs.TablesWritten.{made_by, made_for, rows_seen, table_fault, waiting_of}
 use Rattle.register_records.specs.Views.{layout_of, line_of, reading_of, row_seen, row_targets, waiting_in, writes_by}
 use Rattle.register_records.specs.declared.ends.Cause.{Cause}

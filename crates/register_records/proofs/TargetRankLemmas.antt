@@ -4,8 +4,7 @@ use Rattle.std.proofs.Common.{length, set, take, true}
 use Rattle.std.proofs.Math.Seq.{take-add}
 use Rattle.std.proofs.lemmas.Bool.{and_parts, eq-eqb, eqb-true}
 use Rattle.std.proofs.lemmas.List.{drop-take, take-take}
-use Rattle.std.proofs.lemmas.Nat.{from_le_bytes-to_le_bytes_8}
-use Rattle.std.specs.Int.{from_le_bytes, to_le_bytes, w64}
+use Rattle.std.specs.Int.{to_le_bytes, w64}
 use Rattle.std.specs.Prelude.{◌&&◌, ◌==◌, ◌++◌, ◌^◌, ◌↔◌, Bool, slice_get, suc, zero}
 use Rattle.std.specs.List.{position_or_len}
 use Rattle.std.proofs.lemmas.List.Folds.{find_at}
@@ -18,7 +17,8 @@ use Rattle.date_texts.specs.declared.target.Target.TheVariants.{Haab}
 use Rattle.date_texts.specs.declared.target.TheConstants.{MAX_TARGETS}
 use Rattle.date_texts.proofs.ReadingLemmas.{some_inside}
 use Rattle.date_texts.proofs.TargetNameLemmas.{finds_own}
-use Rattle.register_records.specs.declared.target_lists.TheConstants.{WORD_LEN}
+use Rattle.byte_buffers.proofs.WordLemmas.{one_word}
+use Rattle.byte_buffers.specs.declared.comparing.TheConstants.{WORD_LEN}
 use Rattle.register_records.specs.TargetRanks.{have_one_name, rank_of, ranks_in}
 
 -- the rank of a target is its own
@@ -60,11 +60,6 @@ pub more_ranks : (room : ℕ) (ts : List Target) (i : ℕ) (e : Target) → i < 
 more_ranks (suc room) (t ∷ ts) (suc i) e lt few =
     ap (λ (ranks : List ℕ). rank_of t ∷ ranks) (more_ranks room ts i e (omega (arith, lt)) (omega (arith, few)))
 more_ranks room ts i e lt few = grind arith
-
--- words of the same bytes are the same
-one_word : (v w : ℕ) → v < 2 ^ 64 → w < 2 ^ 64 → to_le_bytes w64 v ≡ to_le_bytes w64 w → v ≡ w
-one_word v w small other e =
-    sym (from_le_bytes-to_le_bytes_8 v small) ∙ ap (from_le_bytes w64) e ∙ from_le_bytes-to_le_bytes_8 w other
 
 -- one more word of two lists of bytes is compared
 pub more_compared : (same : Bool) (v w : ℕ) (xs ys : List ℕ) (n k : ℕ) → k ≡ n + WORD_LEN → v < 2 ^ 64 → w < 2 ^ 64

@@ -10,6 +10,7 @@ pub mod TableColumns
 pub mod Tables
 pub mod RowTails
 pub mod Sources
+pub mod RefusalCounts
 pub mod Causes
 pub mod SetupRules
 pub mod Outputs

@@ -29,9 +29,9 @@ GainsFields delimiter more old new =
 abbrev pub field_room : ℕ → ℕ
 field_room n = 2 + 2 * n
 
--- the digits of a number: `itoa` has room for so many
+-- the digits of a number under a hundred million
 abbrev pub number_room : ℕ
-number_room = 40
+number_room = 8
 
 -- the most bytes of each text of a column
 abbrev pub limit : ColumnKind → ℕ

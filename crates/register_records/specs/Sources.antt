@@ -61,6 +61,11 @@ abbrev pub IfBroken : SourceEnd → (Cause → Type 0) → Type 0
 IfBroken (end.Whole rows refused journal) P = ⊤
 IfBroken (end.Broken cause) P = P cause
 
+-- the refused rows of a source that ended whole
+abbrev pub journal_in : SourceEnd → List Note
+journal_in (end.Whole rows refused journal) = journal.items
+journal_in (end.Broken cause) = []
+
 -- the source ended whole
 abbrev pub is_whole_end : SourceEnd → Bool
 is_whole_end (end.Whole rows refused journal) = true

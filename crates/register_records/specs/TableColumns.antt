@@ -10,7 +10,7 @@ use Rattle.register_records.specs.Columns.{Column, Layout, columns, kind_columns
 use Rattle.register_records.specs.Outcomes.{TableRow}
 use Rattle.register_records.specs.Records.{Texts}
 use Rattle.register_records.specs.declared.table_columns.ColumnKind.{ColumnKind}
-use Rattle.register_records.specs.declared.table_columns.ColumnKind.TheVariants.{Calendar, Date, Id, Note, Number}
+use Rattle.register_records.specs.declared.table_columns.ColumnKind.TheVariants.{Calendar, Date, Id, Note}
 
 -- a layout with notes or without, whatever its delimiter; the heading, and the fields of a row
 abbrev pub laid_out : Bool → List Target → Layout
@@ -36,14 +36,13 @@ kind_name kind = get_or (kind_names [] kind) 0 []
 abbrev pub entry_field : TableRow → ColumnKind → List ℕ
 entry_field row kind = get_or (kind_fields [] row kind) 0 []
 
--- the same by its number in decimal and its body
-abbrev pub field_shown : List ℕ → Result Texts Refusal → ColumnKind → List ℕ
-field_shown number body Number = number
-field_shown number body Id = shown (λ (t : Texts). t.id) (result_ok body)
-field_shown number body Calendar = shown (λ (t : Texts). t.calendar) (result_ok body)
-field_shown number body Date = shown (λ (t : Texts). t.date) (result_ok body)
-field_shown number body Note = shown (λ (t : Texts). t.note) (result_ok body)
-field_shown number body kind = []
+-- the same of a text, by the body
+abbrev pub text_shown : Result Texts Refusal → ColumnKind → List ℕ
+text_shown body Id = shown (λ (t : Texts). t.id) (result_ok body)
+text_shown body Calendar = shown (λ (t : Texts). t.calendar) (result_ok body)
+text_shown body Date = shown (λ (t : Texts). t.date) (result_ok body)
+text_shown body Note = shown (λ (t : Texts). t.note) (result_ok body)
+text_shown body kind = []
 
 -- a row that has this outcome and these cells
 abbrev pub row_with : Result ℤ Refusal → List (List ℕ) → TableRow

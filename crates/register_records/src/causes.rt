@@ -1,9 +1,9 @@
-//! The cause that a fault is.
+//! The cause that a fault is, and how it ends a source.
 
 ghost use Rattle.std.specs.Prelude.{◌≡◌};
 ghost use Rattle.register_records.specs.Causes.{entry_fault_cause, row_fault_cause};
 
-use crate::ends::Cause;
+use crate::ends::{Cause, SourceEnd};
 use crate::reading::EntryFault;
 use crate::writing::RowFault;
 use std::alloc::AllocError;
@@ -29,6 +29,18 @@ impl From<EntryFault> for Cause {
             EntryFault::TooManyRecords => Cause::TooManyRecords,
             EntryFault::NotSealed => Cause::NotSealed,
             EntryFault::Failed => Cause::Unconfirmed,
+        }
+    }
+}
+
+impl From<EntryFault> for SourceEnd {
+    ghost use Rattle.register_records.specs.declared.ends.SourceEnd.TheVariants.{Broken};
+
+    ghost from_gives = { λ fault end. end ≡ Broken (entry_fault_cause fault) };
+
+    fn from(fault: EntryFault) -> SourceEnd {
+        SourceEnd::Broken {
+            cause: Cause::from(fault),
         }
     }
 }

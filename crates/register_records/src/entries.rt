@@ -10,6 +10,7 @@ ghost use Rattle.register_records.specs.Entries.{HasDate, HaveOneDate, are_fit, 
 use crate::record_fields::RecordFields;
 use crate::setups::Form;
 use arrayvec::ArrayString;
+use byte_buffers::are_equal;
 use csv::ByteRecord;
 use date_texts::Refusal;
 use std::str;
@@ -222,7 +223,7 @@ fn is_allowed(body: &Body) -> bool
 fn is_same<const N: usize>(text: &ArrayString<N>, field: &[u8]) -> bool
     ensures { (result ≡ true) ↔ (text.now.bytes ≡ field.now) }
 {
-    text.as_str().as_bytes() == field
+    are_equal(text.as_str().as_bytes(), field)
 }
 
 /// Whether a calendar's name and a date are these. The length of the name is compared first: it differs in most registers

@@ -5,12 +5,13 @@
 
 ghost use Rattle.std.specs.Prelude.{◌≡◌, ◌≤◌, ◌<◌, ◌+◌, ◌^◌, ◌++◌, ◌∷◌, [], List, true, false, length, take, ℕ};
 ghost use Rattle.std.specs.Prelude.{IfOk, IsOk, OnOk, vec_len};
+ghost use Rattle.std.specs.Fmt.{decimal};
 ghost use Rattle.csv.specs.Writing as Spec;
-ghost use Rattle.register_records.specs.LineRoom.{Begins, GainsFields, field_room, writing};
+ghost use Rattle.register_records.specs.LineRoom.{Begins, GainsFields, field_room, number_room, writing};
 ghost use Rattle.register_records.specs.Lines.{line_text};
 ghost use Rattle.register_records.specs.SetupRules.{is_delimiter};
 
-use byte_copies::copy_to_front;
+use byte_buffers::{put_byte, put_bytes, put_decimal};
 use std::alloc::{AllocError, Global};
 
 const QUOTE: u8 = b'"';
@@ -120,6 +121,18 @@ impl LineBuffer {
         self.put(field);
     }
 
+    /// Begins a line by a number in decimal.
+    #[inline(always)]
+    #[tactic(auto, using(crate::proofs::LineLemmas::only_number))]
+    pub fn begin_by_number(&mut self, number: u32)
+        requires small { number ≤ 99_999_999 }
+        requires room { self.old.len + number_room ≤ line_capacity self.old }
+        ensures value { Begins self.old.delimiter (line_bytes self.old) (decimal number ∷ []) (line_bytes self.new) }
+        ensures grows { GrowsBy number_room self.old self.new }
+    {
+        self.put_number(number);
+    }
+
     /// Appends one more field of a line, quoted where it must be.
     #[inline(always)]
     #[tactic(auto, using(crate::proofs::LineLemmas::one_more))]
@@ -172,29 +185,36 @@ impl LineBuffer {
 
     /// Appends bytes as they stand.
     #[inline(always)]
-    #[tactic(auto, using(crate::proofs::LineLemmas::put_there))]
     fn put(&mut self, bytes: &[u8])
         requires { self.old.len + length bytes.now ≤ line_capacity self.old }
         ensures value { line_bytes self.new ≡ line_bytes self.old ++ bytes.now }
         ensures len { self.new.len ≡ self.old.len + length bytes.now }
         ensures grows { GrowsBy (length bytes.now) self.old self.new }
     {
-        let end = self.len + bytes.len();
-        copy_to_front(&mut self.bytes[self.len..end], bytes);
-        self.len = end;
+        self.len = put_bytes(&mut self.bytes, self.len, bytes);
+    }
+
+    /// Appends a number in decimal.
+    #[inline(always)]
+    #[tactic(auto, using(crate::proofs::LineLemmas::number_length))]
+    fn put_number(&mut self, number: u32)
+        requires small { number ≤ 99_999_999 }
+        requires room { self.old.len + number_room ≤ line_capacity self.old }
+        ensures value { line_bytes self.new ≡ line_bytes self.old ++ decimal number }
+        ensures grows { GrowsBy number_room self.old self.new }
+    {
+        self.len = put_decimal(&mut self.bytes, self.len, number);
     }
 
     /// Appends one byte.
     #[inline(always)]
-    #[tactic(auto, using(std::proofs::lemmas::List::take_more_set))]
     fn put_byte(&mut self, byte: u8)
         requires { self.old.len < line_capacity self.old }
         ensures value { line_bytes self.new ≡ line_bytes self.old ++ byte ∷ [] }
         ensures len { self.new.len ≡ self.old.len + 1 }
         ensures grows { GrowsBy 1 self.old self.new }
     {
-        self.bytes[self.len] = byte;
-        self.len += 1;
+        self.len = put_byte(&mut self.bytes, self.len, byte);
     }
 
     /// Appends a byte of a quoted field: a quote is doubled.

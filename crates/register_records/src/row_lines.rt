@@ -1,16 +1,15 @@
 //! The lines of a table: its heading and its rows.
 
-ghost use Rattle.std.specs.Prelude.{◌≡◌, ◌≤◌, ◌+◌, ◌++◌, length, map, true, false};
-ghost use Rattle.csv.specs.Writing.{needs_quotes};
+ghost use Rattle.std.specs.Prelude.{◌≡◌, ◌≤◌, ◌+◌, ◌++◌, ◌∷◌, [], length, map, true, false};
 ghost use Rattle.date_texts.specs.declared.target.TheConstants.{MAX_TARGETS};
 ghost use Rattle.register_records.specs.BareTexts.{has_special};
 ghost use Rattle.register_records.specs.Columns.{entry_order};
 ghost use Rattle.register_records.specs.Entries.{body_seen};
 ghost use Rattle.register_records.specs.LineRoom.{Begins, GainsFields, entry_name_room, entry_room, name_room};
-ghost use Rattle.register_records.specs.LineRoom.{number_room, writing};
+ghost use Rattle.register_records.specs.LineRoom.{quoted_room};
 ghost use Rattle.register_records.specs.LineViews.{GrowsBy, line_bytes, line_capacity};
 ghost use Rattle.register_records.specs.Lines.{line_text};
-ghost use Rattle.register_records.specs.TableColumns.{entry_field, field_shown, heading, kind_name, kind_names};
+ghost use Rattle.register_records.specs.TableColumns.{entry_field, text_shown, heading, kind_name, kind_names};
 ghost use Rattle.register_records.specs.TableColumns.{row_fields};
 ghost use Rattle.register_records.specs.Views.{row_seen, row_targets, tail_fields};
 ghost use Rattle.register_records.specs.declared.row_tails.TheConstants.{TAIL_ROOM};
@@ -21,7 +20,6 @@ use crate::lines::LineBuffer;
 use crate::rows::Row;
 use crate::table_columns::{ColumnKind, entry_columns, tail_columns};
 use date_texts::Target;
-use itoa::Buffer;
 
 /// Room in bytes for the longest line, of the heading or of a row, even where each byte of a row's texts is a quote.
 pub const LINE_ROOM: usize = 1024;
@@ -83,32 +81,26 @@ pub(crate) fn make_heading(lines: &mut LineBuffer, has_notes: bool, targets: &[T
     lines.end();
 }
 
-/// Begins the line of a row by the fields of an entry. Bare ones are not looked through for bytes that call for quotes.
+/// Puts what a column shows of an entry with this body. A bare one is not looked through for bytes that call for quotes.
 #[inline(always)]
-fn put_columns(lines: &mut LineBuffer, has_notes: bool, number: &str, body: &Body, bare: bool)
-    requires room { lines.old.len + entry_room ≤ line_capacity lines.old }
-    requires short { length number.now ≤ number_room }
-    requires number { needs_quotes (writing lines.old.delimiter) number.now ≡ false }
+#[tactic(auto, using(crate::proofs::LineLemmas::plain_column))]
+fn put_column(lines: &mut LineBuffer, column: ColumnKind, body: &Body, bare: bool)
+    requires room { lines.old.len + quoted_room column ≤ line_capacity lines.old }
     requires bare { bare ≡ true → has_special (body_seen body.now) ≡ false }
-    ensures value { Begins lines.old.delimiter (line_bytes lines.old)
-        (map (field_shown number.now (body_seen body.now)) (entry_order has_notes)) (line_bytes lines.new) }
-    ensures grows { GrowsBy entry_room lines.old lines.new }
+    ensures value { GainsFields lines.old.delimiter (text_shown (body_seen body.now) column ∷ [])
+        (line_bytes lines.old) (line_bytes lines.new) }
+    ensures grows { GrowsBy (quoted_room column) lines.old lines.new }
 {
-    let columns = entry_columns(has_notes);
-    lines.begin(columns[0].field(number, body).as_bytes());
-    'columns: for i in 1..columns.len() {
-        let field = columns[i].field(number, body).as_bytes();
-        if bare {
-            lines.unquoted(field);
-        } else {
-            lines.field(field);
-        }
+    let field = column.field(body).as_bytes();
+    if bare {
+        lines.unquoted(field);
+    } else {
+        lines.field(field);
     }
 }
 
 /// Begins the line of a row: its number and its texts.
 #[inline(always)]
-#[tactic(auto, using(crate::proofs::LineLemmas::plain_decimal))]
 fn put_entry(lines: &mut LineBuffer, has_notes: bool, row: &Row)
     requires { lines.old.len + entry_room ≤ line_capacity lines.old }
     ensures value { Begins lines.old.delimiter (line_bytes lines.old)
@@ -116,13 +108,15 @@ fn put_entry(lines: &mut LineBuffer, has_notes: bool, row: &Row)
     ensures grows { GrowsBy entry_room lines.old lines.new }
 {
     let entry = row.entry();
-    let mut buffer = Buffer::new();
-    let number = buffer.format(entry.number());
-    // A call for each, so that the columns are known in both.
+    let body = entry.body();
+    let bare = entry.is_bare();
+    // One by one, in the order of `entry_columns`: a loop over them would choose the arm again for each row.
+    lines.begin_by_number(entry.number());
+    put_column(lines, ColumnKind::Id, body, bare);
+    put_column(lines, ColumnKind::Calendar, body, bare);
+    put_column(lines, ColumnKind::Date, body, bare);
     if has_notes {
-        put_columns(lines, true, number, entry.body(), entry.is_bare());
-    } else {
-        put_columns(lines, false, number, entry.body(), entry.is_bare());
+        put_column(lines, ColumnKind::Note, body, bare);
     }
 }
 

@@ -2,8 +2,11 @@
 //!
 //! It is written once, where the row is converted, so that the thread that writes tables copies it as it is.
 
+ghost use Rattle.std.specs.Fmt.{signed_decimal};
 ghost use Rattle.std.specs.Prelude.{◌≡◌, ◌≤◌, ◌+◌, ◌*◌, ◌++◌, ◌∷◌, [], List, ℕ, true, false, length, take};
 ghost use Rattle.csv.specs.Writing.{fields_text, needs_quotes};
+ghost use Rattle.day_numbers.specs.Days.{IsDayNumber};
+ghost use Rattle.date_texts.specs.Calendars.{default_targets};
 ghost use Rattle.date_texts.specs.declared.target.TheConstants.{MAX_TARGETS};
 ghost use Rattle.date_texts.specs.declared.cells.TheConstants.{MAX_CELL};
 ghost use Rattle.register_records.specs.LineRoom.{plain_room, writing};
@@ -20,7 +23,7 @@ use crate::table_columns::{
     CELLS_PLACE, ColumnKind, DAY_NUMBER_LIMIT, REFUSAL_LIMIT, WEEKDAY_LIMIT,
 };
 use crate::target_lists::TargetList;
-use byte_copies::copy_to_front;
+use byte_buffers::{put_byte, put_bytes, put_integer};
 use date_texts::laws::{cells_are_plain, one_cell};
 use date_texts::{MAX_CELL, MAX_TARGETS, Refusal, Target, write_cell_within};
 use day_numbers::Day;
@@ -83,6 +86,13 @@ fn put_cell(
     let room = &mut bytes[at + 1..at + CELL_ROOM];
     let len = write_field(room, target, outcome);
     at + 1 + len as usize
+}
+
+/// Writes the cells of the default targets at these places, one behind the other, as [`put_cell`] does.
+macro_rules! put_default_cells {
+    ($bytes:ident, $end:ident, $delimiter:ident, $outcome:ident, $($place:literal),+) => {
+        $($end = put_cell($bytes, $end, $delimiter, Target::DEFAULT[$place], $outcome);)+
+    };
 }
 
 /// Whether two outcomes are one.
@@ -168,15 +178,46 @@ impl RowTail {
         ensures len { self.new.len ≡ self.old.len + (1 + length field.now) }
         ensures delimiter { self.new.delimiter ≡ self.old.delimiter }
     {
-        let at = self.len as usize;
-        let end = at + 1 + field.len();
-        self.buffer[at] = self.delimiter;
-        copy_to_front(&mut self.buffer[at + 1..end], field);
+        let at = put_byte(&mut self.buffer, self.len as usize, self.delimiter);
+        self.len = put_bytes(&mut self.buffer, at, field) as u16;
+    }
+
+    /// Appends the number of a day in decimal.
+    #[inline(always)]
+    #[tactic(auto, using(crate::proofs::RowTailLemmas::day_length))]
+    fn push_day_number(&mut self, number: i64)
+        requires in_range { IsDayNumber number }
+        requires room { self.old.len + plain_room ColumnKind.DayNumber ≤ TAIL_ROOM }
+        ensures value { fields_of self.new ≡ fields_of self.old ++ signed_decimal number ∷ [] }
+        ensures grows { self.new.len ≤ self.old.len + plain_room ColumnKind.DayNumber }
+        ensures delimiter { self.new.delimiter ≡ self.old.delimiter }
+    {
+        let at = put_byte(&mut self.buffer, self.len as usize, self.delimiter);
+        self.len = put_integer(&mut self.buffer, at, number) as u16;
+    }
+
+    /// Appends the cells of the default targets. Each is known when the code is built: none is chosen by a loop.
+    fn push_default_cells(&mut self, outcome: Result<Day, Refusal>)
+        requires room { self.old.len + plain_room ColumnKind.Cells ≤ TAIL_ROOM }
+        ensures value { (cells : List (List ℕ)) → AreCells default_targets (outcome_seen outcome) cells
+            → fields_of self.new
+            ≡ fields_of self.old ++ column_texts default_targets (outcome_seen outcome) cells ColumnKind.Cells }
+        ensures grows { self.new.len ≤ self.old.len + plain_room ColumnKind.Cells }
+        ensures delimiter { self.new.delimiter ≡ self.old.delimiter }
+    {
+        one_cell();
+        cells_are_plain();
+        let delimiter = self.delimiter;
+        let mut end = self.len as usize;
+        let bytes = &mut self.buffer;
+        put_default_cells!(
+            bytes, end, delimiter, outcome, 0, 1, 2, 3, 4, 5, 6, 7, 8, 9, 10, 11, 12, 13
+        );
         self.len = end as u16;
     }
 
-    /// Appends the cells, which a refused row has not.
-    fn push_cells(&mut self, targets: &[Target], outcome: Result<Day, Refusal>)
+    /// Appends the cells of a list of targets.
+    fn push_listed_cells(&mut self, targets: &[Target], outcome: Result<Day, Refusal>)
         requires few { length targets.now ≤ MAX_TARGETS }
         requires room { self.old.len + plain_room ColumnKind.Cells ≤ TAIL_ROOM }
         ensures value { (cells : List (List ℕ)) → AreCells targets.now (outcome_seen outcome) cells
@@ -196,22 +237,41 @@ impl RowTail {
         self.len = end as u16;
     }
 
+    /// Appends the cells, which a refused row has not.
+    fn push_cells(&mut self, targets: &TargetList, outcome: Result<Day, Refusal>)
+        requires room { self.old.len + plain_room ColumnKind.Cells ≤ TAIL_ROOM }
+        ensures value { (cells : List (List ℕ)) → AreCells (items_in targets.now.items) (outcome_seen outcome) cells
+            → fields_of self.new ≡ fields_of self.old
+            ++ column_texts (items_in targets.now.items) (outcome_seen outcome) cells ColumnKind.Cells }
+        ensures grows { self.new.len ≤ self.old.len + plain_room ColumnKind.Cells }
+        ensures delimiter { self.new.delimiter ≡ self.old.delimiter }
+    {
+        if targets.are_default() {
+            self.push_default_cells(outcome);
+        } else {
+            self.push_listed_cells(targets.as_slice(), outcome);
+        }
+    }
+
     /// Appends what stands in a column of a tail. A refused row has no day, and an accepted one no refusal.
     // Inlined, so that each call has the arm of its own column alone.
     #[inline(always)]
-    fn push_column(&mut self, column: ColumnKind, targets: &[Target], outcome: Result<Day, Refusal>)
+    fn push_column(
+        &mut self,
+        column: ColumnKind,
+        targets: &TargetList,
+        outcome: Result<Day, Refusal>,
+    )
         requires tail { is_of_entry column ≡ false }
-        requires few { length targets.now ≤ MAX_TARGETS }
         requires room { self.old.len + plain_room column ≤ TAIL_ROOM }
-        ensures value { (cells : List (List ℕ)) → AreCells targets.now (outcome_seen outcome) cells
-            → fields_of self.new ≡ fields_of self.old ++ column_texts targets.now (outcome_seen outcome) cells column }
+        ensures value { (cells : List (List ℕ)) → AreCells (items_in targets.now.items) (outcome_seen outcome) cells
+            → fields_of self.new ≡ fields_of self.old
+            ++ column_texts (items_in targets.now.items) (outcome_seen outcome) cells column }
         ensures grows { self.new.len ≤ self.old.len + plain_room column }
         ensures delimiter { self.new.delimiter ≡ self.old.delimiter }
     {
         match (column, outcome) {
-            (ColumnKind::DayNumber, Ok(day)) => {
-                self.push(Buffer::new().format(day.number()).as_bytes());
-            }
+            (ColumnKind::DayNumber, Ok(day)) => self.push_day_number(day.number()),
             (ColumnKind::Weekday, Ok(day)) => self.push(day.weekday().name().as_bytes()),
             (ColumnKind::Cells, _) => self.push_cells(targets, outcome),
             (ColumnKind::Refusal, Err(refusal)) => {
@@ -226,12 +286,12 @@ impl RowTail {
     /// Makes this the tail of an outcome, for a table of these targets with this delimiter, where it lies: a tail
     /// is large.
     #[inline(never)]
-    pub fn set(&mut self, targets: &[Target], outcome: Result<Day, Refusal>, delimiter: u8)
-        requires few { length targets.now ≤ MAX_TARGETS }
+    pub fn set(&mut self, targets: &TargetList, outcome: Result<Day, Refusal>, delimiter: u8)
         requires separated { is_delimiter delimiter ≡ true }
-        ensures cells { AreCells targets.now (outcome_seen outcome) (cells_of targets.now outcome self.new) }
-        ensures written { fields_of self.new
-            ≡ tail_texts targets.now (outcome_seen outcome) (cells_of targets.now outcome self.new) }
+        ensures cells { AreCells (items_in targets.now.items) (outcome_seen outcome)
+            (cells_of (items_in targets.now.items) outcome self.new) }
+        ensures written { fields_of self.new ≡ tail_texts (items_in targets.now.items) (outcome_seen outcome)
+            (cells_of (items_in targets.now.items) outcome self.new) }
         ensures delimiter { self.new.delimiter ≡ delimiter }
     {
         self.clear(delimiter);
@@ -257,6 +317,6 @@ impl RowTail {
     {
         is_same_outcome(outcome, next)
             && self.delimiter == setup.delimiter()
-            && targets.is_same(&setup.target_list())
+            && targets.is_same(setup.target_list())
     }
 }

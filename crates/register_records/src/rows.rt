@@ -119,9 +119,9 @@ fn reconvert(
     if tail.stands(targets, *outcome, setup, next) {
         return;
     }
-    tail.set(setup.targets(), next, setup.delimiter());
+    tail.set(setup.target_list(), next, setup.delimiter());
     *outcome = next;
-    *targets = setup.target_list();
+    *targets = *setup.target_list();
 }
 
 impl Row {
@@ -139,13 +139,14 @@ impl Row {
     {
         let entry = Entry::blank();
         let outcome = day_of_body(entry.body());
+        let targets = TargetList::new(&[]);
         let mut row = Row {
             entry,
             outcome,
-            targets: TargetList::new(&[]),
+            targets,
             tail: RowTail::new(b','),
         };
-        row.tail.set(&[], outcome, b',');
+        row.tail.set(&targets, outcome, b',');
         row
     }
 
@@ -255,7 +256,7 @@ impl Row {
     {
         one_cell();
         let mut tail = RowTail::new(delimiter);
-        tail.set(self.targets(), self.outcome, delimiter);
+        tail.set(&self.targets, self.outcome, delimiter);
         tail
     }
 
@@ -263,7 +264,7 @@ impl Row {
     pub fn is_for(&self, setup: &Setup) -> bool
         ensures { (result ≡ true) ↔ (row_targets self.now ≡ targets_of setup.now) }
     {
-        self.targets.is_same(&setup.target_list())
+        self.targets.is_same(setup.target_list())
     }
 
     /// What the journal gains by the row: its number and its refusal, where it was refused.

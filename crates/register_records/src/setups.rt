@@ -166,10 +166,10 @@ impl Setup {
     }
 
     /// The targets as a list to be kept.
-    pub(crate) fn target_list(&self) -> TargetList
-        ensures { items_in result.items ≡ targets_of self.now }
+    pub(crate) fn target_list(&self) -> &TargetList
+        ensures { items_in result.now.items ≡ targets_of self.now }
     {
-        self.targets
+        &self.targets
     }
 
     /// How many items a ring holds, from 1 to 4096.

@@ -74,10 +74,7 @@ pub fn convert_source<R: Read + Drop, W: Output>(
 {
     let mut entries = match EntryReader::open(alloc, reader, setup) {
         Ok(entries) => entries,
-        Err(fault) => {
-            let cause = Cause::from(fault);
-            return SourceEnd::Broken { cause };
-        }
+        Err(fault) => return SourceEnd::from(fault),
     };
     let mut table = Table::new(alloc, output, setup);
     table.write_heading(output);
@@ -93,11 +90,7 @@ pub fn convert_source<R: Read + Drop, W: Output>(
                 }
             }
             Ok(false) => return table.end(),
-            Err(fault) => {
-                return SourceEnd::Broken {
-                    cause: Cause::from(fault),
-                };
-            }
+            Err(fault) => return SourceEnd::from(fault),
         }
     }
 }

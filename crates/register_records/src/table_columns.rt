@@ -1,11 +1,11 @@
-//! The columns of a table: their order, their names, and what stands in those of an entry. The heading, and what a row
-//! has of its entry, go through this list. A tail is appended column by column in the same order, which is proved.
+//! The columns of a table: their order, their names, and what stands in those of an entry. The heading goes through this
+//! list. What a row has of its entry, and its tail, are appended column by column in the same order, which is proved.
 
 ghost use Rattle.std.specs.Prelude.{◌≡◌, ◌≤◌, length};
 ghost use Rattle.register_records.specs.Columns.{entry_order, tail_order};
 ghost use Rattle.register_records.specs.Entries.{body_seen};
 ghost use Rattle.register_records.specs.LineRoom.{limit, name_limit};
-ghost use Rattle.register_records.specs.TableColumns.{field_shown, kind_name};
+ghost use Rattle.register_records.specs.TableColumns.{text_shown, kind_name};
 
 use crate::entries::Body;
 
@@ -90,16 +90,14 @@ impl ColumnKind {
         }
     }
 
-    /// What the column shows of an entry with this number, in decimal, and this body: none of a refused body, and none
-    /// in those of a tail.
+    /// What the column shows of an entry with this body: none of a refused body, and none in that of the number and in
+    /// those of a tail.
     #[inline(always)]
-    pub fn field<'a>(self, number: &'a str, body: &'a Body) -> &'a str
-        requires { length number.now ≤ limit ColumnKind.Number }
-        ensures value { result.now ≡ field_shown number.now (body_seen body.now) self }
+    pub fn field(self, body: &Body) -> &str
+        ensures value { result.now ≡ text_shown (body_seen body.now) self }
         ensures short { length result.now ≤ limit self }
     {
         match (self, body) {
-            (ColumnKind::Number, _) => number,
             (ColumnKind::Id, Body::Fields { id, .. }) => id.as_str(),
             (ColumnKind::Calendar, Body::Fields { calendar, .. }) => calendar.as_str(),
             (ColumnKind::Date, Body::Fields { date, .. }) => date.as_str(),

@@ -1,20 +1,18 @@
 //! The targets of a setup and of a row, with the rank of each among all targets: two lists are compared by these.
 
 ghost use Rattle.std.specs.Prelude.{◌≡◌, ◌≤◌, ◌↔◌, length, true};
-ghost use Rattle.std.specs.Int.{to_le_bytes, w64};
+ghost use Rattle.date_texts.specs.Calendars.{default_targets};
 ghost use Rattle.date_texts.specs.declared.target.TheConstants.{MAX_TARGETS};
 ghost use Rattle.register_records.specs.ShortLists.{items_in};
-ghost use Rattle.register_records.specs.declared.target_lists.TheConstants.{RANK_ROOM, WORD_LEN};
+ghost use Rattle.register_records.specs.declared.target_lists.TheConstants.{RANK_ROOM};
 ghost use Rattle.register_records.specs.TargetRanks.{rank_of, ranks_in};
 
 use crate::short_lists::ShortList;
-use date_texts::laws::all_targets;
+use byte_buffers::{WORD_LEN, word};
+use date_texts::laws::{all_targets, default_targets};
 use date_texts::{MAX_TARGETS, Target};
 
-/// The bytes of a word: so many ranks are compared at once.
-const WORD_LEN: usize = 8;
-
-/// How many words have room for the rank of each target.
+/// How many words, of which each is compared at once, have room for the rank of each target.
 const RANK_WORDS: usize = (MAX_TARGETS + WORD_LEN - 1) / WORD_LEN;
 
 /// Room for the ranks.
@@ -25,12 +23,30 @@ const RANK_ROOM: usize = RANK_WORDS * WORD_LEN;
 pub(crate) struct TargetList {
     items: ShortList<Target>,
     ranks: [u8; RANK_ROOM],
+    // Whether they are known to be the default ones in their order.
+    are_default: bool,
     ghost ranked: { ranks ≡ ranks_in RANK_ROOM (items_in items) },
+    ghost default: { are_default ≡ true → items_in items ≡ default_targets },
 }
 
 impl TargetList {
     /// The list of these targets.
     pub fn new(targets: &[Target]) -> TargetList
+        requires { length targets.now ≤ MAX_TARGETS }
+        ensures { items_in result.items ≡ targets.now }
+    {
+        default_targets();
+        let list = TargetList::listed(targets);
+        let are_default = list.is_same(&TargetList::listed(&Target::DEFAULT));
+        TargetList {
+            items: list.items,
+            ranks: list.ranks,
+            are_default,
+        }
+    }
+
+    /// The same, without a look at whether they are the default ones.
+    fn listed(targets: &[Target]) -> TargetList
         requires { length targets.now ≤ MAX_TARGETS }
         ensures { items_in result.items ≡ targets.now }
     {
@@ -40,7 +56,11 @@ impl TargetList {
             items.push(targets[i]);
             ranks[i] = rank(targets[i]);
         }
-        TargetList { items, ranks }
+        TargetList {
+            items,
+            ranks,
+            are_default: false,
+        }
     }
 
     /// The targets.
@@ -49,6 +69,13 @@ impl TargetList {
         ensures few { length result.now ≤ MAX_TARGETS }
     {
         self.items.as_slice()
+    }
+
+    /// Whether they are known to be the default targets in their order.
+    pub fn are_default(&self) -> bool
+        ensures { result ≡ true → items_in self.now.items ≡ default_targets }
+    {
+        self.are_default
     }
 
     /// Whether the other list has the same targets in the same order.
@@ -63,18 +90,6 @@ impl TargetList {
         }
         is_same
     }
-}
-
-/// The bytes of a word as one number.
-#[inline(always)]
-#[tactic(auto, using(std::proofs::lemmas::Nat::le_bytes_8))]
-fn word(bytes: &[u8]) -> u64
-    requires { length bytes.now ≡ WORD_LEN }
-    ensures { to_le_bytes w64 result ≡ bytes.now }
-{
-    let mut word = [0; WORD_LEN];
-    word.copy_from_slice(bytes);
-    u64::from_le_bytes(word)
 }
 
 /// The rank of a target among all targets, from 1.

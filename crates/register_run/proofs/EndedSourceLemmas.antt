@@ -172,7 +172,12 @@ module _ {W : Type 0} (o : outputs.Ghosts W) (text : Option (List ℕ)) (table :
   all_so good all are =
       gained_so o table output rows holds sent (IsAllOfTable by layout text) (is_headed table) refl good
       (λ none. inl (refl, subst (λ rs. HasAllEntries by text (entries_seen rs)) none all))
-      (λ some. inr (record { entries = entries_seen rows; rows = rows_seen rows; table = table_is o table output rows holds sent are; all = all }))
+      (λ some. inr (record {
+        entries = entries_seen rows;
+        rows = rows_seen rows;
+        table = table_is o table output rows holds sent are;
+        all = all;
+      }))
 
   reading_so : (c : Cause) → is_of_reading c ≡ true → IsReadingMet met c → EndsSo (end.Broken c)
   reading_so c reading fact =

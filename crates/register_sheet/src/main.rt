@@ -47,7 +47,10 @@ fn main(rt: HostRuntime) -> ExitCode {
     };
     let input = Source::Input(rt.stdin());
     let output = PlainOutput::new(LoggedWriter::new(Destination::Output(rt.stdout())), 1);
-    let mut errors = PlainOutput::new(LoggedWriter::new(lines_to(rt.stderr())), 0);
+    let mut errors = PlainOutput::new(
+        LoggedWriter::new(lines_to(rt.stderr(), "register-sheet")),
+        0,
+    );
     let Outcome {
         status,
         output: _,

@@ -1,5 +1,6 @@
 -- What is not known is counted date by date.
-use Rattle.std.proofs.Common.{◌≡◌, ◌≤◌, ◌<◌, ◌+◌, ◌*◌, ◌^◌, ◌∙◌, ◌++◌, ◌↔◌, ℕ, zero, suc, Bool, true, List, [], ◌∷◌, Option, None, Some}
+use Rattle.std.proofs.Common.{◌≡◌, ◌≤◌, ◌<◌, ◌+◌, ◌*◌, ◌^◌, ◌∙◌, ◌++◌, ◌↔◌, ℕ, zero, suc, Bool, true, List, [], ◌∷◌}
+use Rattle.std.proofs.Common.{Option, None, Some}
 use Rattle.std.proofs.Common.{ap, append-nil, append_assoc, arith, cond, get_or, length, map, refl, subst, sym, take}
 use Rattle.std.specs.Prelude.{if◌then◌else◌, option_to_list}
 use Rattle.std.specs.List.{AllZip}
@@ -11,7 +12,8 @@ use Rattle.register_records.specs.Entries.{Fields}
 use Rattle.register_records.specs.Lines.{line_text}
 use Rattle.register_sheets.specs.Sheets.{records_text}
 use Rattle.register_sheets.specs.UnknownNames.{AreNames, HasCount, IsFound, IsKept, NameCount, NameStop, SheetDate}
-use Rattle.register_sheets.specs.UnknownNames.{all_dates, counted, dates_of, firsts, is_alike, is_other, is_short, list_head, name_record, name_seen}
+use Rattle.register_sheets.specs.UnknownNames.{all_dates, counted, dates_of, firsts, is_alike, is_other, is_short}
+use Rattle.register_sheets.specs.UnknownNames.{list_head, name_record, name_seen}
 use Rattle.register_sheets.specs.UnknownNames.{stop_of, stops_in}
 use Rattle.register_sheets.specs.UnknownViews.{HasNames, HasRoom}
 use Rattle.register_sheets.specs.declared.choices.DateColumn.{DateColumn}

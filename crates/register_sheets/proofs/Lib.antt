@@ -13,6 +13,7 @@ pub mod NameLemmas
 pub mod RowLemmas
 pub mod WidthLemmas
 pub mod AskedLemmas
+pub mod AskedOfSheetLemmas
 pub mod ConvertLemmas
 pub mod HeadingLemmas
 pub mod RegisterLemmas

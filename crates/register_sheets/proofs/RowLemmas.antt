@@ -1,7 +1,9 @@
 -- The rows of records, one record after the other.
-use Rattle.std.proofs.Common.{◌≡◌, ◌≤◌, ◌<◌, ◌∙◌, ◌++◌, ◌+◌, ℕ, zero, suc, List, [], ◌∷◌, ◌≢◌, Some, add-one, ap, append-nil, append_assoc, arith}
+use Rattle.std.proofs.Common.{◌≡◌, ◌≤◌, ◌<◌, ◌∙◌, ◌++◌, ◌+◌, ℕ, zero, suc, List, [], ◌∷◌, ◌≢◌, Some, add-one, ap}
+use Rattle.std.proofs.Common.{append-nil, append_assoc, arith}
 use Rattle.std.proofs.lemmas.Bool.Decides.{eqb_tells}
-use Rattle.std.proofs.Common.{cond, length-take, count_by, drop, get_or, get_or-set_other, get_or-set_same, inl, inr, set, length, refl, subst, sym, take}
+use Rattle.std.proofs.Common.{cond, length-take, count_by, drop, get_or, get_or-set_other, get_or-set_same, inl, inr, set}
+use Rattle.std.proofs.Common.{length, refl, subst, sym, take}
 use Rattle.std.specs.Prelude.{option_to_list, slice_get, map}
 use Rattle.std.specs.List.{AllZip, flat_map}
 use Rattle.std.proofs.Math.Seq.{take-append_seam}

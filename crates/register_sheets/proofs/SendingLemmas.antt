@@ -85,7 +85,8 @@ pub front_more : (d : ℕ) (begun now : Option (List ℕ)) (xs ys : List Fields)
 front_more d begun now xs ys (n, appends) = (
   min n (length xs),
   subst (Appends begun now)
-      (ap (records_text d) (sym (take-append-le (min n (length xs)) xs ys (omega arith) ∙ shorter n (min n (length xs)) xs refl))) appends,
+      (ap (records_text d) (sym (take-append-le (min n (length xs)) xs ys (omega arith)
+      ∙ shorter n (min n (length xs)) xs refl))) appends,
 )
 
 taken_twice : (k n : ℕ) (xs : List Fields) → k ≤ n → take k (take n xs) ≡ take k xs

@@ -10,6 +10,7 @@ pub mod WidthViews
 pub mod Sending
 pub mod RowViews
 pub mod Headings
+pub mod AskedOfSheets
 pub mod HeadingViews
 pub mod Registers
 pub mod UnknownNames

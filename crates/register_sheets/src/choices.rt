@@ -1,6 +1,7 @@
 //! What is chosen of a sheet.
 
-ghost use Rattle.std.specs.Prelude.{◌≡◌, ◌≢◌, ◌≤◌, ◌<◌, ◌↔◌, ◌+◌, ◌++◌, ◌∷◌, [], true, false, count_by, length, nat_lt, option_to_list, take};
+ghost use Rattle.std.specs.Prelude.{◌≡◌, ◌≢◌, ◌≤◌, ◌<◌, ◌↔◌, ◌+◌, ◌++◌, ◌∷◌, [], true, false, count_by, length, nat_lt};
+ghost use Rattle.std.specs.Prelude.{option_to_list, take};
 ghost use Rattle.std.specs.Prelude.{Err, IfOk};
 ghost use Rattle.register_records.specs.SetupRules.{NamesTwice, is_delimiter};
 ghost use Rattle.register_records.specs.Views.{targets_of};

@@ -6,6 +6,7 @@
 #![tactic(auto)]
 
 mod asked;
+mod asked_of_sheets;
 mod choices;
 mod converting;
 mod field_lists;
@@ -29,6 +30,7 @@ mod stops;
 mod tree_sheets;
 mod writing;
 
+pub use asked_of_sheets::{AskedByNames, AskedOfSheet};
 pub use choices::{
     AskedColumn, CalendarField, ChoiceFault, DateColumn, IdField, MAX_COLUMNS, MAX_DATES,
     SheetChoice, SheetSetup,
@@ -38,6 +40,7 @@ pub use name_lists::{NameLine, NameList, NameListFault};
 pub use name_meanings::Means;
 pub use new_headings::headings;
 pub use picking::{PickFault, Picked, pick};
+pub use reading::{field_at, head_record};
 pub use registers::write_register;
 pub use sheet_ends::{SheetCause, SheetEnd};
 pub use stopped_dates::{Unknown, unknown_names};

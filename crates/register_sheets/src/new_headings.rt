@@ -8,7 +8,7 @@ ghost use Rattle.register_sheets.specs.Headings.{items_of, wanted_for, wanted_he
 ghost use Rattle.register_sheets.specs.HeadingViews.{NamesMore, taken_by};
 
 use crate::choices::{AskedColumn, DateColumn};
-use crate::reading::{field_at, pass_names, records_of};
+use crate::reading::{field_at, head_record};
 use csv::ByteRecord;
 use itoa::Buffer;
 use std::alloc::{AllocError, Global};
@@ -33,12 +33,10 @@ pub(crate) fn record_below(
 ) -> Result<ByteRecord, AllocError>
     ensures { IfOk result (λ found. fields_of found ≡ get_or (text_records delimiter sheet.now) above []) }
 {
-    let mut records = records_of(alloc, sheet, delimiter);
-    let mut record = ByteRecord::new(alloc);
-    if !pass_names(&mut records, &mut record, above)? {
-        return Ok(ByteRecord::new(alloc));
+    match head_record(alloc, sheet, delimiter, above)? {
+        Some(names) => Ok(names),
+        None => Ok(ByteRecord::new(alloc)),
     }
-    Ok(record)
 }
 
 /// The names of a sheet, and those of the new columns so far.

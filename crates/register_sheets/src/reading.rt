@@ -1,6 +1,7 @@
 //! The records of a sheet, one after the other.
 
-ghost use Rattle.std.specs.Prelude.{◌≡◌, ◌≤◌, ◌<◌, ◌+◌, ◌∷◌, [], true, false, drop, get_or, length, Ok};
+ghost use Rattle.std.specs.Prelude.{◌≡◌, ◌≤◌, ◌<◌, ◌+◌, ◌∷◌, [], true, false, drop, get_or, length};
+ghost use Rattle.std.specs.Prelude.{IfNone, IfOk, IfSome, Ok};
 ghost use Rattle.csv.specs.Records.{fields_of};
 ghost use Rattle.register_records.specs.Entries.{text_records};
 ghost use Rattle.register_sheets.specs.Reading.{IsReading, left_of};
@@ -59,8 +60,28 @@ pub(crate) fn pass_names(
     read_next(records, record)
 }
 
+/// The record with the names of a sheet's columns, which stands below so many others; `None` where there is none.
+pub fn head_record(
+    alloc: Global,
+    sheet: &[u8],
+    delimiter: u8,
+    above: u32,
+) -> Result<Option<ByteRecord>, AllocError>
+    ensures some { IfOk result (λ found. IfSome found (λ names. (above < length (text_records delimiter sheet.now))
+        × (fields_of names ≡ get_or (text_records delimiter sheet.now) above []))) }
+    ensures none { IfOk result (λ found. IfNone found (length (text_records delimiter sheet.now) ≤ above)) }
+{
+    let mut records = records_of(alloc, sheet, delimiter);
+    let mut record = ByteRecord::new(alloc);
+    if pass_names(&mut records, &mut record, above)? {
+        Ok(Some(record))
+    } else {
+        Ok(None)
+    }
+}
+
 /// The field of a record at a place, from 0, or an empty one where the record has none there.
-pub(crate) fn field_at(record: &ByteRecord, place: usize) -> &[u8]
+pub fn field_at(record: &ByteRecord, place: usize) -> &[u8]
     ensures { result.now ≡ get_or (fields_of record.now) place [] }
 {
     match record.get(place) {

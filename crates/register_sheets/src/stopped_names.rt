@@ -1,6 +1,7 @@
 //! The names that stopped dates, and how many each stopped.
 
-ghost use Rattle.std.specs.Prelude.{◌≡◌, ◌<◌, ◌++◌, ◌∷◌, [], List, Some, IfNone, IfSome, OnOk, false, map, option_to_list, slice_get, true};
+ghost use Rattle.std.specs.Prelude.{◌≡◌, ◌<◌, ◌++◌, ◌∷◌, [], List, Some, IfNone, IfSome, OnOk, false, map};
+ghost use Rattle.std.specs.Prelude.{option_to_list, slice_get, true};
 ghost use Rattle.std.specs.List.{list_any};
 ghost use Rattle.register_sheets.specs.UnknownNames.{NameStop, is_alike as alike, name_seen};
 ghost use Rattle.register_sheets.specs.UnknownViews.{HasNames, HasRoom, if_stop, named, stop_seen};

@@ -1,6 +1,7 @@
 -- What words name, and lists of words.
 use Rattle.std.proofs.Common.{◌≡◌, ◌↔◌, ◌∙◌, ◌+◌, ◌<◌, ◌++◌, ◌∷◌, ℕ, zero, suc, Bool, true, false, List, [], Option, None}
-use Rattle.std.proofs.Common.{Some, true≢false, Bor, ap, ap₂, arith, drop, get_or, length, lit<, map, refl, sym, take, Result, Ok, Err}
+use Rattle.std.proofs.Common.{Some, true≢false, Bor, ap, ap₂, arith, drop, get_or, length, lit<, map, refl, sym, take}
+use Rattle.std.proofs.Common.{Result, Ok, Err}
 use Rattle.std.specs.List.{find}
 use Rattle.std.specs.Prelude.{if◌then◌else◌}
 use Rattle.std.specs.Str.{bytes_eq, str_to_ascii_lowercase}
@@ -26,7 +27,8 @@ use Rattle.register_sheets.specs.Headings.{asked_name}
 use Rattle.register_sheets.specs.declared.choices.AskedColumn.{AskedColumn}
 use Rattle.register_sheets.specs.declared.choices.AskedColumn.TheVariants.{Cells, DayNumber, Weekday}
 use Rattle.sheet_arguments.specs.Faults.{Fault, column_twice, unknown_calendar, unknown_column}
-use Rattle.sheet_arguments.specs.WordLists.{all_columns, calendar_named, column_named, is_among, is_column_name, names_in, or_fault}
+use Rattle.sheet_arguments.specs.WordLists.{all_columns, calendar_named, column_named, is_among, is_column_name, names_in}
+use Rattle.sheet_arguments.specs.WordLists.{or_fault}
 use Rattle.sheet_arguments.specs.WordLists.{with_calendars, with_columns}
 
 -- where no element passes the test

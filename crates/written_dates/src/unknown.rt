@@ -4,7 +4,8 @@ ghost use Rattle.std.specs.Prelude.{◌≡◌};
 ghost use Rattle.written_dates.specs.Tokens.{piece};
 ghost use Rattle.written_dates.specs.Names.{names_in};
 ghost use Rattle.written_dates.specs.Parts.{parts};
-ghost use Rattle.written_dates.specs.Unknown.{first_unknown, if_letters, is_never_read as never_spec, seen_text, unknown_word, word_in};
+ghost use Rattle.written_dates.specs.Unknown.{first_unknown, if_letters, is_never_read as never_spec, seen_text};
+ghost use Rattle.written_dates.specs.Unknown.{unknown_word, word_in};
 
 use crate::calendars::{Form, form_of};
 use crate::items::item_in_front;

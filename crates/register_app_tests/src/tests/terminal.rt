@@ -79,7 +79,7 @@ const SHOWN: [Shown; 7] = [
 /// What a stream has taken.
 fn bytes_of(stream: &Lines<Slow>) -> &[u8] {
     match stream {
-        Lines::ToTerminal(slow) => slow.bytes.as_slice(),
+        Lines::ToTerminal(slow, _) => slow.bytes.as_slice(),
         Lines::AsTheyAre(slow) => slow.bytes.as_slice(),
     }
 }
@@ -110,12 +110,13 @@ fn is_shown(
     room: usize,
 ) -> bool {
     let line = shown.line.as_bytes();
-    let stream = Lines::ToTerminal(Slow {
+    let terminal = Slow {
         bytes: Vec::new(alloc),
         most,
         room,
         writes: 0,
-    });
+    };
+    let stream = Lines::ToTerminal(terminal, "register");
     is_reported(
         rt,
         alloc,

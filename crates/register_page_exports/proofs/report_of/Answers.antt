@@ -8,5 +8,5 @@ returns-in-Whole c =
       length_is = refl;
       rows_are = refl;
       refused_are = refl;
-      counted = rw c.in-Whole.is at c.counts_of-refused_with.ensures;
+      counted = rw c.in-Whole.is at c.refusal_counts-refused_with.ensures;
     })

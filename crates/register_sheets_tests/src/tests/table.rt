@@ -189,7 +189,8 @@ const CASES: [Case; 15] = [
         columns: &DAY_AND_GREGORIAN,
         reading: DAY_FIRST,
         sheet: "N;D;C;X\nAnna;12. Mai 1806;gregorian\n\"Bo \"\"B\"\"\";3 Mai 1700;A. ST.;\"a;b\"\nCy\n\"D\nE\";;julian;\n",
-        wanted: "N;D;C;X;rd;gregorian;refusal\nAnna;12. Mai 1806;gregorian;;659394;1806-05-12;\n\"Bo \"\"B\"\"\";3 Mai 1700;A. ST.;\"a;b\";620681;1700-05-14;\nCy;;;;;;4\n\"D\nE\";;julian;;;;5\n",
+        wanted: "N;D;C;X;rd;gregorian;refusal\nAnna;12. Mai 1806;gregorian;;659394;1806-05-12;\n\
+            \"Bo \"\"B\"\"\";3 Mai 1700;A. ST.;\"a;b\";620681;1700-05-14;\nCy;;;;;;4\n\"D\nE\";;julian;;;;5\n",
         rows: 4,
         refused: &[2],
     },
@@ -266,7 +267,8 @@ const CASES: [Case; 15] = [
         columns: &GREGORIAN,
         reading: DAY_FIRST,
         sheet: "N;Birth;Death\nA;1. Mai 1701;2. Mai 1750\nB;;3. Mai 1750\nC;x;y\n",
-        wanted: "N;Birth;Death;Birth gregorian;Birth refusal;Death gregorian;Death refusal\nA;1. Mai 1701;2. Mai 1750;1701-05-12;;1750-05-02;\nB;;3. Mai 1750;;5;1750-05-03;\nC;x;y;;5;;5\n",
+        wanted: "N;Birth;Death;Birth gregorian;Birth refusal;Death gregorian;Death refusal\n\
+            A;1. Mai 1701;2. Mai 1750;1701-05-12;;1750-05-02;\nB;;3. Mai 1750;;5;1750-05-03;\nC;x;y;;5;;5\n",
         rows: 3,
         refused: &[2, 1],
     },

@@ -16,13 +16,15 @@ pub returns-in-DisplayHelp-clause-asked : goal.returns-in-DisplayHelp-clause-ask
 returns-in-DisplayHelp-clause-asked c =
     let arguments = map string_bytes c.args.arguments.now in
     mean_just register_line arguments (is_clear c.one_target.ensures) help
-    (is_among register_line arguments c.in-Err.error _ c.in-Err.ensures.kinds (sym c.kind.ensures ∙ c.in-DisplayHelp.is) (λ e. cc))
+    (is_among register_line arguments c.in-Err.error _ c.in-Err.ensures.kinds (sym c.kind.ensures ∙ c.in-DisplayHelp.is)
+    (λ e. cc))
 
 pub returns-in-DisplayVersion-clause-asked : goal.returns-in-DisplayVersion-clause-asked
 returns-in-DisplayVersion-clause-asked c =
     let arguments = map string_bytes c.args.arguments.now in
     mean_just register_line arguments (is_clear c.one_target.ensures) version
-    (is_among register_line arguments c.in-Err.error _ c.in-Err.ensures.kinds (sym c.kind.ensures ∙ c.in-DisplayVersion.is) (λ e. cc))
+    (is_among register_line arguments c.in-Err.error _ c.in-Err.ensures.kinds (sym c.kind.ensures ∙ c.in-DisplayVersion.is)
+    (λ e. cc))
 
 pub returns-in_default : goal.returns-in_default
 returns-in_default c =

@@ -1,6 +1,5 @@
 use Rattle.std.proofs.Common.{rules}
-use Rattle.register_page_exports.specs.KnownViews.{IsChoiceOfKnown}
-use Rattle.register_page_exports.specs.SheetTables.{IsChoice}
+use Rattle.register_sheets.specs.AskedOfSheets.{IsChoice, IsChoiceBy}
 use Rattle.register_page_exports.proofs.EndingLemmas.{ends_by_cause}
 use Rattle.register_page_exports.proofs.sheet_tables.converted_by.Goals as goal
 
@@ -11,6 +10,6 @@ returns-in-Whole-clause-whole c =
 pub returns-in-Broken-clause-ends : goal.returns-in-Broken-clause-ends
 returns-in-Broken-clause-ends c =
     let chosen = c.in_ok-setup.ensures.choice in
-    ends_by_cause (IsChoiceOfKnown c.args.known.now) IsChoice c.args.sheet.now c.in_ok-setup.setup.choice c.in-Broken.cause
+    ends_by_cause (IsChoiceBy c.args.known.now) IsChoice c.args.sheet.now c.in_ok-setup.setup.choice c.in-Broken.cause
     c.ending_of.result c.ending_of.ensures chosen.0 chosen.1 (λ is. (c.in-Broken.ensures.no_names is).1)
     (λ is. (c.in-Broken.ensures.too_many is).1.more)

@@ -2,7 +2,7 @@ use Rattle.std.proofs.Common.{◌≡◌, ◌≤◌, ◌∙◌, Some, ap, arith, 
 use Rattle.std.proofs.lemmas.Option.{slice_get-get_or}
 use Rattle.register_sheets.specs.declared.choices.DateColumn.{DateColumn}
 use Rattle.register_records.proofs.StepLemmas.{passed_on}
-use Rattle.register_page_exports.specs.KnownViews.{IsChoiceOfKnown}
+use Rattle.register_sheets.specs.AskedOfSheets.{IsChoiceBy}
 use Rattle.register_page_exports.specs.SheetTables.{IsChoiceAt}
 use Rattle.register_page_exports.proofs.EndingLemmas.{ends_by_cause, refused_at}
 use Rattle.register_page_exports.proofs.sheet_tables.register_by.Goals as goal
@@ -20,7 +20,7 @@ returns-in-Ok-clause-whole c =
 pub returns-in_err-setup-clause-ends : goal.returns-in_err-setup-clause-ends
 returns-in_err-setup-clause-ends c =
     passed_on _ _ _ c.from_residual.ensures.1
-    (refused_at (IsChoiceOfKnown c.args.known.now) c.args.column c.args.sheet.now _ c.in_err-setup.ensures.none)
+    (refused_at (IsChoiceBy c.args.known.now) c.args.column c.args.sheet.now _ c.in_err-setup.ensures.none)
 
 pub returns-in_default-clause-ends : goal.returns-in_default-clause-ends
 returns-in_default-clause-ends c =
@@ -37,6 +37,6 @@ returns-in-Err-clause-ends c =
     let found = rw c.choice.ensures at c.in-Some.ensures.lookup in
     let dates = c.in_ok-setup.setup.choice.dates.now in
     let chosen = c.in_ok-setup.ensures.choice in
-    ends_by_cause (IsChoiceOfKnown c.args.known.now) (IsChoiceAt c.args.column) c.args.sheet.now
+    ends_by_cause (IsChoiceBy c.args.known.now) (IsChoiceAt c.args.column) c.args.sheet.now
     c.in_ok-setup.setup.choice c.in-Err.cause c.ending_of.result c.ending_of.ensures chosen.0 (chosen.1, found.3.0)
     (λ is. (c.in-Err.ensures.no_names is).1) (λ is. (c.in-Err.ensures.too_many is).1.more)

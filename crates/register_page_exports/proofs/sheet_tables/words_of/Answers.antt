@@ -1,4 +1,5 @@
-use Rattle.std.proofs.Common.{◌≡◌, ◌∙◌, ◌++◌, ◌∷◌, [], ℕ, List, ap, arith, length, length-set, rules, slice_index_or, sym, take_all}
+use Rattle.std.proofs.Common.{◌≡◌, ◌∙◌, ◌++◌, ◌∷◌, [], ℕ, List, ap, arith, length, length-set, rules, slice_index_or, sym}
+use Rattle.std.proofs.Common.{take_all}
 use Rattle.std.proofs.lemmas.List.{take_more, take_more_set}
 use Rattle.register_page_exports.proofs.sheet_tables.words_of.Goals as goal
 

@@ -16,7 +16,7 @@ use Rattle.register_records.proofs.sources.convert_source.Goals.{After-write_hea
 use Rattle.register_records.proofs.sources.convert_source.Goals as goal
 
 pub returns-in-Err-clause-part : goal.returns-in-Err-clause-part
-returns-in-Err-clause-part g c other = ∣ ([], inl refl, appends-none _) ∣₁
+returns-in-Err-clause-part g c = rw c.from.ensures (λ other. ∣ ([], inl refl, appends-none _) ∣₁)
 
 -- the table once its heading was written, or once that broke it off
 begun : (g : Over) (c : After-write_heading g) → Follows g.W.Output c.args.output.now c.args.setup.now
@@ -175,44 +175,46 @@ pub returns-in-Ok-false-clause-mark : goal.returns-in-Ok-false-clause-mark
 returns-in-Ok-false-clause-mark g c = marked _ _ _ _ _ _ _ c.entries.invariant.follows
 
 pub returns-in-Err-read_next-clause-part : goal.returns-in-Err-read_next-clause-part
-returns-in-Err-read_next-clause-part g c other =
+returns-in-Err-read_next-clause-part g c =
     let open_ = c.entries.invariant.open_ in
-    front _ _ _ _ _ _ _ c.entries.invariant.follows (λ is. let e = sym open_ ∙ is in absurd (cc))
+    rw c.from-in-Err-read_next.ensures (λ other. front _ _ _ _ _ _ _ c.entries.invariant.follows
+    (λ is. let e = sym open_ ∙ is in absurd (cc)))
 
 pub returns-in-Err-read_next-clause-too_many : goal.returns-in-Err-read_next-clause-too_many
-returns-in-Err-read_next-clause-too_many g c is =
+returns-in-Err-read_next-clause-too_many g c = rw c.from-in-Err-read_next.ensures (λ is.
     let inv = c.entries.invariant in
     let open_ = c.entries.invariant.open_ in
     let read = c.in-Err-read_next.ensures.reads in
-    let past = read.many (only_many c.in-Err-read_next.fault _ c.from.ensures is) in (
+    let past = read.many (only_many c.in-Err-read_next.fault _ refl is) in (
       of_reader (λ reading text _. IfSome text (λ t. HasTooMany reading t)) _ _ _ _ [] [] (read.text.0 ∙ inv.text)
           (read.text.1 ∙ inv.by) refl past.1,
       first_rows _ _ _ _ _ _ _ inv.follows open_ _ past.0,
-    )
+    ))
 
 pub returns-in-Err-read_next-clause-not_sealed : goal.returns-in-Err-read_next-clause-not_sealed
-returns-in-Err-read_next-clause-not_sealed g c is =
+returns-in-Err-read_next-clause-not_sealed g c = rw c.from-in-Err-read_next.ensures (λ is.
     let inv = c.entries.invariant in
     let open_ = c.entries.invariant.open_ in
     let read = c.in-Err-read_next.ensures.reads in
-    let which = only_not_sealed c.in-Err-read_next.fault _ c.from.ensures is in
+    let which = only_not_sealed c.in-Err-read_next.fault _ refl is in
     let lacks = read.not_sealed which in
     let text = read.text.0 ∙ inv.text in let by = read.text.1 ∙ inv.by in (
       sym (ap (λ (reading : Reading). reading.form) by) ∙ lacks.0,
       of_reader (λ reading text _. IfSome text (λ t. IsNotSealed reading t)) _ _ _ _ [] [] text by refl lacks.1,
       all_rows _ _ _ _ _ _ _ inv.follows open_
           (of_reader HasAllEntries _ _ _ _ _ _ text by read.kept (read.above which)),
-    )
+    ))
 
 pub returns-in-Err-read_next-clause-never : goal.returns-in-Err-read_next-clause-never
 returns-in-Err-read_next-clause-never g c =
-    of_reading c.in-Err-read_next.fault _ c.from.ensures
-    (c.in-Err-read_next.ensures.reads.only_failed c.entries.invariant.failed)
+    rw c.from-in-Err-read_next.ensures (of_reading c.in-Err-read_next.fault _ refl
+    (c.in-Err-read_next.ensures.reads.only_failed c.entries.invariant.failed))
 
 pub returns-in-Err-read_next-clause-kept : goal.returns-in-Err-read_next-clause-kept
-returns-in-Err-read_next-clause-kept g c other =
+returns-in-Err-read_next-clause-kept g c =
     let open_ = c.entries.invariant.open_ in
-    kept _ _ _ _ _ _ _ c.entries.invariant.follows (λ is. let e = sym open_ ∙ is in absurd (cc))
+    rw c.from-in-Err-read_next.ensures (λ other. kept _ _ _ _ _ _ _ c.entries.invariant.follows
+    (λ is. let e = sym open_ ∙ is in absurd (cc)))
 
 pub returns-in-Err-read_next-clause-mark : goal.returns-in-Err-read_next-clause-mark
 returns-in-Err-read_next-clause-mark g c = marked _ _ _ _ _ _ _ c.entries.invariant.follows

@@ -9,7 +9,8 @@ returns g c =
     let same : length sources ≡ length outputs =
     (let a = c.args.sources.ok.0 in let b = c.args.outputs.ok.0 in let p = c.requires.0 in
     let q = c.requires.1 in omega arith) in
-    let is = c.finish_all-ended_sources.ensures.cases ∙ c.visit_until_ended.ensures.cases ∙ c.start_all-running_sources.ensures.cases in
+    let is = c.finish_all-ended_sources.ensures.cases ∙ c.visit_until_ended.ensures.cases
+    ∙ c.start_all-running_sources.ensures.cases in
     let reported = c.report.ensures in record {
       report = report_of setup ended_sources sources outputs same is c.report.result reported.ends reported.ran
           reported.outputs reported.verdict;

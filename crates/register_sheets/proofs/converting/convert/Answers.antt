@@ -1,4 +1,5 @@
-use Rattle.std.proofs.Common.{◌≡◌, ◌∙◌, ◌<◌, ◌++◌, [], List, ap, drop, refl, take, arith, inl, inr, length, length-drop, rules, subst, sym}
+use Rattle.std.proofs.Common.{◌≡◌, ◌∙◌, ◌<◌, ◌++◌, [], List, ap, drop, refl, take, arith, inl, inr, length, length-drop}
+use Rattle.std.proofs.Common.{rules, subst, sym}
 use Rattle.register_records.specs.Entries.{Fields}
 use Rattle.register_records.specs.Sources.{Gains}
 use Rattle.register_sheets.specs.Converted.{ArePartOfSheet, IsFullSheet, IsWholeSheet}
@@ -98,12 +99,18 @@ returns-in_err-copy_records-clause-mark g c = search rules
 pub returns-in_err-copy_records-clause-no_names : goal.returns-in_err-copy_records-clause-no_names
 returns-in_err-copy_records-clause-no_names g c =
     passed_on _ _ _ c.from_residual-in_err-copy_records.ensures.1 (λ is.
-    elim c.in_err-copy_records.ensures.output.causes [ inl other ↦ absurd (cc (is, other)) | inr other ↦ absurd (cc (is, other)) ])
+    elim c.in_err-copy_records.ensures.output.causes [
+      | inl other ↦ absurd (cc (is, other))
+      | inr other ↦ absurd (cc (is, other))
+    ])
 
 pub returns-in_err-copy_records-clause-too_many : goal.returns-in_err-copy_records-clause-too_many
 returns-in_err-copy_records-clause-too_many g c =
     passed_on _ _ _ c.from_residual-in_err-copy_records.ensures.1 (λ is.
-    elim c.in_err-copy_records.ensures.output.causes [ inl other ↦ absurd (cc (is, other)) | inr other ↦ absurd (cc (is, other)) ])
+    elim c.in_err-copy_records.ensures.output.causes [
+      | inl other ↦ absurd (cc (is, other))
+      | inr other ↦ absurd (cc (is, other))
+    ])
 
 pub returns-in_err-copy_records-clause-part : goal.returns-in_err-copy_records-clause-part
 returns-in_err-copy_records-clause-part g c =
@@ -115,7 +122,8 @@ returns-in_err-copy_records-clause-part g c =
     let named = subst (λ (records : List Fields). choice.above < length records) (sym same) some.0 in
     let wide = subst (λ (records : List Fields). c.in-Some.width ≡ widest (drop choice.above records)) (sym same) some.1 in
     passed_on _ _ _ c.from_residual-in_err-copy_records.ensures.1 (λ is.
-    subst (λ (records : List Fields). Gains begun (g.W.Output.contents c.copy_records.new.output) (ArePartOfSheet choice records)) same
+    subst (λ (records : List Fields). Gains begun (g.W.Output.contents c.copy_records.new.output)
+    (ArePartOfSheet choice records)) same
     (part_above choice all c.in-Some.width begun (g.W.Output.contents c.copy_records.new.output) named wide
     ((rw c.new-sender.ensures.delimiter at (c.in_err-copy_records.ensures.part is)) begun []
     (c.new-sender.ensures.none begun))))
@@ -146,12 +154,18 @@ returns-in_err-write_head-clause-mark g c = search rules
 pub returns-in_err-write_head-clause-no_names : goal.returns-in_err-write_head-clause-no_names
 returns-in_err-write_head-clause-no_names g c =
     passed_on _ _ _ c.from_residual-in_err-write_head.ensures.1 (λ is.
-    elim c.in_err-write_head.ensures.output.causes [ inl other ↦ absurd (cc (is, other)) | inr other ↦ absurd (cc (is, other)) ])
+    elim c.in_err-write_head.ensures.output.causes [
+      | inl other ↦ absurd (cc (is, other))
+      | inr other ↦ absurd (cc (is, other))
+    ])
 
 pub returns-in_err-write_head-clause-too_many : goal.returns-in_err-write_head-clause-too_many
 returns-in_err-write_head-clause-too_many g c =
     passed_on _ _ _ c.from_residual-in_err-write_head.ensures.1 (λ is.
-    elim c.in_err-write_head.ensures.output.causes [ inl other ↦ absurd (cc (is, other)) | inr other ↦ absurd (cc (is, other)) ])
+    elim c.in_err-write_head.ensures.output.causes [
+      | inl other ↦ absurd (cc (is, other))
+      | inr other ↦ absurd (cc (is, other))
+    ])
 
 pub returns-in_err-write_head-clause-part : goal.returns-in_err-write_head-clause-part
 returns-in_err-write_head-clause-part g c =
@@ -162,11 +176,13 @@ returns-in_err-write_head-clause-part g c =
     let some = rw c.in-Some.is at c.in_ok-width.ensures.some in
     let named = subst (λ (records : List Fields). choice.above < length records) (sym same) some.0 in
     let wide = subst (λ (records : List Fields). c.in-Some.width ≡ widest (drop choice.above records)) (sym same) some.1 in
-    let made = (rw c.new-sender.ensures.delimiter at c.in_ok-copy_records.ensures.made) begun [] (c.new-sender.ensures.none begun) in
+    let made = (rw c.new-sender.ensures.delimiter at c.in_ok-copy_records.ensures.made) begun []
+    (c.new-sender.ensures.none begun) in
     let kept = c.in_ok-copy_records.ensures.kept ∙ c.new-sender.ensures.delimiter in
     passed_on _ _ _ c.from_residual-in_err-write_head.ensures.1 (λ is.
     rw (c.in_err-write_head.ensures.memory is) (
-    subst (λ (records : List Fields). Gains begun (g.W.Output.contents c.copy_records.new.output) (ArePartOfSheet choice records)) same
+    subst (λ (records : List Fields). Gains begun (g.W.Output.contents c.copy_records.new.output)
+    (ArePartOfSheet choice records)) same
     (part_above choice all c.in-Some.width begun (g.W.Output.contents c.copy_records.new.output) named wide
     (front_made choice.delimiter begun (g.W.Output.contents c.copy_records.new.output) c.copy_records.new.sender.lines _ []
     made))))
@@ -184,7 +200,8 @@ pub returns-in_err-number-clause-kept : goal.returns-in_err-number-clause-kept
 returns-in_err-number-clause-kept g c =
     passed_on _ _ _ c.from_residual-in_err-number.ensures.1 (λ other.
     elim c.in_err-number.ensures.output.causes [
-      | inl memory ↦ c.in_err-number.ensures.output.memory memory ∙ c.in_ok-write_head.ensures.output.good ∙ c.in_ok-copy_records.ensures.output.good
+      | inl memory ↦ c.in_err-number.ensures.output.memory memory ∙ c.in_ok-write_head.ensures.output.good
+          ∙ c.in_ok-copy_records.ensures.output.good
       | inr sink ↦ absurd (other sink)
     ])
 
@@ -197,12 +214,18 @@ returns-in_err-number-clause-mark g c = search rules
 pub returns-in_err-number-clause-no_names : goal.returns-in_err-number-clause-no_names
 returns-in_err-number-clause-no_names g c =
     passed_on _ _ _ c.from_residual-in_err-number.ensures.1 (λ is.
-    elim c.in_err-number.ensures.output.causes [ inl other ↦ absurd (cc (is, other)) | inr other ↦ absurd (cc (is, other)) ])
+    elim c.in_err-number.ensures.output.causes [
+      | inl other ↦ absurd (cc (is, other))
+      | inr other ↦ absurd (cc (is, other))
+    ])
 
 pub returns-in_err-number-clause-too_many : goal.returns-in_err-number-clause-too_many
 returns-in_err-number-clause-too_many g c =
     passed_on _ _ _ c.from_residual-in_err-number.ensures.1 (λ is.
-    elim c.in_err-number.ensures.output.causes [ inl other ↦ absurd (cc (is, other)) | inr other ↦ absurd (cc (is, other)) ])
+    elim c.in_err-number.ensures.output.causes [
+      | inl other ↦ absurd (cc (is, other))
+      | inr other ↦ absurd (cc (is, other))
+    ])
 
 pub returns-in_err-number-clause-part : goal.returns-in_err-number-clause-part
 returns-in_err-number-clause-part g c =
@@ -213,7 +236,8 @@ returns-in_err-number-clause-part g c =
     let some = rw c.in-Some.is at c.in_ok-width.ensures.some in
     let named = subst (λ (records : List Fields). choice.above < length records) (sym same) some.0 in
     let wide = subst (λ (records : List Fields). c.in-Some.width ≡ widest (drop choice.above records)) (sym same) some.1 in
-    let made = (rw c.new-sender.ensures.delimiter at c.in_ok-copy_records.ensures.made) begun [] (c.new-sender.ensures.none begun) in
+    let made = (rw c.new-sender.ensures.delimiter at c.in_ok-copy_records.ensures.made) begun []
+    (c.new-sender.ensures.none begun) in
     let kept = c.in_ok-copy_records.ensures.kept ∙ c.new-sender.ensures.delimiter in
     let headed = (rw kept at c.in_ok-write_head.ensures.made) begun ([] ++ take choice.above all) made in
     let left = left_of c.copy_records.new.records in
@@ -227,7 +251,8 @@ returns-in_err-number-clause-part g c =
     let kept_on = c.in_ok-write_head.ensures.kept ∙ kept in
     passed_on _ _ _ c.from_residual-in_err-number.ensures.1 (λ is.
     let (rows, body, front) = c.in_err-number.ensures.part is in
-    subst (λ (records : List Fields). Gains begun (g.W.Output.contents c.write_body.new.output) (ArePartOfSheet choice records)) same
+    subst (λ (records : List Fields). Gains begun (g.W.Output.contents c.write_body.new.output)
+    (ArePartOfSheet choice records)) same
     (part_of_body choice all left rest c.in-Some.width rows choice.delimiter begun
     (g.W.Output.contents c.write_body.new.output) read refl body
     ((rw kept_on at front) begun (head_made choice all left c.in-Some.width) headed)))
@@ -245,7 +270,8 @@ pub returns-in_err-send-clause-kept : goal.returns-in_err-send-clause-kept
 returns-in_err-send-clause-kept g c =
     passed_on _ _ _ c.from_residual-in_err-send.ensures.1 (λ other.
     elim c.in_err-send.ensures.output.causes [
-      | inl memory ↦ c.in_err-send.ensures.output.memory memory ∙ c.in_ok-number.ensures.output.good ∙ c.in_ok-write_head.ensures.output.good ∙ c.in_ok-copy_records.ensures.output.good
+      | inl memory ↦ c.in_err-send.ensures.output.memory memory ∙ c.in_ok-number.ensures.output.good
+          ∙ c.in_ok-write_head.ensures.output.good ∙ c.in_ok-copy_records.ensures.output.good
       | inr sink ↦ absurd (other sink)
     ])
 
@@ -258,12 +284,18 @@ returns-in_err-send-clause-mark g c = search rules
 pub returns-in_err-send-clause-no_names : goal.returns-in_err-send-clause-no_names
 returns-in_err-send-clause-no_names g c =
     passed_on _ _ _ c.from_residual-in_err-send.ensures.1 (λ is.
-    elim c.in_err-send.ensures.output.causes [ inl other ↦ absurd (cc (is, other)) | inr other ↦ absurd (cc (is, other)) ])
+    elim c.in_err-send.ensures.output.causes [
+      | inl other ↦ absurd (cc (is, other))
+      | inr other ↦ absurd (cc (is, other))
+    ])
 
 pub returns-in_err-send-clause-too_many : goal.returns-in_err-send-clause-too_many
 returns-in_err-send-clause-too_many g c =
     passed_on _ _ _ c.from_residual-in_err-send.ensures.1 (λ is.
-    elim c.in_err-send.ensures.output.causes [ inl other ↦ absurd (cc (is, other)) | inr other ↦ absurd (cc (is, other)) ])
+    elim c.in_err-send.ensures.output.causes [
+      | inl other ↦ absurd (cc (is, other))
+      | inr other ↦ absurd (cc (is, other))
+    ])
 
 pub returns-in_err-send-clause-part : goal.returns-in_err-send-clause-part
 returns-in_err-send-clause-part g c =
@@ -274,7 +306,8 @@ returns-in_err-send-clause-part g c =
     let some = rw c.in-Some.is at c.in_ok-width.ensures.some in
     let named = subst (λ (records : List Fields). choice.above < length records) (sym same) some.0 in
     let wide = subst (λ (records : List Fields). c.in-Some.width ≡ widest (drop choice.above records)) (sym same) some.1 in
-    let made = (rw c.new-sender.ensures.delimiter at c.in_ok-copy_records.ensures.made) begun [] (c.new-sender.ensures.none begun) in
+    let made = (rw c.new-sender.ensures.delimiter at c.in_ok-copy_records.ensures.made) begun []
+    (c.new-sender.ensures.none begun) in
     let kept = c.in_ok-copy_records.ensures.kept ∙ c.new-sender.ensures.delimiter in
     let headed = (rw kept at c.in_ok-write_head.ensures.made) begun ([] ++ take choice.above all) made in
     let left = left_of c.copy_records.new.records in
@@ -291,7 +324,8 @@ returns-in_err-send-clause-part g c =
     let kept_last = c.in_ok-number.ensures.kept ∙ kept_on in
     passed_on _ _ _ c.from_residual-in_err-send.ensures.1 (λ is.
     rw (c.in_err-send.ensures.memory is) (
-    subst (λ (records : List Fields). Gains begun (g.W.Output.contents c.write_body.new.output) (ArePartOfSheet choice records)) same
+    subst (λ (records : List Fields). Gains begun (g.W.Output.contents c.write_body.new.output)
+    (ArePartOfSheet choice records)) same
     (part_of_body choice all left rest c.in-Some.width rows choice.delimiter begun
     (g.W.Output.contents c.write_body.new.output) read refl body
     (front_made choice.delimiter begun (g.W.Output.contents c.write_body.new.output) c.write_body.new.sender.lines _ []
@@ -344,7 +378,8 @@ returns-then-more-clause-too_many g c =
     let some = rw c.in-Some.is at c.in_ok-width.ensures.some in
     let named = subst (λ (records : List Fields). choice.above < length records) (sym same) some.0 in
     let wide = subst (λ (records : List Fields). c.in-Some.width ≡ widest (drop choice.above records)) (sym same) some.1 in
-    let made = (rw c.new-sender.ensures.delimiter at c.in_ok-copy_records.ensures.made) begun [] (c.new-sender.ensures.none begun) in
+    let made = (rw c.new-sender.ensures.delimiter at c.in_ok-copy_records.ensures.made) begun []
+    (c.new-sender.ensures.none begun) in
     let kept = c.in_ok-copy_records.ensures.kept ∙ c.new-sender.ensures.delimiter in
     let headed = (rw kept at c.in_ok-write_head.ensures.made) begun ([] ++ take choice.above all) made in
     let left = left_of c.copy_records.new.records in
@@ -382,7 +417,8 @@ returns-clause-whole g c =
     let some = rw c.in-Some.is at c.in_ok-width.ensures.some in
     let named = subst (λ (records : List Fields). choice.above < length records) (sym same) some.0 in
     let wide = subst (λ (records : List Fields). c.in-Some.width ≡ widest (drop choice.above records)) (sym same) some.1 in
-    let made = (rw c.new-sender.ensures.delimiter at c.in_ok-copy_records.ensures.made) begun [] (c.new-sender.ensures.none begun) in
+    let made = (rw c.new-sender.ensures.delimiter at c.in_ok-copy_records.ensures.made) begun []
+    (c.new-sender.ensures.none begun) in
     let kept = c.in_ok-copy_records.ensures.kept ∙ c.new-sender.ensures.delimiter in
     let headed = (rw kept at c.in_ok-write_head.ensures.made) begun ([] ++ take choice.above all) made in
     let left = left_of c.copy_records.new.records in
@@ -397,7 +433,8 @@ returns-clause-whole g c =
     let (rows, body, counted, counts, whole, full, filled_up) = c.in_ok-number.ensures.body in
     let written = (rw kept_on at filled_up) begun (head_made choice all left c.in-Some.width) headed in
     let kept_last = c.in_ok-number.ensures.kept ∙ kept_on in
-    subst (λ (records : List Fields). Gains begun (g.W.Output.contents c.send.new.output) (IsWholeSheet choice records c.in_ok-number.number c.write_body.new.rows.refused)) same
+    subst (λ (records : List Fields). Gains begun (g.W.Output.contents c.send.new.output)
+    (IsWholeSheet choice records c.in_ok-number.number c.write_body.new.rows.refused)) same
     (whole_sheet choice all left rest c.in-Some.width c.in_ok-number.number c.write_body.new.rows.refused rows
     choice.delimiter begun (g.W.Output.contents c.send.new.output) _ read refl body counted counts (whole c.if-more.false)
     ((rw kept_last at c.in_ok-send.ensures.sent) begun _ written))

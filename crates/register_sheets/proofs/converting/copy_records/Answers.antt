@@ -1,4 +1,5 @@
-use Rattle.std.proofs.Common.{List, ℕ, ◌≡◌, ◌<◌, ◌∙◌, [], ◌∷◌, ◌++◌, append_assoc, ap, arith, drop, length, length-drop, rules, subst, sym, take, true, false}
+use Rattle.std.proofs.Common.{List, ℕ, ◌≡◌, ◌<◌, ◌∙◌, [], ◌∷◌, ◌++◌, append_assoc, ap, arith, drop, length, length-drop}
+use Rattle.std.proofs.Common.{rules, subst, sym, take, true, false}
 use Rattle.std.specs.Prelude.{Ok}
 use Rattle.csv.specs.Records.{fields_of}
 use Rattle.register_records.proofs.StepLemmas.{passed_on}

@@ -1,4 +1,5 @@
-use Rattle.std.proofs.Common.{◌≡◌, ◌∙◌, ◌++◌, [], List, append-nil, ap, arith, length, length-drop, refl, rules, subst, sym, take, true, false}
+use Rattle.std.proofs.Common.{◌≡◌, ◌∙◌, ◌++◌, [], List, append-nil, ap, arith, length, length-drop, refl, rules, subst}
+use Rattle.std.proofs.Common.{sym, take, true, false}
 use Rattle.std.specs.Prelude.{Ok}
 use Rattle.csv.specs.Records.{fields_of}
 use Rattle.register_records.specs.Entries.{Fields}

@@ -13,7 +13,8 @@ use Rattle.sheet_arguments.specs.CommandLine.{Values}
 use Rattle.sheet_arguments.specs.Faults.{Fault, bad_short_hebrew_years, bad_short_years, bad_skip, fault_of_error}
 use Rattle.sheet_arguments.specs.Faults.{file_twice, register_of_input, too_many_files, unknown_delimiter}
 use Rattle.sheet_arguments.specs.OptionValues.{short_hebrew_option, short_option, skip_option}
-use Rattle.sheet_arguments.specs.Requests.{CalendarsWanted, are_misfits, asks_for_registers_of_input, calendars_wanted, result_check}
+use Rattle.sheet_arguments.specs.Requests.{CalendarsWanted, are_misfits, asks_for_registers_of_input, calendars_wanted}
+use Rattle.sheet_arguments.specs.Requests.{result_check}
 use Rattle.sheet_arguments.specs.Requests.{value_checks, values_by, wanted_by}
 use Rattle.sheet_arguments.specs.WordLists.{columns_asked}
 use Rattle.sheet_arguments.specs.declared.request_faults.RequestFault.{RequestFault}
@@ -106,7 +107,8 @@ returns-in_err-short_hebrew_years-clause-fault c =
     → FailFirst (value_checks v) fault
     = λ fault f. past_order at.In_ok-order fault (inr ((_, c.in_ok-short_years.ensures.value), inl f)) in
     passes_found c.from_residual-in_err-short_hebrew_years.result c.in_err-short_hebrew_years.field-0.0 v
-    (option_check short_hebrew_option bad_short_hebrew_years v.short_hebrew_years).fails c.from_residual-in_err-short_hebrew_years.ensures.1
+    (option_check short_hebrew_option bad_short_hebrew_years v.short_hebrew_years).fails
+    c.from_residual-in_err-short_hebrew_years.ensures.1
     c.in_err-short_hebrew_years.ensures.fault first
 
 pub returns-in_err-skip-clause-fault : goal.returns-in_err-skip-clause-fault

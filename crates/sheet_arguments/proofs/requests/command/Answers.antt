@@ -7,7 +7,8 @@ use Rattle.sheet_arguments.proofs.requests.command.Goals as goal
 pub returns : goal.returns
 returns c =
     let date =
-    c.in_ok-arg.ensures.shape c.repeated_option.ensures.local ∙ ap₂ with_rule c.empty_command.ensures c.repeated_option.ensures.rule in
+    c.in_ok-arg.ensures.shape c.repeated_option.ensures.local
+    ∙ ap₂ with_rule c.empty_command.ensures c.repeated_option.ensures.rule in
     let calendar =
     c.in_ok-arg-2.ensures.shape c.repeated_option-2.ensures.local ∙ ap₂ with_rule date c.repeated_option-2.ensures.rule in
     let all =

@@ -2,7 +2,8 @@
 use Rattle.std.proofs.Common.{ap, map, refl, subst, true, ◌≡◌, ◌∙◌}
 use Rattle.std.proofs.lemmas.Result.{IfOk-weaker}
 use Rattle.std.specs.String.{string_bytes}
-use Rattle.clap.specs.Words.{App, FailsBy, HasMatchesOf, app_of, fault_of, found_of, is_simple, is_simple_and_free, matches_of, rows_of}
+use Rattle.clap.specs.Words.{App, FailsBy, HasMatchesOf, app_of, fault_of, found_of, is_simple, is_simple_and_free}
+use Rattle.clap.specs.Words.{matches_of, rows_of}
 use Rattle.clap.specs.declared.parser.matches.ArgMatches.{ArgMatches}
 use Rattle.clap.proofs.OnLiterals.{clap_on_literals}
 use Rattle.sheet_arguments.specs.CommandLine.{command_line}

@@ -22,7 +22,8 @@ pub returns-in-DisplayVersion-clause-asked : goal.returns-in-DisplayVersion-clau
 returns-in-DisplayVersion-clause-asked c =
     let arguments = map string_bytes c.args.arguments.now in
     mean_just sheet_line arguments is_clear version
-    (is_among sheet_line arguments c.in-Err.error _ c.in-Err.ensures.kinds (sym c.kind.ensures ∙ c.in-DisplayVersion.is) (λ e. cc))
+    (is_among sheet_line arguments c.in-Err.error _ c.in-Err.ensures.kinds (sym c.kind.ensures ∙ c.in-DisplayVersion.is)
+    (λ e. cc))
 
 pub returns-in_default : goal.returns-in_default
 returns-in_default c =

@@ -1,14 +1,16 @@
-use Rattle.std.proofs.Common.{arith, rules}
+use Rattle.byte_buffers.proofs.BufferLemmas.{put_then}
 use Rattle.register_records.specs.RowTails.{tail_bytes}
-use Rattle.register_records.proofs.RowTailLemmas.{grown, put_field}
+use Rattle.register_records.proofs.RowTailLemmas.{grown}
 use Rattle.register_records.proofs.row_tails.RowTail.push.Goals as goal
 
 pub returns-clause-value : goal.returns-clause-value
-returns-clause-value c = search (rules, grown, put_field)
+returns-clause-value c =
+    let self = c.args.self.now in
+    (grown self.delimiter c.args.field.now (tail_bytes self) _ c.requires.plain self.plain
+    (put_then c.put_byte-at.ensures c.put_bytes.ensures).value).fields
 
 pub invariant_of-self-clause-plain : goal.invariant_of-self-clause-plain
 invariant_of-self-clause-plain c =
     let self = c.args.self.now in
     (grown self.delimiter c.args.field.now (tail_bytes self) _ c.requires.plain self.plain
-    (rw (c.copy_to_front.ensures.whole (omega arith))
-    (put_field self.buffer c.args.field.now self.len self.delimiter _ (omega arith)))).plain
+    (put_then c.put_byte-at.ensures c.put_bytes.ensures).value).plain

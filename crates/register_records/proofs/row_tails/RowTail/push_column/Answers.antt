@@ -1,58 +1,36 @@
 use Rattle.std.proofs.Common.{◌≡◌, ◌∙◌, ap, arith, get_or, []}
-use Rattle.std.proofs.lemmas.Grind.{common_steps}
-use Rattle.std.specs.Fmt.{decimal, signed_decimal}
+use Rattle.std.specs.Fmt.{decimal}
 use Rattle.day_numbers.specs.Days.{weekday_names, weekday_number}
 use Rattle.date_texts.specs.Refusals.{refusal_number}
-use Rattle.register_records.proofs.RowTailLemmas.{Fits, day_fits, refusal_fits, weekday_fits}
+use Rattle.register_records.proofs.RowTailLemmas.{Fits, refusal_fits, weekday_fits}
 use Rattle.register_records.proofs.row_tails.RowTail.push_column.Goals as goal
 use Rattle.register_records.proofs.row_tails.RowTail.push_column.Goals.{After-as_bytes, After-as_bytes-in-Refusal-Err}
-use Rattle.register_records.proofs.row_tails.RowTail.push_column.Goals.{After-as_bytes-in-Weekday-Ok}
 
-day : (c : After-as_bytes) → Fits c.args.self.now.delimiter 8 c.as_bytes.result.now
-day c =
-    let self = c.args.self.now in
-    let n = c.in-DayNumber-Ok.day in
-    let text : c.as_bytes.result.now ≡ signed_decimal n.number = grind (arith, common_steps) in
-    rw text (day_fits self.delimiter self.separated n.number n.in_range)
-
-weekday : (c : After-as_bytes-in-Weekday-Ok) → Fits c.args.self.now.delimiter 9 c.as_bytes-in-Weekday-Ok.result.now
+weekday : (c : After-as_bytes) → Fits c.args.self.now.delimiter 9 c.as_bytes.result.now
 weekday c =
     let self = c.args.self.now in
     let number = weekday_number c.in-Weekday-Ok.day.number in
-    let text : c.as_bytes-in-Weekday-Ok.result.now ≡ get_or weekday_names number [] =
-    c.as_bytes-in-Weekday-Ok.ensures.value ∙ c.name.ensures number c.weekday.ensures in
+    let text : c.as_bytes.result.now ≡ get_or weekday_names number [] =
+    c.as_bytes.ensures.value ∙ c.name.ensures number c.weekday.ensures in
     rw text (weekday_fits self.delimiter self.separated number)
 
 refusal : (c : After-as_bytes-in-Refusal-Err) → Fits c.args.self.now.delimiter 1 c.as_bytes-in-Refusal-Err.result.now
 refusal c =
     let self = c.args.self.now in
     let text : c.as_bytes-in-Refusal-Err.result.now ≡ decimal (refusal_number c.in-Refusal-Err.refusal) =
-    c.as_bytes-in-Refusal-Err.ensures.value ∙ c.format-in-Refusal-Err.ensures.text
-    ∙ ap decimal c.number-in-Refusal-Err.ensures in
+    c.as_bytes-in-Refusal-Err.ensures.value ∙ c.format.ensures.text ∙ ap decimal c.number-in-Refusal-Err.ensures in
     rw text (refusal_fits self.delimiter self.separated c.in-Refusal-Err.refusal)
 
 pub push-requires-clause-plain : goal.push-requires-clause-plain
-push-requires-clause-plain c = (day c).plain
+push-requires-clause-plain c = (weekday c).plain
 
 pub push-requires-clause-room : goal.push-requires-clause-room
-push-requires-clause-room c = omega (arith, rw c.in-DayNumber-Ok.is-0 at c.requires.room, (day c).short)
-
-pub returns-in-DayNumber-Ok-clause-grows : goal.returns-in-DayNumber-Ok-clause-grows
-returns-in-DayNumber-Ok-clause-grows c =
-    let short = (day (goal.at.returns-in-DayNumber-Ok-clause-grows c).After-as_bytes).short in
-    rw c.in-DayNumber-Ok.is-0 (omega (arith, c.push.ensures.len, short))
-
-pub push-requires-in-Weekday-Ok-clause-plain : goal.push-requires-in-Weekday-Ok-clause-plain
-push-requires-in-Weekday-Ok-clause-plain c = (weekday c).plain
-
-pub push-requires-in-Weekday-Ok-clause-room : goal.push-requires-in-Weekday-Ok-clause-room
-push-requires-in-Weekday-Ok-clause-room c =
-    omega (arith, rw c.in-Weekday-Ok.is-0 at c.requires.room, (weekday c).short)
+push-requires-clause-room c = omega (arith, rw c.in-Weekday-Ok.is-0 at c.requires.room, (weekday c).short)
 
 pub returns-in-Weekday-Ok-clause-grows : goal.returns-in-Weekday-Ok-clause-grows
 returns-in-Weekday-Ok-clause-grows c =
-    let short = (weekday (goal.at.returns-in-Weekday-Ok-clause-grows c).After-as_bytes-in-Weekday-Ok).short in
-    rw c.in-Weekday-Ok.is-0 (omega (arith, c.push-in-Weekday-Ok.ensures.len, short))
+    let short = (weekday (goal.at.returns-in-Weekday-Ok-clause-grows c).After-as_bytes).short in
+    rw c.in-Weekday-Ok.is-0 (omega (arith, c.push.ensures.len, short))
 
 pub push-requires-in-Refusal-Err-clause-plain : goal.push-requires-in-Refusal-Err-clause-plain
 push-requires-in-Refusal-Err-clause-plain c = (refusal c).plain

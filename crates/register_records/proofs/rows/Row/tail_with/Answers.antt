@@ -1,7 +1,6 @@
 use Rattle.std.proofs.Common.{◌≡◌, ◌∙◌, List, ℕ, ap}
 use Rattle.std.proofs.Math.Logic.{∥∥₁_elim}
 use Rattle.std.proofs.Props.{props}
-use Rattle.date_texts.specs.declared.target.Target.{Target}
 use Rattle.register_records.specs.RowTails.{cells_of}
 use Rattle.register_records.specs.Seen.{outcome_seen}
 use Rattle.register_records.specs.TableColumns.{tail_texts}
@@ -14,10 +13,7 @@ returns-clause-value c =
     let row = c.args.self.now in
     let made = c.set.new.self in
     let targets = row_targets row in
-    let cells = rw c.targets.ensures.value at c.set.ensures.cells in
     let same : cells_of targets row.outcome made ≡ cells_of targets row.outcome row.tail =
-    ∥∥₁_elim row.is_row (Prim.hlevel props) (λ is. one_cells c.one_cell.ensures _ _ _ _ cells is.cells) in
+    ∥∥₁_elim row.is_row (Prim.hlevel props) (λ is. one_cells c.one_cell.ensures _ _ _ _ c.set.ensures.cells is.cells) in
     c.set.ensures.written
-    ∙ ap (λ (ts : List Target). tail_texts ts (outcome_seen row.outcome) (cells_of ts row.outcome made))
-    c.targets.ensures.value
     ∙ ap (λ (xs : List (List ℕ)). tail_texts targets (outcome_seen row.outcome) xs) same

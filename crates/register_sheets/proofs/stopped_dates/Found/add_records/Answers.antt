@@ -1,4 +1,5 @@
-use Rattle.std.proofs.Common.{◌≡◌, ◌∙◌, ap, arith, length, length-drop, length-take, rules, subst, sym, take, take_all, true, false, List}
+use Rattle.std.proofs.Common.{◌≡◌, ◌∙◌, ap, arith, length, length-drop, length-take, rules, subst, sym, take, take_all}
+use Rattle.std.proofs.Common.{true, false, List}
 use Rattle.std.specs.Prelude.{Ok}
 use Rattle.csv.specs.Records.{fields_of}
 use Rattle.register_records.specs.Entries.{Fields}

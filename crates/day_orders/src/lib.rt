@@ -1,0 +1,40 @@
+//! The order of entries by their days.
+#![tactic(auto)]
+
+ghost use Rattle.std.specs.Prelude.{◌≡◌, IfOk, get_or};
+ghost use Rattle.day_orders.specs.DayOrders.{IsDayOrder};
+
+use std::alloc::{AllocError, Global};
+
+/// The day of an entry that has none. It comes behind all others.
+pub const NO_DAY: u32 = 4_294_967_295;
+
+/// The day of the entry at an index, or `NO_DAY` where there is no entry.
+fn day_at(days: &[u32], index: u32) -> u32
+    ensures { result ≡ get_or days.now index NO_DAY }
+{
+    match days.get(index as usize) {
+        Some(day) => *day,
+        None => NO_DAY,
+    }
+}
+
+/// The indices of entries in the order of their days. Each day is counted from a first one, and an entry that has none has
+/// `NO_DAY`. Entries of the same day, and those without one at the end, are in the order in which they stand.
+///
+/// # Errors
+///
+/// Memory ran out; there is none for 2^32 entries.
+pub fn day_order(alloc: Global, days: &[u32]) -> Result<Vec<u32>, AllocError>
+    ensures { IfOk result (λ order. IsDayOrder days.now order.items) }
+{
+    let Ok(count) = u32::try_from(days.len()) else {
+        return Err(AllocError);
+    };
+    let mut order = Vec::new(alloc);
+    'days: for index in 0..count {
+        order.push(index)?;
+    }
+    order.sort_by_key(|index| day_at(days, *index))?;
+    Ok(order)
+}

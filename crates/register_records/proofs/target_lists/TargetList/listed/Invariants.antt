@@ -1,0 +1,12 @@
+use Rattle.std.proofs.Common.{◌≡◌, take}
+use Rattle.register_records.specs.declared.target_lists.TheConstants.{RANK_ROOM}
+use Rattle.register_records.specs.ShortLists.{items_in}
+use Rattle.register_records.specs.TargetRanks.{ranks_in}
+use Rattle.register_records.proofs.target_lists.TargetList.listed.Given as goal
+
+abbrev pub invariant-targets : goal.invariant-targets
+invariant-targets l =
+    record {
+      items : items_in l.items ≡ take l.i l.targets;
+      ranks : l.ranks ≡ ranks_in RANK_ROOM (take l.i l.targets);
+    }

@@ -1,9 +1,2 @@
-pub mod Columns
-pub mod FileSheets
-pub mod SheetFaults
-pub mod Sheets
-pub mod EndedSheets
-pub mod Lines
-pub mod SheetViews
 pub mod ProgramFaults
 pub mod Answers

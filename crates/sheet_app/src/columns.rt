@@ -1,15 +1,10 @@
 //! The columns of a sheet that the arguments name.
 
-ghost use Rattle.std.specs.Prelude.{◌≡◌, ◌≤◌, ◌^◌, ◌⊎◌, ℕ, IfNone, IfOk, IfSome, map, option_map};
-ghost use Rattle.csv.specs.Records.{fields_of};
-ghost use Rattle.sheet_arguments.specs.Requests.{task_of};
-ghost use Rattle.sheet_app.specs.Columns.{AreDateColumns, HoldsOfNone, IsBareWord, IsCalendarField, IsColumn, IsFirst};
-ghost use Rattle.sheet_app.specs.Columns.{IsIdField, IsItsOwn, IsWord, NamesNoColumn};
-
+use crate::head_records::field_at;
 use command_lines::number_named;
 use csv::ByteRecord;
 use date_texts::Calendar;
-use register_sheets::{CalendarField, DateColumn, IdField, field_at};
+use register_sheets::{CalendarField, DateColumn, IdField};
 use sheet_arguments::{CalendarsAsked, Job};
 use std::alloc::{AllocError, Global};
 use written_dates::without_blanks;
@@ -34,107 +29,91 @@ impl From<AllocError> for ColumnFault<'_> {
     }
 }
 
-/// The index of the first name that is this text.
-fn index_of(names: &ByteRecord, text: &[u8]) -> Option<usize>
-    ensures some { IfSome result (λ index. IsFirst (IsWord text.now) (fields_of names.now) index) }
-    ensures none { IfNone result (HoldsOfNone (IsWord text.now) (fields_of names.now)) }
-{
-    'names: for index in 0..names.len() {
-        if field_at(names, index) == text {
-            return Some(index);
+/// The place of the first name that is this text.
+fn place_of(names: &ByteRecord, text: &[u8]) -> Option<usize> {
+    'names: for place in 0..names.len() {
+        if field_at(names, place) == text {
+            return Some(place);
         }
     }
     None
 }
 
-/// The index of the first name that is this text, without the blanks at the ends of both.
-fn bare_index_of(names: &ByteRecord, text: &[u8]) -> Option<usize>
-    ensures some { IfSome result (λ index. IsFirst (IsBareWord text.now) (fields_of names.now) index) }
-    ensures none { IfNone result (HoldsOfNone (IsBareWord text.now) (fields_of names.now)) }
-{
+/// The place of the first name that is this text, without the blanks at the ends of both.
+fn bare_place_of(names: &ByteRecord, text: &[u8]) -> Option<usize> {
     let bare = without_blanks(text);
-    'names: for index in 0..names.len() {
-        if without_blanks(field_at(names, index)) == bare {
-            return Some(index);
+    'names: for place in 0..names.len() {
+        if without_blanks(field_at(names, place)) == bare {
+            return Some(place);
         }
     }
     None
 }
 
-/// The index of the column that a word names, as [`column_named`] has it.
-fn column_found(names: &ByteRecord, word: &str) -> Option<usize>
-    ensures some { IfSome result (λ index. IsColumn (fields_of names.now) word.now index) }
-    ensures none { IfNone result (NamesNoColumn (fields_of names.now) word.now) }
-{
-    if let Some(index) = index_of(names, word.as_bytes()) {
-        return Some(index);
-    }
-    if let Some(index) = bare_index_of(names, word.as_bytes()) {
-        return Some(index);
-    }
+/// The place of the column with the number that a word is.
+fn numbered_place_of(names: &ByteRecord, word: &str) -> Option<usize> {
     match number_named(word, names.len()) {
-        Some(number) => Some(number - 1),
+        Some(number) => number.checked_sub(1),
         None => None,
     }
 }
 
-/// The index of the column that a word names: that of the first with this name, or else of the first with this name
-/// without the blanks at the ends of both, or else of the one with this number from 1. `None` where there is none.
-pub fn column_named(names: &ByteRecord, word: &str) -> Option<u32>
-    ensures some { IfSome result (λ index. IsColumn (fields_of names.now) word.now index) }
-    ensures none { IfNone result (NamesNoColumn (fields_of names.now) word.now
-        ⊎ ((index : ℕ) × IsColumn (fields_of names.now) word.now index × (2 ^ 32 ≤ index))) }
-{
+/// The place of the column that a word names, as [`column_named`] has it.
+fn column_found(names: &ByteRecord, word: &str) -> Option<usize> {
+    if let Some(place) = place_of(names, word.as_bytes()) {
+        return Some(place);
+    }
+    if let Some(place) = bare_place_of(names, word.as_bytes()) {
+        return Some(place);
+    }
+    numbered_place_of(names, word)
+}
+
+/// The place, from 0, of the column that a word names: the first with this name, or else the first with this name
+/// without the blanks at the ends of both, or else the one with this number from 1. `None` where there is none.
+pub fn column_named(names: &ByteRecord, word: &str) -> Option<u32> {
     match column_found(names, word) {
-        Some(index) => u32::try_from(index).ok(),
+        Some(place) => u32::try_from(place).ok(),
         None => None,
     }
 }
 
 /// Where the ids are.
-pub fn id_named<'a>(names: &ByteRecord, id: Option<&'a str>) -> Result<IdField, ColumnFault<'a>>
-    ensures { IfOk result (λ field. IsIdField (fields_of names.now) (option_map (λ w. w.now) id.entry) field) }
-{
+pub fn id_named<'a>(names: &ByteRecord, id: Option<&'a str>) -> Result<IdField, ColumnFault<'a>> {
     match id {
         Some(word) => match column_named(names, word) {
-            Some(index) => Ok(IdField::Column(index)),
+            Some(place) => Ok(IdField::Column(place)),
             None => Err(ColumnFault::NoColumn(word)),
         },
         None => Ok(IdField::Number),
     }
 }
 
-/// The calendar at an index of a list, or its only one.
-fn calendar_at(calendars: &[Calendar], index: usize) -> Option<Calendar>
-    ensures { IfSome result (λ calendar. IsItsOwn calendars.now index calendar) }
-{
+/// The calendar at a place of a list, or its only one.
+fn calendar_at(calendars: &[Calendar], place: usize) -> Option<Calendar> {
     if calendars.len() == 1 {
         return Some(calendars[0]);
     }
-    calendars.get(index).copied()
+    calendars.get(place).copied()
 }
 
-/// The word at an index of a list, or its only one.
-fn word_at<'a>(words: &[&'a str], index: usize) -> Option<&'a str>
-    ensures { IfSome result (λ word. IsItsOwn (map (λ w. w.now) words.now) index word.now) }
-{
+/// The word at a place of a list, or its only one.
+fn word_at<'a>(words: &[&'a str], place: usize) -> Option<&'a str> {
     if words.len() == 1 {
         return Some(words[0]);
     }
-    words.get(index).copied()
+    words.get(place).copied()
 }
 
-/// Where the calendars of the column of dates at an index are.
+/// Where the calendars of the column of dates at a place are.
 fn calendar_named<'a>(
     names: &ByteRecord,
     job: &Job<'a>,
-    index: usize,
-) -> Result<CalendarField, ColumnFault<'a>>
-    ensures { IfOk result (λ field. IsCalendarField (fields_of names.now) (task_of job.now).calendars index field) }
-{
+    place: usize,
+) -> Result<CalendarField, ColumnFault<'a>> {
     match &job.calendars {
         CalendarsAsked::Columns(words) => {
-            let Some(word) = word_at(words.as_slice(), index) else {
+            let Some(word) = word_at(words.as_slice(), place) else {
                 return Err(ColumnFault::NoColumn(""));
             };
             match column_named(names, word) {
@@ -142,7 +121,7 @@ fn calendar_named<'a>(
                 None => Err(ColumnFault::NoColumn(word)),
             }
         }
-        CalendarsAsked::All(calendars) => match calendar_at(calendars.as_slice(), index) {
+        CalendarsAsked::All(calendars) => match calendar_at(calendars.as_slice(), place) {
             Some(calendar) => Ok(CalendarField::All(calendar)),
             None => Err(ColumnFault::NoColumn("")),
         },
@@ -154,16 +133,14 @@ pub fn dates_named<'a>(
     alloc: Global,
     names: &ByteRecord,
     job: &Job<'a>,
-) -> Result<Vec<DateColumn>, ColumnFault<'a>>
-    ensures { IfOk result (λ dates. AreDateColumns (fields_of names.now) (task_of job.now) dates.items) }
-{
+) -> Result<Vec<DateColumn>, ColumnFault<'a>> {
     let mut dates = Vec::new(alloc);
-    'dates: for index in 0..job.dates.len() {
-        let word = job.dates[index];
+    'dates: for place in 0..job.dates.len() {
+        let word = job.dates[place];
         let Some(date) = column_named(names, word) else {
             return Err(ColumnFault::NoColumn(word));
         };
-        let calendar = calendar_named(names, job, index)?;
+        let calendar = calendar_named(names, job, place)?;
         if dates.push(DateColumn { date, calendar }).is_err() {
             return Err(ColumnFault::OutOfMemory);
         }

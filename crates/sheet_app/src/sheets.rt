@@ -1,27 +1,17 @@
 //! What comes of a sheet.
 
-ghost use Rattle.std.specs.Prelude.{◌≡◌, ◌≤◌, ◌⊎◌, List, IfErr, IfOk, OnOk, length, true};
-ghost use Rattle.csv.specs.Records.{fields_of};
-ghost use Rattle.register_records.specs.Entries.{text_records};
-ghost use Rattle.register_records.specs.Sources.{Gains};
-ghost use Rattle.register_sheets.specs.AskedOfSheets.{IsChoice, IsChoiceBy, asked_in};
-ghost use Rattle.register_sheets.specs.Converted.{IsWholeSheet};
-ghost use Rattle.register_sheets.specs.declared.name_lists.NameLine.{NameLine as NameLineValue};
-ghost use Rattle.sheet_arguments.specs.Requests.{task_of};
-ghost use Rattle.sheet_app.specs.SheetFaults.{IsOfColumns};
-ghost use Rattle.sheet_app.specs.SheetViews.{AsksFor, IsEndedBy, IsTask, MakesChoices};
-ghost use Rattle.sheet_app.specs.Sheets.{IsAskedOf, IsBrokenBy, IsEnded, IsListBy, names_of, records_by};
-
 use crate::columns::{dates_named, id_named};
-use crate::sheet_faults::{SheetFault, fault_of_columns};
+use crate::head_records::head_record;
+use crate::sheet_faults::{SheetFault, fault_of, fault_of_columns};
 use csv::ByteRecord;
 use register_records::{Output, send};
 use register_sheets::{
-    AskedByNames, AskedOfSheet, MAX_DATES, NameList, SheetCause, SheetEnd, SheetSetup,
-    convert_sheet, head_record, unknown_names, write_register,
+    AskedColumn, DateColumn, IdField, MAX_DATES, NameList, SheetCause, SheetChoice, SheetEnd,
+    SheetSetup, Unknown, convert_sheet, headings, unknown_names, write_register,
 };
 use sheet_arguments::Job;
-use std::alloc::Global;
+use std::alloc::{AllocError, Global};
+use written_dates::{CalendarName, CalendarNames, Choice, Name, Names};
 
 /// The most names that a list of those that are not known has.
 const MOST_UNKNOWN: usize = 1000;
@@ -42,216 +32,225 @@ pub struct WholeSheet {
 /// How a sheet ended.
 #[derive(Drop)]
 pub enum SheetDone<'a> {
-    /// It was converted to its end, with its registers.
+    /// It was converted to its end.
     Whole(WholeSheet),
-    /// It was converted to its end, and what else was asked for broke off.
-    WholeBut(SheetFault<'a>),
     /// The names that are not known are listed.
     Listed,
     /// It broke off.
     Broken(SheetFault<'a>),
 }
 
-/// What a job asks of a sheet with these names.
-fn asked_by_names<'a>(
+/// Where the columns are that are asked for.
+#[derive(Drop)]
+struct Places {
+    id: IdField,
+    dates: Vec<DateColumn>,
+}
+
+/// Where the columns are in a sheet with these names.
+fn places_in<'a>(
     alloc: Global,
     names: ByteRecord,
     job: &Job<'a>,
-) -> Result<AskedOfSheet, SheetFault<'a>>
-    ensures asked { IfOk result (λ asked. IsAskedOf (task_of job.now) (fields_of names) (asked_in asked)) }
-    ensures fault { IfErr result IsOfColumns }
-{
+) -> Result<Places, SheetFault<'a>> {
     let id = match id_named(&names, job.id) {
         Ok(id) => id,
         Err(fault) => return Err(fault_of_columns(fault, names)),
     };
-    let dates = match dates_named(alloc, &names, job) {
-        Ok(dates) => dates,
-        Err(fault) => return Err(fault_of_columns(fault, names)),
-    };
-    Ok(AskedOfSheet {
-        delimiter: job.delimiter,
-        above: job.skip,
-        id,
-        reading: job.reading,
-        dates,
-        columns: job.columns.as_slice().to_vec(alloc)?,
-    })
+    match dates_named(alloc, &names, job) {
+        Ok(dates) => Ok(Places { id, dates }),
+        Err(fault) => Err(fault_of_columns(fault, names)),
+    }
 }
 
-/// What a job asks of a sheet.
-fn asked_of<'a>(alloc: Global, sheet: &[u8], job: &Job<'a>) -> Result<AskedOfSheet, SheetFault<'a>>
-    ensures asked { IfOk result (λ asked. IsAskedOf (task_of job.now) (names_of (task_of job.now) sheet.now)
-        (asked_in asked)) }
-    ensures fault { IfErr result (λ fault. IsOfColumns fault ⊎ ((fault ≡ SheetFault.NoNames)
-        × (length (text_records job.now.delimiter sheet.now) ≤ job.now.skip))) }
-{
+/// Where the columns are in a sheet.
+fn places_of<'a>(alloc: Global, sheet: &[u8], job: &Job<'a>) -> Result<Places, SheetFault<'a>> {
     match head_record(alloc, sheet, job.delimiter, job.skip)? {
-        Some(names) => asked_by_names(alloc, names, job),
+        Some(names) => places_in(alloc, names, job),
         None => Err(SheetFault::NoNames),
     }
 }
 
-/// The setup of what is asked of a sheet.
-fn setup_of<'a>(known: &'a AskedByNames<'a>) -> SheetSetup<'a>
-    requires { MakesChoices known.now }
-    ensures { IsChoiceBy known.now result.choice × IsChoice result.choice }
-{
-    match known.setup() {
-        Ok(setup) => setup,
-        Err(_) => unreachable!(),
+/// The bytes of texts.
+fn slices_of(alloc: Global, texts: &[Vec<u8>]) -> Result<Vec<&[u8]>, AllocError> {
+    let mut slices = Vec::new(alloc);
+    'texts: for text in texts {
+        slices.push(text.as_slice())?;
     }
+    Ok(slices)
+}
+
+/// What is asked of a sheet.
+#[derive(Drop)]
+struct Asked {
+    delimiter: u8,
+    above: u32,
+    reading: Choice,
+    columns: Vec<AskedColumn>,
+    places: Places,
+}
+
+/// What is asked of a sheet, and what it is read by.
+// In one struct, since the borrow checker has one reference to what a setup is made of.
+#[derive(Drop)]
+struct Known<'a> {
+    asked: Asked,
+    names: Names<'a>,
+    calendars: CalendarNames<'a>,
+    headings: Vec<&'a [u8]>,
+}
+
+/// What is asked of a sheet, with what it is read by: these names and headings.
+fn known_by<'a>(
+    alloc: Global,
+    asked: Asked,
+    names: &'a [Name<'a>],
+    calendars: &'a [CalendarName<'a>],
+    headings: &'a [Vec<u8>],
+) -> Result<Known<'a>, AllocError> {
+    Ok(Known {
+        asked,
+        names: Names::layered(alloc, names)?,
+        calendars: CalendarNames::layered(alloc, calendars)?,
+        headings: slices_of(alloc, headings)?,
+    })
+}
+
+/// The setup of what is asked of a sheet.
+fn setup_of<'a>(known: &'a Known<'a>) -> Result<SheetSetup<'a>, SheetCause> {
+    let setup = SheetSetup::new(SheetChoice {
+        delimiter: known.asked.delimiter,
+        above: known.asked.above,
+        id: known.asked.places.id,
+        dates: known.asked.places.dates.as_slice(),
+        columns: known.asked.columns.as_slice(),
+        headings: known.headings.as_slice(),
+        reading: known.asked.reading,
+        names: &known.names,
+        calendars: &known.calendars,
+    });
+    match setup {
+        Ok(setup) => Ok(setup),
+        // What the arguments ask for is a choice, with as many headings as are wanted.
+        Err(_) => Err(SheetCause::NoMemory),
+    }
+}
+
+/// How many dates were stopped by names that are not known.
+fn stopped_by(unknown: &Unknown) -> u64 {
+    let mut stopped = unknown.more;
+    'names: for name in &unknown.names {
+        stopped = stopped.saturating_add(name.count);
+    }
+    stopped
 }
 
 /// Writes the list of the names in a sheet that are not known.
-fn list_unknown<'b, W: Output>(
+fn list_unknown<W: Output>(
     alloc: Global,
     sheet: &[u8],
-    setup: &SheetSetup,
+    known: &Known,
     output: &mut W,
-) -> Result<(), SheetFault<'b>>
-    ensures whole { OnOk result (Gains (W.contents output.old) (W.contents output.new)
-        (IsListBy setup.now.choice MOST_UNKNOWN sheet.now)) }
-    ensures flushed { OnOk result (W.is_flushed output.new ≡ true) }
-    ensures broken { IfErr result (IsBrokenBy W.Output setup.now.choice sheet.now output.old output.new) }
-{
-    let unknown = unknown_names(alloc, sheet, setup, MOST_UNKNOWN)?;
+) -> Result<(), SheetCause> {
+    let setup = setup_of(known)?;
+    let unknown = unknown_names(alloc, sheet, &setup, MOST_UNKNOWN)?;
     let text = unknown.text(alloc)?;
     send(output, text.as_slice())?;
     Ok(())
-}
-
-/// Writes the sheet with the columns asked. Returns how many records it has, and how many were refused for each column of
-/// dates.
-fn write_sheet<'b, W: Output>(
-    alloc: Global,
-    sheet: &[u8],
-    setup: &SheetSetup,
-    output: &mut W,
-) -> Result<(u32, [u32; MAX_DATES]), SheetFault<'b>>
-    ensures whole { IfOk result (λ made. Gains (W.contents output.old) (W.contents output.new)
-        (IsWholeSheet setup.now.choice (records_by setup.now.choice sheet.now) made.0 made.1)) }
-    ensures flushed { OnOk result (W.is_flushed output.new ≡ true) }
-    ensures broken { IfErr result (IsBrokenBy W.Output setup.now.choice sheet.now output.old output.new) }
-{
-    match convert_sheet(alloc, sheet, setup, output) {
-        SheetEnd::Whole { rows, refused } => Ok((rows, refused)),
-        SheetEnd::Broken { cause } => Err(SheetFault::from(cause)),
-    }
 }
 
 /// Writes the registers of the columns of dates.
 fn write_registers<W: Output>(
     alloc: Global,
     sheet: &[u8],
-    setup: &SheetSetup,
+    known: &Known,
     registers: &mut [W],
 ) -> Result<(), SheetCause> {
+    let setup = setup_of(known)?;
     let choice = setup.choice();
-    'registers: for index in 0..registers.len() {
-        let Some(column) = choice.dates.get(index) else {
+    'registers: for place in 0..registers.len() {
+        let Some(column) = choice.dates.get(place) else {
             return Ok(());
         };
-        write_register(alloc, sheet, setup, column, &mut registers[index])?;
+        write_register(alloc, sheet, &setup, column, &mut registers[place])?;
     }
     Ok(())
 }
 
-/// What is known of a whole sheet with so many records, of which so many were refused for each column of dates. Only
-/// refused dates are stopped by names or left empty: a sheet without such is not read again.
-fn known_of(
+/// Writes the sheet with the columns asked, and says what is known of it.
+fn write_sheet<W: Output>(
     alloc: Global,
     sheet: &[u8],
-    setup: &SheetSetup,
-    records: u32,
-    refused: [u32; MAX_DATES],
-) -> Result<WholeSheet, SheetCause>
-    ensures records { IfOk result (λ whole. whole.records ≡ records) }
-    ensures refused { IfOk result (λ whole. whole.refused ≡ refused) }
-{
-    let (stopped, short) = if refused == [0; MAX_DATES] {
-        (0, 0)
-    } else {
-        let unknown = unknown_names(alloc, sheet, setup, 0)?;
-        (unknown.more, unknown.short)
+    known: &Known,
+    output: &mut W,
+) -> Result<WholeSheet, SheetCause> {
+    let setup = setup_of(known)?;
+    let (records, refused) = match convert_sheet(alloc, sheet, &setup, output) {
+        SheetEnd::Whole { rows, refused } => (rows, refused),
+        SheetEnd::Broken { cause } => return Err(cause),
     };
+    let unknown = unknown_names(alloc, sheet, &setup, MOST_UNKNOWN)?;
     Ok(WholeSheet {
         records,
         refused,
-        stopped,
-        short,
+        stopped: stopped_by(&unknown),
+        short: unknown.short,
     })
 }
 
-/// Writes the registers of a whole sheet, and says what is known of it.
-fn complete<W: Output>(
-    alloc: Global,
-    sheet: &[u8],
-    setup: &SheetSetup,
-    registers: &mut [W],
-    records: u32,
-    refused: [u32; MAX_DATES],
-) -> Result<WholeSheet, SheetCause>
-    ensures records { IfOk result (λ whole. whole.records ≡ records) }
-    ensures refused { IfOk result (λ whole. whole.refused ≡ refused) }
-{
-    write_registers(alloc, sheet, setup, registers)?;
-    known_of(alloc, sheet, setup, records, refused)
-}
-
-/// Writes what a job asks of a sheet, by what is known.
+/// Writes what is asked of a sheet.
 fn write_known<'b, W: Output>(
     alloc: Global,
     sheet: &[u8],
-    known: &AskedByNames,
-    job: &Job<'b>,
+    known: &Known,
+    unknown: bool,
     output: &mut W,
     registers: &mut [W],
-) -> Result<SheetDone<'b>, SheetFault<'b>>
-    requires { MakesChoices known.now }
-    ensures { (lines : List NameLineValue) → AsksFor (task_of job.now) lines sheet.now known.now
-        → IsEndedBy W.Output (task_of job.now) lines MOST_UNKNOWN sheet.now output.old output.new result }
-{
-    let setup = setup_of(known);
-    if job.unknown {
-        list_unknown(alloc, sheet, &setup, output)?;
+) -> Result<SheetDone<'b>, SheetCause> {
+    if unknown {
+        list_unknown(alloc, sheet, known, output)?;
         return Ok(SheetDone::Listed);
     }
-    let (records, refused) = write_sheet(alloc, sheet, &setup, output)?;
-    match complete(alloc, sheet, &setup, registers, records, refused) {
-        Ok(whole) => Ok(SheetDone::Whole(whole)),
-        Err(cause) => Ok(SheetDone::WholeBut(SheetFault::from(cause))),
-    }
+    let whole = write_sheet(alloc, sheet, known, output)?;
+    write_registers(alloc, sheet, known, registers)?;
+    Ok(SheetDone::Whole(whole))
 }
 
-/// Writes what a job asks of a sheet, by the names of a list.
+/// Writes what is asked of a sheet, by the names of a list.
 fn write_asked<'b, W: Output>(
     alloc: Global,
     sheet: &[u8],
     list: &NameList,
-    job: &Job<'b>,
+    asked: Asked,
+    unknown: bool,
     output: &mut W,
     registers: &mut [W],
-) -> Result<SheetDone<'b>, SheetFault<'b>>
-    requires { IsTask (task_of job.now) }
-    ensures { IsEndedBy W.Output (task_of job.now) list.now.lines.items MOST_UNKNOWN sheet.now output.old output.new
-        result }
-{
-    let asked = asked_of(alloc, sheet, job)?;
+) -> Result<SheetDone<'b>, SheetCause> {
     let names = list.names(alloc)?;
     let calendars = list.calendar_names(alloc)?;
-    let headings = asked.headings(alloc, sheet)?;
-    let known = AskedByNames::new(
+    let headings = headings(
+        alloc,
+        sheet,
+        asked.delimiter,
+        asked.above,
+        asked.places.dates.as_slice(),
+        asked.columns.as_slice(),
+    )?;
+    let known = known_by(
         alloc,
         asked,
         names.as_slice(),
         calendars.as_slice(),
         headings.as_slice(),
     )?;
-    write_known(alloc, sheet, &known, job, output, registers)
+    write_known(alloc, sheet, &known, unknown, output, registers)
 }
 
-/// Writes what a job asks of a sheet, by the names of a list, and returns how it has ended.
+/// Writes what a job asks of a sheet, by the names of a list.
+///
+/// # Errors
+///
+/// Why it broke off.
 pub fn convert_text<'b, W: Output>(
     alloc: Global,
     sheet: &[u8],
@@ -259,13 +258,17 @@ pub fn convert_text<'b, W: Output>(
     job: &Job<'b>,
     output: &mut W,
     registers: &mut [W],
-) -> SheetDone<'b>
-    requires { IsTask (task_of job.now) }
-    ensures { IsEnded W.Output (task_of job.now) list.now.lines.items MOST_UNKNOWN sheet.now output.old output.new
-        result }
-{
-    match write_asked(alloc, sheet, list, job, output, registers) {
-        Ok(done) => done,
-        Err(fault) => SheetDone::Broken(fault),
+) -> Result<SheetDone<'b>, SheetFault<'b>> {
+    let places = places_of(alloc, sheet, job)?;
+    let asked = Asked {
+        delimiter: job.delimiter,
+        above: job.skip,
+        reading: job.reading,
+        columns: job.columns.as_slice().to_vec(alloc)?,
+        places,
+    };
+    match write_asked(alloc, sheet, list, asked, job.unknown, output, registers) {
+        Ok(done) => Ok(done),
+        Err(cause) => Err(fault_of(cause)),
     }
 }

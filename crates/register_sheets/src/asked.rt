@@ -1,6 +1,6 @@
 //! The columns asked of a row.
 
-ghost use Rattle.std.specs.Prelude.{◌≡◌, ◌≤◌, ◌∷◌, [], IfOk, OnOk, codes, drop, get_or, length};
+ghost use Rattle.std.specs.Prelude.{◌≡◌, ◌≤◌, ◌∷◌, [], IfOk, OnOk, codes, drop, get_or, length, map};
 ghost use Rattle.register_records.specs.Views.{row_seen};
 ghost use Rattle.register_sheets.specs.Converted.{asked_fields, asked_text, cells_taken, shown_in};
 ghost use Rattle.register_sheets.specs.Choices.{column_limit};
@@ -42,23 +42,27 @@ fn push_refusal(lines: &mut SheetLines, row: &Row) -> Result<(), AllocError>
     }
 }
 
-/// Appends a cell, or nothing where there is none at this place.
-fn push_cell(lines: &mut SheetLines, row: &Row, place: usize) -> Result<(), AllocError>
-    ensures { OnOk result (GainsFields (get_or (row_seen row.now).cells place [] ∷ []) lines.old lines.new) }
+/// Appends the cell at a place, or nothing where there is none.
+fn push_cell(lines: &mut SheetLines, cells: &[&[u8]], place: usize) -> Result<(), AllocError>
+    ensures { OnOk result
+        (GainsFields (get_or (map (λ cell. cell.now) cells.now) place [] ∷ []) lines.old lines.new) }
 {
-    match row.cells().as_slice().get(place) {
+    match cells.get(place) {
         Some(cell) => lines.push(cell),
         None => lines.push(b""),
     }
 }
 
-/// Appends what stands in a column asked of a row, of which so many cells were taken, and returns how many more it takes.
+/// Appends what stands in a column asked of a row with these cells, of which so many were taken, and returns how many more
+/// it takes.
 fn push_column(
     lines: &mut SheetLines,
     column: AskedColumn,
     row: &Row,
+    cells: &[&[u8]],
     taken: usize,
 ) -> Result<usize, AllocError>
+    requires { map (λ cell. cell.now) cells.now ≡ (row_seen row.now).cells }
     ensures line { OnOk result (GainsFields
         (asked_text column (row_seen row.now) (drop taken (row_seen row.now).cells) ∷ []) lines.old lines.new) }
     ensures taken { IfOk result (λ more. more ≡ cells_taken column) }
@@ -73,7 +77,7 @@ fn push_column(
             Ok(0)
         }
         AskedColumn::Cells(_) => {
-            push_cell(lines, row, taken)?;
+            push_cell(lines, cells, taken)?;
             Ok(1)
         }
     }
@@ -88,9 +92,10 @@ pub(crate) fn push_asked(
     requires { length columns.now ≤ column_limit }
     ensures { OnOk result (GainsFields (asked_fields columns.now (row_seen row.now)) lines.old lines.new) }
 {
+    let cells = row.cells();
     let mut taken = 0;
     'columns: for column in columns {
-        taken += push_column(lines, *column, row, taken)?;
+        taken += push_column(lines, *column, row, cells.as_slice(), taken)?;
     }
     push_refusal(lines, row)
 }

@@ -1,4 +1,4 @@
-use Rattle.std.proofs.Common.{ℕ, List, [], ◌∷◌, drop, subst, sym}
+use Rattle.std.proofs.Common.{ℕ, List, [], ◌∷◌, drop, get_or, subst, sym}
 use Rattle.register_records.specs.Views.{row_seen}
 use Rattle.register_sheets.specs.Converted.{asked_text}
 use Rattle.register_sheets.specs.LineViews.{GainsFields}
@@ -12,4 +12,6 @@ returns-in_ok-push_cell-in-Cells-clause-line c =
     subst (λ (column : AskedColumn). GainsFields (asked_text column row (drop c.args.taken row.cells) ∷ [])
     c.args.lines.now c.push_cell.new.lines) (sym c.in-Cells.is)
     (subst (λ (text : List ℕ). GainsFields (text ∷ []) c.args.lines.now c.push_cell.new.lines)
-    (sym (same_head c.args.taken row.cells [])) c.in_ok-push_cell-in-Cells.ensures)
+    (sym (same_head c.args.taken row.cells []))
+    (subst (λ (cells : List (List ℕ)). GainsFields (get_or cells c.args.taken [] ∷ []) c.args.lines.now
+    c.push_cell.new.lines) c.requires c.in_ok-push_cell-in-Cells.ensures))

@@ -218,20 +218,20 @@ fn naps_follow_a_share_under_seven_eighths(rt: HostRuntime) {
     assert!(rt; [20_999, 21_000, 24_000].map(|used| nap_after(5, 4, used)) == [100, 0, 0]);
 }
 
-// Whether so many naps of a run with so many sources follow the first time, and four times as many the next time.
-fn naps_grow(sources: usize, naps: u32, nap: u64) -> bool {
+// Whether so many naps of a run with so many sources follow the first time, and so many the next time.
+fn naps_grow(sources: usize, naps: [u32; 2], nap: u64) -> bool {
     let clock = StepClock::of_long_yields(Step::Forward(1));
     let mut patience = Patience::for_run(sources, 4);
     clock.rest_anew(&mut patience, 2) == (0, 0)
-        && clock.rest_anew(&mut patience, naps) == (u64::from(naps), nap)
+        && clock.rest_anew(&mut patience, naps[0]) == (u64::from(naps[0]), nap)
         && clock.rest_anew(&mut patience, 1) == (0, 0)
-        && clock.rest_anew(&mut patience, 4 * naps) == (u64::from(4 * naps), nap)
+        && clock.rest_anew(&mut patience, naps[1]) == (u64::from(naps[1]), nap)
         && clock.rest_anew(&mut patience, 1) == (0, 0)
 }
 
 #[test]
 fn naps_grow_beside_others_that_stay(rt: HostRuntime) {
-    assert!(rt; naps_grow(4, 256, 12) && naps_grow(5, 64, 100));
+    assert!(rt; naps_grow(4, [256, 1024], 12) && naps_grow(5, [64, 256], 100));
 }
 
 // The naps of the reader's thread and of those one and two lanes downstream.

@@ -133,7 +133,7 @@ pub has_key : (k : ℕ) (names : List Name) (from : ℕ) (name : Name) → slice
 has_key k names from name e =
     has_key_by k (drop from names) name (sym (get_drop names from (ahead k (drop from names))) ∙ e)
 
-pub at_place : (names : List Name) (place : ℕ) (name : Name) → slice_get names place ≡ Some name
+pub at_place : {A : Type 0} (names : List A) (place : ℕ) (name : A) → slice_get names place ≡ Some name
     → drop place names ≡ name ∷ drop (place + 1) names
 at_place [] place name e = absurd (cc)
 at_place (first ∷ names) zero name e = let same : first ≡ name = cc in rw same refl

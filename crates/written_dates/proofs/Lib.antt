@@ -4,6 +4,7 @@ pub mod PartLemmas
 pub mod ItemLemmas
 pub mod UnknownLemmas
 pub mod KeyLemmas
+pub mod KeyedLemmas
 pub mod FieldLemmas
 pub mod RuleLemmas
 pub mod RomanLawLemmas

@@ -44,7 +44,7 @@ entry name = (name.text.now, name.calendar)
 
 -- the names, without blanks at their ends
 abbrev pub entries : CalendarNames → List (List ℕ × Calendar)
-entries names = map entry names.bare.items
+entries names = map entry names.bare.names.items
 
 -- the calendar that the first of the names means which a text is, ASCII letter case aside
 abbrev pub meant_by : List (List ℕ × Calendar) → List ℕ → Option Calendar

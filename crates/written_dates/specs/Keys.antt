@@ -2,6 +2,8 @@
 use Rattle.std.specs.Prelude.{◌≡◌, ℕ, suc, ◌+◌, ◌*◌, ◌%◌, ◌<◌, ◌==◌, if◌then◌else◌, List, [], ◌∷◌, drop, fold, length}
 use Rattle.std.specs.Prelude.{get_or, Some, slice_get}
 use Rattle.std.specs.Char.{to_ascii_lowercase}
+use Rattle.std.specs.List.{position_or_len}
+use Rattle.written_dates.specs.declared.fields.CalendarName.{CalendarName}
 use Rattle.written_dates.specs.declared.meanings.Name.{Name}
 use Rattle.written_dates.specs.Tokens.{Piece}
 use Rattle.written_dates.specs.Parts.{parts}
@@ -34,3 +36,9 @@ pub record IsIndexed (names : List Name) (firsts nexts : List ℕ) (from : ℕ) 
   pub first : (k : ℕ) → k < 1024 → get_or firsts k 0 ≡ place_from k names from
   pub next : (place : ℕ) (name : Name) → from < place + 1 → slice_get names place ≡ Some name
       → get_or nexts place 0 ≡ place_from (key name) names (place + 1)
+
+-- from this place on, the place of the first name of a calendar that has each key, or the number of names
+pub record HasFirsts (names : List CalendarName) (firsts : List ℕ) (from : ℕ) : Type 0 where
+  pub keys : length firsts ≡ 1024
+  pub first : (k : ℕ) → k < 1024
+      → get_or firsts k 0 ≡ from + position_or_len (λ name. key_of name.text.now == k) (drop from names)

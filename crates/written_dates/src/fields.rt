@@ -8,6 +8,8 @@ ghost use Rattle.written_dates.specs.Fields.{entries, calendar_meant, is_other a
 ghost use Rattle.written_dates.specs.Fields.{meant_by as meant_spec, written_calendar};
 
 use crate::calendars::place_of;
+use crate::keyed_names::KeyedNames;
+use crate::names::key_of_word;
 use crate::signs::bare;
 use crate::tokens::{Kind, next_token};
 use date_texts::Calendar;
@@ -25,7 +27,7 @@ pub struct CalendarName<'a> {
 /// Names that mean calendars.
 #[derive(Drop)]
 pub struct CalendarNames<'a> {
-    bare: Vec<CalendarName<'a>>,
+    bare: KeyedNames<'a>,
 }
 
 /// Why there are no names of calendars.
@@ -118,7 +120,9 @@ impl<'a> CalendarNames<'a> {
                 calendar: name.calendar,
             })?;
         }
-        Ok(CalendarNames { bare })
+        Ok(CalendarNames {
+            bare: KeyedNames::new(alloc, bare)?,
+        })
     }
 
     /// The place of the first name that means another calendar further on.
@@ -164,7 +168,8 @@ impl<'a> CalendarNames<'a> {
     pub fn meant(&self, field: &[u8]) -> Option<Calendar>
         ensures { result ≡ calendar_meant (entries self.now) field.now }
     {
-        meant_by(self.bare.as_slice(), without_blanks(field))
+        let text = without_blanks(field);
+        meant_by(self.bare.from_first(key_of_word(text)), text)
     }
 
     /// What a register gets for a field: the calendar's name, or the field as it is where it is none of the names.

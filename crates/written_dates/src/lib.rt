@@ -4,6 +4,7 @@
 mod calendars;
 mod fields;
 mod items;
+mod keyed_names;
 pub mod laws;
 mod meanings;
 mod names;

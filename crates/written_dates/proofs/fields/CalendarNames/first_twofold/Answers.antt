@@ -20,7 +20,7 @@ returns-then-has_other c =
     = ap (λ xs. list_any (is_other (entry name)) (map entry xs)) (sym c.split_at.ensures.back)
     ∙ sym c.has_other.ensures ∙ c.if-has_other.true in
     sym (twofold_here names c.names.at name there has) ∙ c.names.invariant
-    ∙ ap (λ xs. first_twofold 0 (map entry xs)) c.as_slice-names.ensures.value
+    ∙ ap (λ xs. first_twofold 0 (map entry xs)) c.as_slice-names.ensures
 
 pub names-preserved : goal.names-preserved
 names-preserved c =

@@ -1,6 +1,6 @@
 -- The first part that means nothing is found from the left.
-use Rattle.std.proofs.Common.{◌≡◌, ◌≢◌, ℕ, zero, suc, ◌-◌, Bool, false, List, [], ◌∷◌, refl, sym, ap, arith, drop, ◌==◌}
-use Rattle.std.proofs.Common.{Option, Some, None}
+use Rattle.std.proofs.Common.{◌≡◌, ◌≢◌, ℕ, zero, suc, ◌-◌, false, List, [], ◌∷◌, refl, sym, ap, arith, drop, ◌==◌}
+use Rattle.std.proofs.Common.{Option, None}
 use Rattle.std.proofs.lemmas.Bool.Decides.{nat_tests}
 use Rattle.written_dates.specs.declared.items.Number.{Number}
 use Rattle.written_dates.specs.declared.meanings.Meaning.{Meaning}

@@ -31,10 +31,7 @@ fn first_places(alloc: Global, names: &[CalendarName]) -> Result<Vec<usize>, All
 
 impl<'a> KeyedNames<'a> {
     /// These names.
-    pub fn new(
-        alloc: Global,
-        names: Vec<CalendarName<'a>>,
-    ) -> Result<KeyedNames<'a>, AllocError>
+    pub fn new(alloc: Global, names: Vec<CalendarName<'a>>) -> Result<KeyedNames<'a>, AllocError>
         ensures { IfOk result (λ keyed. keyed.names.items ≡ names.entry.items) }
     {
         let firsts = first_places(alloc, names.as_slice())?;

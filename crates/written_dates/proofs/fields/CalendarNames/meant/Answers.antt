@@ -1,4 +1,4 @@
-use Rattle.std.proofs.Common.{◌≡◌, ◌∙◌, ap, map}
+use Rattle.std.proofs.Common.{◌∙◌, ap, map}
 use Rattle.written_dates.specs.Fields.{entry, meant_by}
 use Rattle.written_dates.proofs.KeyedLemmas.{passed_over}
 use Rattle.written_dates.proofs.fields.CalendarNames.meant.Goals as goal

@@ -12,7 +12,8 @@ one_word v w small other e =
     sym (from_le_bytes-to_le_bytes_8 v small) ∙ ap (from_le_bytes w64) e ∙ from_le_bytes-to_le_bytes_8 w other
 
 -- two lists are one where their fronts are, and what lies behind places in these
-pub one_by_ends : (a b : List ℕ) (n rest : ℕ) → rest ≤ n → take n a ≡ take n b → drop rest a ≡ drop rest b → a ≡ b
+pub one_by_ends : (a b : List ℕ) (n rest : ℕ) → rest ≤ n → take n a ≡ take n b → drop rest a ≡ drop rest b
+    → a ≡ b
 one_by_ends a b n rest le first last =
     let front : take rest a ≡ take rest b =
     sym (take-take rest n a le) ∙ ap (λ (l : List ℕ). take rest l) first ∙ take-take rest n b le in

@@ -89,8 +89,8 @@ abbrev pub AreMarks : List ℕ → Type 0
 AreMarks text = IsTrue (list_all is_mark text)
 
 -- what passes one test passes another
-all_pass : (p q : ℕ → Bool) → ((c : ℕ) → p c ≡ true → q c ≡ true) → (text : List ℕ) → IsTrue (list_all p text)
-    → IsTrue (list_all q text)
+all_pass : (p q : ℕ → Bool) → ((c : ℕ) → p c ≡ true → q c ≡ true) → (text : List ℕ)
+    → IsTrue (list_all p text) → IsTrue (list_all q text)
 all_pass p q more [] h = refl
 all_pass p q more (c ∷ cs) h =
     let both = and_parts (p c) (list_all p cs) h in rw (more c both.0) (all_pass p q more cs both.1)

@@ -41,7 +41,8 @@ plain_ascii (c ∷ cs) h (suc i) = plain_ascii cs (and_parts (is_plain c) (list_
 pub four_digits : (n : ℕ) → n ≤ 9_999 → length (decimal n) ≤ 4
 four_digits n small = (place n small).few
 
-long_length : (p q r s t : ℕ) → p ≤ 9_999 → q ≤ 19 → r ≤ 19 → s ≤ 17 → t ≤ 19 → length (canonical_long p q r s t) ≤ 16
+long_length : (p q r s t : ℕ) → p ≤ 9_999 → q ≤ 19 → r ≤ 19 → s ≤ 17 → t ≤ 19
+    → length (canonical_long p q r s t) ≤ 16
 long_length p q r s t a b c d e = grind (arith, length-append, four_digits, one_or_two)
 
 -- and room behind for the row of the last place

@@ -1,3 +1,11 @@
 -- Which file serves which public clause of `answer`:
+--   ColumnLemmas, EndLemmas: what becomes of a sheet, for `answered`.
+--   LineLemmas: the lines on sheets, for `answered`.
+--   ListLemmas: the sheets of files, one after the other, for `answered`.
 --   RefusedLemmas: `refused` and `reported`.
+mod ColumnLemmas
+mod EndLemmas
+mod LineLemmas
+mod ListLemmas
 mod RefusedLemmas
+mod TaskLemmas

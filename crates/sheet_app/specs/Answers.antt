@@ -1,12 +1,20 @@
 -- What the program does: what its outputs have gained, and when its arguments are refused.
-use Rattle.std.specs.Prelude.{◌≡◌, ◌≢◌, ◌++◌, ◌∷◌, ℕ, List, [], codes, false, true, IfSome, Option}
+use Rattle.std.specs.Prelude.{◌≡◌, ◌≢◌, ◌⊎◌, ◌↔◌, ◌++◌, ◌∷◌, ℕ, All, List, [], codes, false, true, map, IfSome, Option}
+use Rattle.std.specs.Prelude.{None, Some}
 use Rattle.std.specs.Io.KnownBytes.{Appends}
+use Rattle.std.specs.declared.io.traits.Read as reads
 use Rattle.clap.specs.Words.{Text}
+use Rattle.command_lines.specs.Meanings.{help, version, work}
 use Rattle.register_records.specs.declared.outputs.Output as outputs
-use Rattle.sheet_arguments.specs.Requests.{IsFaultOf}
-use Rattle.sheet_arguments.specs.declared.help.TheConstants.{PRINT_FAULT}
+use Rattle.register_sheets.specs.declared.name_lists.NameLine.{NameLine}
+use Rattle.sheet_arguments.specs.Requests.{IsFaultOf, MeanJust, Task}
+use Rattle.sheet_arguments.specs.declared.help.TheConstants.{HELP, PRINT_FAULT}
 use Rattle.sheet_arguments.specs.declared.requests.TheConstants.{VERSION}
+use Rattle.sheet_app.specs.EndedSheets.{AreReported, Gives, IsConverted, IsEndedSheet, ended_name, is_complete}
 use Rattle.sheet_app.specs.ProgramFaults.{fault_line, fault_status, request_fault_in}
+use Rattle.sheet_app.specs.Sheets.{AreBothLists}
+use Rattle.sheet_app.specs.declared.converting.EndedSheet.{EndedSheet}
+use Rattle.sheet_app.specs.declared.converting.TheConstants.{INPUT}
 use Rattle.sheet_app.specs.declared.program_faults.ProgramFault.{ProgramFault}
 
 -- the line on the version
@@ -22,6 +30,11 @@ pub record IsPrinted {W E : Type 0} (o : outputs.Ghosts W) (e : outputs.Ghosts E
   pub failed : status ≢ 0 → (o.has_failed written ≡ true)
       × (e.has_failed after ≡ false → Appends (e.contents before) (e.contents after) PRINT_FAULT.now)
 
+-- the arguments ask for this page
+abbrev pub AskForPage : List Text → List ℕ → Type 0
+AskForPage arguments page =
+    (MeanJust arguments help × (page ≡ HELP.now)) ⊎ (MeanJust arguments version × (page ≡ version_line))
+
 -- standard error has gained the line on why nothing is done, with this status; of arguments that are not taken, clap says
 -- more than the definitions
 pub record IsReported (arguments : List Text) (status : ℕ) (before after : Option (List ℕ)) : Type 0 where
@@ -29,3 +42,58 @@ pub record IsReported (arguments : List Text) (status : ℕ) (before after : Opt
   pub status_of : fault_status why ≡ status
   pub fault : IfSome (request_fault_in why) (IsFaultOf arguments)
   pub line : IfSome (fault_line why) (Appends before after)
+
+-- the list of names of the user is the file that a task names
+abbrev pub IsOwnText : {R : Type 0} → reads.Ghosts R → (Text → R → Type 0) → Option Text → Option (List ℕ) → Type 0
+IsOwnText r IsOpened None own = own ≡ None
+IsOwnText {R} r IsOpened (Some file) own =
+    (source : R) × IsOpened file source × (text : List ℕ) × Gives r source text × (own ≡ Some text)
+
+-- dates are read by the names of these lines: those of the user's list, which a task names, and behind them the built-in
+abbrev pub AreNamesOf : {R : Type 0} → reads.Ghosts R → (Text → R → Type 0) → Task → List ℕ → List NameLine → Type 0
+AreNamesOf r IsOpened task built lines =
+    (own : Option (List ℕ)) × IsOwnText r IsOpened task.names own × AreBothLists own built lines
+
+-- the sheet of standard input has ended, with its lines; the status is 0 exactly where it is complete
+pub record IsInputConverted {R W E : Type 0} (r : reads.Ghosts R) (o : outputs.Ghosts W) (e : outputs.Ghosts E)
+    (task : Task) (lines : List NameLine) (status : ℕ) (input : R) (given written : W) (before after : E) : Type 0 where
+  pub ended : EndedSheet W
+  pub named : ended_name ended ≡ INPUT.now
+  pub output : ended.output ≡ written
+  pub converted : IsConverted r o task lines input given written ended.done
+  pub complete : (status ≡ 0) ↔ (is_complete ended ≡ true)
+  pub reported : AreReported e task (ended ∷ []) before after
+
+-- the arguments ask for this page, which was printed; no file was opened
+abbrev pub IsPageAnswered : {W E : Type 0} → outputs.Ghosts W → outputs.Ghosts E → List Text → ℕ → W → W
+    → List (EndedSheet W) → E → E → Type 0
+IsPageAnswered o e arguments status given written sheets before after =
+    (page : List ℕ) × AskForPage arguments page × IsPrinted o e page status given written before after × (sheets ≡ [])
+
+-- the arguments ask for the sheet of standard input
+pub record IsInputAnswered {R W E : Type 0} (r : reads.Ghosts R) (o : outputs.Ghosts W) (e : outputs.Ghosts E)
+    (IsOpened : Text → R → Type 0) (arguments : List Text) (built : List ℕ) (status : ℕ) (input : R) (given written : W)
+    (sheets : List (EndedSheet W)) (before after : E) : Type 0 where
+  pub task : Task
+  pub lines : List NameLine
+  pub asked : MeanJust arguments (work task)
+  pub no_files : task.files ≡ []
+  pub named : AreNamesOf r IsOpened task built lines
+  pub no_sheets : sheets ≡ []
+  pub converted : IsInputConverted r o e task lines status input given written before after
+
+-- the arguments ask for the sheets of files: each has ended, with its lines, and the status is 0 exactly where all are
+-- complete; standard output is as it was
+pub record AreFilesAnswered {R W E : Type 0} (r : reads.Ghosts R) (o : outputs.Ghosts W) (e : outputs.Ghosts E)
+    (IsOpened : Text → R → Type 0) (IsMade : Text → ℕ → W → Type 0) (arguments : List Text) (built : List ℕ)
+    (status : ℕ) (given written : W) (sheets : List (EndedSheet W)) (before after : E) : Type 0 where
+  pub task : Task
+  pub lines : List NameLine
+  pub asked : MeanJust arguments (work task)
+  pub some_files : task.files ≢ []
+  pub named : AreNamesOf r IsOpened task built lines
+  pub untouched : written ≡ given
+  pub of_files : map ended_name sheets ≡ task.files
+  pub ended : All (IsEndedSheet r o IsOpened IsMade task lines) sheets
+  pub complete : (status ≡ 0) ↔ All (λ sheet. is_complete sheet ≡ true) sheets
+  pub reported : AreReported e task sheets before after

@@ -1,2 +1,9 @@
+pub mod Columns
+pub mod FileSheets
+pub mod SheetFaults
+pub mod Sheets
+pub mod EndedSheets
+pub mod Lines
+pub mod SheetViews
 pub mod ProgramFaults
 pub mod Answers

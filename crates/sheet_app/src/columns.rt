@@ -1,10 +1,15 @@
 //! The columns of a sheet that the arguments name.
 
-use crate::head_records::field_at;
+ghost use Rattle.std.specs.Prelude.{◌≡◌, ◌≤◌, ◌^◌, ◌⊎◌, ℕ, IfNone, IfOk, IfSome, map, option_map};
+ghost use Rattle.csv.specs.Records.{fields_of};
+ghost use Rattle.sheet_arguments.specs.Requests.{task_of};
+ghost use Rattle.sheet_app.specs.Columns.{AreDateColumns, HoldsOfNone, IsBareWord, IsCalendarField, IsColumn, IsFirst};
+ghost use Rattle.sheet_app.specs.Columns.{IsIdField, IsItsOwn, IsWord, NamesNoColumn};
+
 use command_lines::number_named;
 use csv::ByteRecord;
 use date_texts::Calendar;
-use register_sheets::{CalendarField, DateColumn, IdField};
+use register_sheets::{CalendarField, DateColumn, IdField, field_at};
 use sheet_arguments::{CalendarsAsked, Job};
 use std::alloc::{AllocError, Global};
 use written_dates::without_blanks;
@@ -29,91 +34,107 @@ impl From<AllocError> for ColumnFault<'_> {
     }
 }
 
-/// The place of the first name that is this text.
-fn place_of(names: &ByteRecord, text: &[u8]) -> Option<usize> {
-    'names: for place in 0..names.len() {
-        if field_at(names, place) == text {
-            return Some(place);
+/// The index of the first name that is this text.
+fn index_of(names: &ByteRecord, text: &[u8]) -> Option<usize>
+    ensures some { IfSome result (λ index. IsFirst (IsWord text.now) (fields_of names.now) index) }
+    ensures none { IfNone result (HoldsOfNone (IsWord text.now) (fields_of names.now)) }
+{
+    'names: for index in 0..names.len() {
+        if field_at(names, index) == text {
+            return Some(index);
         }
     }
     None
 }
 
-/// The place of the first name that is this text, without the blanks at the ends of both.
-fn bare_place_of(names: &ByteRecord, text: &[u8]) -> Option<usize> {
+/// The index of the first name that is this text, without the blanks at the ends of both.
+fn bare_index_of(names: &ByteRecord, text: &[u8]) -> Option<usize>
+    ensures some { IfSome result (λ index. IsFirst (IsBareWord text.now) (fields_of names.now) index) }
+    ensures none { IfNone result (HoldsOfNone (IsBareWord text.now) (fields_of names.now)) }
+{
     let bare = without_blanks(text);
-    'names: for place in 0..names.len() {
-        if without_blanks(field_at(names, place)) == bare {
-            return Some(place);
+    'names: for index in 0..names.len() {
+        if without_blanks(field_at(names, index)) == bare {
+            return Some(index);
         }
     }
     None
 }
 
-/// The place of the column with the number that a word is.
-fn numbered_place_of(names: &ByteRecord, word: &str) -> Option<usize> {
+/// The index of the column that a word names, as [`column_named`] has it.
+fn column_found(names: &ByteRecord, word: &str) -> Option<usize>
+    ensures some { IfSome result (λ index. IsColumn (fields_of names.now) word.now index) }
+    ensures none { IfNone result (NamesNoColumn (fields_of names.now) word.now) }
+{
+    if let Some(index) = index_of(names, word.as_bytes()) {
+        return Some(index);
+    }
+    if let Some(index) = bare_index_of(names, word.as_bytes()) {
+        return Some(index);
+    }
     match number_named(word, names.len()) {
-        Some(number) => number.checked_sub(1),
+        Some(number) => Some(number - 1),
         None => None,
     }
 }
 
-/// The place of the column that a word names, as [`column_named`] has it.
-fn column_found(names: &ByteRecord, word: &str) -> Option<usize> {
-    if let Some(place) = place_of(names, word.as_bytes()) {
-        return Some(place);
-    }
-    if let Some(place) = bare_place_of(names, word.as_bytes()) {
-        return Some(place);
-    }
-    numbered_place_of(names, word)
-}
-
-/// The place, from 0, of the column that a word names: the first with this name, or else the first with this name
-/// without the blanks at the ends of both, or else the one with this number from 1. `None` where there is none.
-pub fn column_named(names: &ByteRecord, word: &str) -> Option<u32> {
+/// The index of the column that a word names: that of the first with this name, or else of the first with this name
+/// without the blanks at the ends of both, or else of the one with this number from 1. `None` where there is none.
+pub fn column_named(names: &ByteRecord, word: &str) -> Option<u32>
+    ensures some { IfSome result (λ index. IsColumn (fields_of names.now) word.now index) }
+    ensures none { IfNone result (NamesNoColumn (fields_of names.now) word.now
+        ⊎ ((index : ℕ) × IsColumn (fields_of names.now) word.now index × (2 ^ 32 ≤ index))) }
+{
     match column_found(names, word) {
-        Some(place) => u32::try_from(place).ok(),
+        Some(index) => u32::try_from(index).ok(),
         None => None,
     }
 }
 
 /// Where the ids are.
-pub fn id_named<'a>(names: &ByteRecord, id: Option<&'a str>) -> Result<IdField, ColumnFault<'a>> {
+pub fn id_named<'a>(names: &ByteRecord, id: Option<&'a str>) -> Result<IdField, ColumnFault<'a>>
+    ensures { IfOk result (λ field. IsIdField (fields_of names.now) (option_map (λ w. w.now) id.entry) field) }
+{
     match id {
         Some(word) => match column_named(names, word) {
-            Some(place) => Ok(IdField::Column(place)),
+            Some(index) => Ok(IdField::Column(index)),
             None => Err(ColumnFault::NoColumn(word)),
         },
         None => Ok(IdField::Number),
     }
 }
 
-/// The calendar at a place of a list, or its only one.
-fn calendar_at(calendars: &[Calendar], place: usize) -> Option<Calendar> {
+/// The calendar at an index of a list, or its only one.
+fn calendar_at(calendars: &[Calendar], index: usize) -> Option<Calendar>
+    ensures { IfSome result (λ calendar. IsItsOwn calendars.now index calendar) }
+{
     if calendars.len() == 1 {
         return Some(calendars[0]);
     }
-    calendars.get(place).copied()
+    calendars.get(index).copied()
 }
 
-/// The word at a place of a list, or its only one.
-fn word_at<'a>(words: &[&'a str], place: usize) -> Option<&'a str> {
+/// The word at an index of a list, or its only one.
+fn word_at<'a>(words: &[&'a str], index: usize) -> Option<&'a str>
+    ensures { IfSome result (λ word. IsItsOwn (map (λ w. w.now) words.now) index word.now) }
+{
     if words.len() == 1 {
         return Some(words[0]);
     }
-    words.get(place).copied()
+    words.get(index).copied()
 }
 
-/// Where the calendars of the column of dates at a place are.
+/// Where the calendars of the column of dates at an index are.
 fn calendar_named<'a>(
     names: &ByteRecord,
     job: &Job<'a>,
-    place: usize,
-) -> Result<CalendarField, ColumnFault<'a>> {
+    index: usize,
+) -> Result<CalendarField, ColumnFault<'a>>
+    ensures { IfOk result (λ field. IsCalendarField (fields_of names.now) (task_of job.now).calendars index field) }
+{
     match &job.calendars {
         CalendarsAsked::Columns(words) => {
-            let Some(word) = word_at(words.as_slice(), place) else {
+            let Some(word) = word_at(words.as_slice(), index) else {
                 return Err(ColumnFault::NoColumn(""));
             };
             match column_named(names, word) {
@@ -121,7 +142,7 @@ fn calendar_named<'a>(
                 None => Err(ColumnFault::NoColumn(word)),
             }
         }
-        CalendarsAsked::All(calendars) => match calendar_at(calendars.as_slice(), place) {
+        CalendarsAsked::All(calendars) => match calendar_at(calendars.as_slice(), index) {
             Some(calendar) => Ok(CalendarField::All(calendar)),
             None => Err(ColumnFault::NoColumn("")),
         },
@@ -133,14 +154,16 @@ pub fn dates_named<'a>(
     alloc: Global,
     names: &ByteRecord,
     job: &Job<'a>,
-) -> Result<Vec<DateColumn>, ColumnFault<'a>> {
+) -> Result<Vec<DateColumn>, ColumnFault<'a>>
+    ensures { IfOk result (λ dates. AreDateColumns (fields_of names.now) (task_of job.now) dates.items) }
+{
     let mut dates = Vec::new(alloc);
-    'dates: for place in 0..job.dates.len() {
-        let word = job.dates[place];
+    'dates: for index in 0..job.dates.len() {
+        let word = job.dates[index];
         let Some(date) = column_named(names, word) else {
             return Err(ColumnFault::NoColumn(word));
         };
-        let calendar = calendar_named(names, job, place)?;
+        let calendar = calendar_named(names, job, index)?;
         if dates.push(DateColumn { date, calendar }).is_err() {
             return Err(ColumnFault::OutOfMemory);
         }

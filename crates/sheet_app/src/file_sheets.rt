@@ -1,5 +1,11 @@
 //! The sheets of a command line: opens the files, and makes the outputs of each.
 
+ghost use Rattle.std.specs.Prelude.{◌≡◌, ◌++◌, ℕ, All, IfOk, map};
+ghost use Rattle.std.specs.String.{string_bytes};
+ghost use Rattle.register_files.specs.Openings.{IsNewlyMade};
+ghost use Rattle.sheet_arguments.specs.Requests.{task_of};
+ghost use Rattle.sheet_app.specs.FileSheets.{IsNewSheet, ending_of, sheet_name, source_name};
+
 use itoa::Buffer;
 use register_files::FileStore;
 use register_records::Output;
@@ -46,12 +52,12 @@ pub struct FileSheet<'a, R, W> {
     pub output: W,
     /// Where the registers go, one for each column of dates; none where they are not asked for.
     pub registers: Vec<W>,
-    /// Whether all that was asked for is there.
-    pub is_whole: bool,
 }
 
 /// What the name of a sheet's output ends with, behind the name of the sheet.
-fn ending(job: &Job) -> &'static str {
+fn ending(job: &Job) -> &'static str
+    ensures { result.now ≡ ending_of (task_of job.now) }
+{
     if job.unknown {
         ".unknown.csv"
     } else {
@@ -77,14 +83,16 @@ fn register_endings(alloc: Global, job: &Job) -> Result<Vec<String>, AllocError>
         endings.push(String::from_str(alloc, ".register.csv")?)?;
         return Ok(endings);
     }
-    'dates: for place in 0..job.dates.len() {
-        endings.push(numbered_ending(alloc, place + 1)?)?;
+    'dates: for index in 0..job.dates.len() {
+        endings.push(numbered_ending(alloc, index + 1)?)?;
     }
     Ok(endings)
 }
 
 /// The name of a file that comes of a sheet.
-fn output_name(alloc: Global, file: &str, ending: &str) -> Result<String, AllocError> {
+fn output_name(alloc: Global, file: &str, ending: &str) -> Result<String, AllocError>
+    ensures { IfOk result (λ name. string_bytes name ≡ file.now ++ ending.now) }
+{
     let mut name = String::from_str(alloc, file)?;
     name.push_str(ending)?;
     Ok(name)
@@ -95,7 +103,11 @@ fn open_sources<'a, R: Drop, W: Output, P: FileStore<R, W>>(
     alloc: Global,
     store: &P,
     files: &[&'a str],
-) -> Result<Vec<OpenedFile<'a, R>>, FileFault<'a>> {
+) -> Result<Vec<OpenedFile<'a, R>>, FileFault<'a>>
+    ensures named { IfOk result (λ sources. map source_name sources.items ≡ map (λ file. file.now) files.now) }
+    ensures opened { IfOk result (λ sources. All (λ opened. P.is_opened store.now opened.name.now opened.source)
+        sources.items) }
+{
     let mut sources = Vec::new(alloc);
     'files: for &name in files {
         let Ok(source) = store.open(name) else {
@@ -171,7 +183,10 @@ fn make_output<'a, R, W: Output + Drop, P: FileStore<R, W>>(
     names: &mut Vec<String>,
     file: &str,
     ending: &str,
-) -> Result<W, FileFault<'a>> {
+) -> Result<W, FileFault<'a>>
+    ensures { IfOk result (λ output. (mark : ℕ)
+        × IsNewlyMade W.Output (P.is_made store.now) (file.now ++ ending.now) mark output) }
+{
     let name = output_name(alloc, file, ending)?;
     let Ok(before) = u32::try_from(names.len()) else {
         return Err(FileFault::OutOfMemory);
@@ -215,7 +230,11 @@ fn make_sheet<'a, R: Drop, W: Output + Drop, P: FileStore<R, W>>(
     names: &mut Vec<String>,
     opened: OpenedFile<'a, R>,
     endings: &[String],
-) -> Result<FileSheet<'a, R, W>, FileFault<'a>> {
+) -> Result<FileSheet<'a, R, W>, FileFault<'a>>
+    ensures named { IfOk result (λ sheet. sheet_name sheet ≡ source_name opened.entry) }
+    ensures made { P.is_opened store.now opened.entry.name.now opened.entry.source
+        → IfOk result (IsNewSheet W.Output (P.is_opened store.now) (P.is_made store.now) (task_of job.now)) }
+{
     let output = make_output(alloc, store, names, opened.name, ending(job))?;
     let registers = make_registers(alloc, store, names, opened.name, endings)?;
     Ok(FileSheet {
@@ -223,7 +242,6 @@ fn make_sheet<'a, R: Drop, W: Output + Drop, P: FileStore<R, W>>(
         source: opened.source,
         output,
         registers,
-        is_whole: false,
     })
 }
 
@@ -234,7 +252,12 @@ fn make_sheets<'a, R: Drop, W: Output + Drop, P: FileStore<R, W>>(
     job: &Job<'a>,
     sources: Vec<OpenedFile<'a, R>>,
     endings: &[String],
-) -> Result<Vec<FileSheet<'a, R, W>>, FileFault<'a>> {
+) -> Result<Vec<FileSheet<'a, R, W>>, FileFault<'a>>
+    requires opened { All (λ opened. P.is_opened store.now opened.name.now opened.source) sources.items }
+    ensures named { IfOk result (λ sheets. map sheet_name sheets.items ≡ map source_name sources.entry.items) }
+    ensures made { IfOk result (λ sheets.
+        All (IsNewSheet W.Output (P.is_opened store.now) (P.is_made store.now) (task_of job.now)) sheets.items) }
+{
     let mut sheets = Vec::new(alloc);
     let mut names = Vec::new(alloc);
     'sources: for opened in sources {
@@ -257,7 +280,11 @@ pub fn open_sheets<'a, R: Drop, W: Output + Drop, P: FileStore<R, W>>(
     alloc: Global,
     store: &P,
     job: &Job<'a>,
-) -> Result<Vec<FileSheet<'a, R, W>>, FileFault<'a>> {
+) -> Result<Vec<FileSheet<'a, R, W>>, FileFault<'a>>
+    ensures named { IfOk result (λ sheets. map sheet_name sheets.items ≡ (task_of job.now).files) }
+    ensures made { IfOk result (λ sheets.
+        All (IsNewSheet W.Output (P.is_opened store.now) (P.is_made store.now) (task_of job.now)) sheets.items) }
+{
     let endings = register_endings(alloc, job)?;
     let sources = open_sources(alloc, store, job.files.as_slice())?;
     check_inputs_kept(alloc, store, job, endings.as_slice())?;

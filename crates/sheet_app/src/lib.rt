@@ -4,8 +4,8 @@
 #![tactic(auto)]
 
 mod columns;
+mod converting;
 mod file_sheets;
-mod head_records;
 mod name_lists;
 mod program;
 mod program_faults;
@@ -13,5 +13,5 @@ mod reports;
 mod sheet_faults;
 mod sheets;
 
-pub use file_sheets::FileSheet;
+pub use converting::EndedSheet;
 pub use program::{COMPLETE, INCOMPLETE, Outcome, answer};

@@ -1,21 +1,24 @@
 //! What the program does with its arguments: it prints a page, or converts, and returns how that ended.
 
-ghost use Rattle.std.specs.Prelude.{◌≡◌, ◌≢◌, ◌≤◌, ◌⊎◌, ◌↔◌, ◌+◌, ℕ, List, [], IfErr, IfOk, IfSome, None, map, false};
+ghost use Rattle.std.specs.Prelude.{◌≡◌, ◌≢◌, ◌≤◌, ◌⊎◌, ◌↔◌, ℕ, List, [], All, IfErr, IfOk, IfSome, None, map, false, true};
 ghost use Rattle.std.specs.Prelude.{vec_capacity, vec_len};
 ghost use Rattle.std.specs.Io.KnownBytes.{Appends};
 ghost use Rattle.std.specs.String.{string_bytes};
 ghost use Rattle.register_files.specs.Openings.{IsFresh};
+ghost use Rattle.register_sheets.specs.declared.name_lists.NameLine.{NameLine as NameLineValue};
 ghost use Rattle.sheet_arguments.specs.Faults.{memory_line};
-ghost use Rattle.sheet_arguments.specs.Requests.{AreWrong, IsFaultOf};
+ghost use Rattle.sheet_arguments.specs.Requests.{AreWrong, IsFaultOf, task_of};
+ghost use Rattle.sheet_app.specs.Answers.{AreFilesAnswered, AreNamesOf, IsInputAnswered, IsInputConverted, IsPageAnswered};
 ghost use Rattle.sheet_app.specs.Answers.{IsPrinted, IsReported, version_line};
+ghost use Rattle.sheet_app.specs.EndedSheets.{AreReported, Gives, IsEndedSheet, ended_name, is_complete};
+ghost use Rattle.sheet_app.specs.FileSheets.{IsNewSheet, sheet_name};
+ghost use Rattle.sheet_app.specs.SheetViews.{IsTask};
 ghost use Rattle.sheet_app.specs.ProgramFaults.{fault_status, request_fault_in};
 
+use crate::converting::{EndedSheet, are_complete, convert_all, convert_input};
 use crate::file_sheets::{FileFault, FileSheet, open_sheets};
 use crate::name_lists::list_of;
 use crate::program_faults::ProgramFault;
-use crate::reports::report_sheet;
-use crate::sheet_faults::SheetFault;
-use crate::sheets::{SheetDone, convert_text};
 use arrayvec::ArrayString;
 use register_files::FileStore;
 use register_records::{Output, send};
@@ -33,18 +36,15 @@ pub const INCOMPLETE: u8 = 1;
 /// Memory ran out before the first sheet was read.
 const OUT_OF_MEMORY: u8 = 3;
 
-/// What standard input is called.
-const INPUT: &str = "standard input";
-
 /// The exit status, and the outputs as they were left.
 #[derive(Drop)]
-pub struct Outcome<'a, R, W> {
+pub struct Outcome<'a, W> {
     /// The exit status.
     pub status: u8,
     /// Standard output, as it was left.
     pub output: W,
-    /// The sheets of the files, with their outputs as they were left.
-    pub sheets: Vec<FileSheet<'a, R, W>>,
+    /// The sheets of the files, as they have ended.
+    pub sheets: Vec<EndedSheet<'a, W>>,
 }
 
 /// The line on the version.
@@ -88,12 +88,12 @@ fn report_fault<E: Output>(alloc: Global, errors: &mut E, why: &ProgramFault<'_>
 }
 
 /// Does nothing but report why.
-fn refuse<'a, R, W: Output, E: Output>(
+fn refuse<'a, W: Output, E: Output>(
     alloc: Global,
     output: W,
     errors: &mut E,
     why: &ProgramFault<'_>,
-) -> Outcome<'a, R, W>
+) -> Outcome<'a, W>
     ensures status { (result.status ≡ 3) ⊎ (result.status ≡ fault_status why.now) }
     ensures reported { (arguments : List (List ℕ)) → IfSome (request_fault_in why.now) (IsFaultOf arguments)
         → E.has_failed errors.new ≡ false
@@ -110,12 +110,12 @@ fn refuse<'a, R, W: Output, E: Output>(
 }
 
 /// Prints a page.
-fn print_page<'a, R, W: Output, E: Output>(
+fn print_page<'a, W: Output, E: Output>(
     alloc: Global,
     page: &str,
     output: W,
     errors: &mut E,
-) -> Outcome<'a, R, W>
+) -> Outcome<'a, W>
     ensures printed { IsPrinted W.Output E.Output page.now result.status
         output result.output errors.old errors.new }
     ensures statuses { (result.status ≡ 0) ⊎ (result.status ≡ 1) }
@@ -154,6 +154,7 @@ fn read_file<'a, R: Read + Drop, W: Output, P: FileStore<R, W>>(
     store: &P,
     file: &'a str,
 ) -> Result<Vec<u8>, ProgramFault<'a>>
+    ensures text { IfOk result (λ text. (source : R) × P.is_opened store.now file.now source × Gives R.Read source text.items) }
     ensures status { IfErr result (λ why. fault_status why ≡ 3) }
     ensures none { IfErr result (λ why. request_fault_in why ≡ None) }
 {
@@ -174,6 +175,8 @@ fn read_list<'a, R: Read + Drop, W: Output, P: FileStore<R, W>>(
     store: &P,
     job: &Job<'a>,
 ) -> Result<NameList, ProgramFault<'a>>
+    ensures lists { IfOk result (λ list.
+        AreNamesOf R.Read (P.is_opened store.now) (task_of job.now) built.now list.lines.items) }
     ensures status { IfErr result (λ why. fault_status why ≡ 3) }
     ensures none { IfErr result (λ why. request_fault_in why ≡ None) }
 {
@@ -190,126 +193,12 @@ fn read_list<'a, R: Read + Drop, W: Output, P: FileStore<R, W>>(
     }
 }
 
-/// Reads a sheet, and writes what a job asks of it, by the names of a list.
-fn convert_source<'b, R: Read, W: Output>(
-    alloc: Global,
-    list: &NameList,
-    job: &Job<'b>,
-    source: &mut R,
-    output: &mut W,
-    registers: &mut [W],
-) -> SheetDone<'b> {
-    let mut text = Vec::new(alloc);
-    if source.read_to_end(&mut text).is_err() {
-        return SheetDone::Broken(SheetFault::Unread);
-    }
-    match convert_text(alloc, text.as_slice(), list, job, output, registers) {
-        Ok(done) => done,
-        Err(fault) => SheetDone::Broken(fault),
-    }
-}
-
-/// Whether what was asked of a sheet is there.
-fn is_whole(done: &SheetDone<'_>) -> bool {
-    match done {
-        SheetDone::Broken(_) => false,
-        _ => true,
-    }
-}
-
-/// Converts a sheet, and reports how it has ended.
-fn convert_one<'a, R: Read + Drop, W: Output + Drop, E: Output>(
-    alloc: Global,
-    list: &NameList,
-    job: &Job<'_>,
-    sheet: FileSheet<'a, R, W>,
-    errors: &mut E,
-) -> FileSheet<'a, R, W>
-    ensures errors_mark { E.own_mark errors.new ≡ E.own_mark errors.old }
-{
-    let FileSheet {
-        name,
-        mut source,
-        mut output,
-        mut registers,
-        is_whole: _,
-    } = sheet;
-    let done = convert_source(
-        alloc,
-        list,
-        job,
-        &mut source,
-        &mut output,
-        registers.as_mut_slice(),
-    );
-    let dates = job.dates.len();
-    report_sheet(alloc, errors, name, dates, job.summary, &done);
-    FileSheet {
-        name,
-        source,
-        output,
-        registers,
-        is_whole: is_whole(&done),
-    }
-}
-
-/// Converts each sheet. There is room for the converted ones.
-fn convert_all<'a, R: Read + Drop, W: Output + Drop, E: Output>(
-    alloc: Global,
-    list: &NameList,
-    job: &Job<'_>,
-    sheets: Vec<FileSheet<'a, R, W>>,
-    room: Vec<FileSheet<'a, R, W>>,
-    errors: &mut E,
-) -> Vec<FileSheet<'a, R, W>>
-    requires room { vec_len room + vec_len sheets ≤ vec_capacity room }
-    ensures errors_mark { E.own_mark errors.new ≡ E.own_mark errors.old }
-{
-    let mut ended = room;
-    'sheets: for sheet in sheets {
-        ended.push_reserved(convert_one(alloc, list, job, sheet, errors));
-    }
-    ended
-}
-
-/// Whether all sheets are whole.
-fn are_whole<R, W>(sheets: &[FileSheet<'_, R, W>]) -> bool {
-    sheets.iter().all(|sheet| sheet.is_whole)
-}
-
-/// The status of a run of which all sheets are whole, or not.
-fn status_of(are_whole: bool) -> u8
+/// The status of a run of which all sheets are complete, or not.
+fn status_of(are_complete: bool) -> u8
+    ensures complete { (result ≡ 0) ↔ (are_complete ≡ true) }
     ensures statuses { (result ≡ 0) ⊎ (result ≡ 1) }
 {
-    if are_whole { COMPLETE } else { INCOMPLETE }
-}
-
-/// Converts the sheet that standard input gives.
-fn convert_input<'a, R: Read + Drop, W: Output + Drop, E: Output>(
-    alloc: Global,
-    list: &NameList,
-    job: &Job<'a>,
-    input: R,
-    output: W,
-    errors: &mut E,
-) -> Outcome<'a, R, W>
-    ensures none { result.sheets.items ≡ [] }
-    ensures statuses { (result.status ≡ 0) ⊎ (result.status ≡ 1) }
-    ensures errors_mark { E.own_mark errors.new ≡ E.own_mark errors.old }
-{
-    let sheet = FileSheet {
-        name: INPUT,
-        source: input,
-        output,
-        registers: Vec::new(alloc),
-        is_whole: false,
-    };
-    let ended = convert_one(alloc, list, job, sheet, errors);
-    Outcome {
-        status: status_of(ended.is_whole),
-        output: ended.output,
-        sheets: Vec::new(alloc),
-    }
+    if are_complete { COMPLETE } else { INCOMPLETE }
 }
 
 /// What a job needs before its first sheet is read: the names, the sheets of its files, and room for these.
@@ -317,7 +206,7 @@ fn convert_input<'a, R: Read + Drop, W: Output + Drop, E: Output>(
 struct Prepared<'a, R, W> {
     list: NameList,
     sheets: Vec<FileSheet<'a, R, W>>,
-    room: Vec<FileSheet<'a, R, W>>,
+    room: Vec<EndedSheet<'a, W>>,
 }
 
 /// Reads the lists of names, opens all files, and then makes the outputs.
@@ -327,7 +216,13 @@ fn prepare<'a, R: Read + Drop, W: Output + Drop, P: FileStore<R, W>>(
     store: &P,
     job: &Job<'a>,
 ) -> Result<Prepared<'a, R, W>, ProgramFault<'a>>
-    ensures room { IfOk result (λ prepared. vec_len prepared.room + vec_len prepared.sheets ≤ vec_capacity prepared.room) }
+    ensures lists { IfOk result (λ prepared.
+        AreNamesOf R.Read (P.is_opened store.now) (task_of job.now) built.now prepared.list.lines.items) }
+    ensures named { IfOk result (λ prepared. map sheet_name prepared.sheets.items ≡ (task_of job.now).files) }
+    ensures made { IfOk result (λ prepared. All (IsNewSheet W.Output (P.is_opened store.now) (P.is_made store.now)
+        (task_of job.now)) prepared.sheets.items) }
+    ensures room { IfOk result (λ prepared. (prepared.room.items ≡ [])
+        × (vec_len prepared.sheets ≤ vec_capacity prepared.room)) }
     ensures status { IfErr result (λ why. fault_status why ≡ 3) }
     ensures none { IfErr result (λ why. request_fault_in why ≡ None) }
 {
@@ -342,6 +237,30 @@ fn prepare<'a, R: Read + Drop, W: Output + Drop, P: FileStore<R, W>>(
     }
 }
 
+/// Converts what standard input gives.
+fn run_input<'a, R: Read + Drop, W: Output + Drop, E: Output>(
+    alloc: Global,
+    list: &NameList,
+    job: &Job<'a>,
+    input: R,
+    output: W,
+    errors: &mut E,
+) -> Outcome<'a, W>
+    requires { IsTask (task_of job.now) }
+    ensures answered { IsInputConverted R.Read W.Output E.Output (task_of job.now) list.now.lines.items result.status
+        input output result.output errors.old errors.new }
+    ensures none { result.sheets.items ≡ [] }
+    ensures statuses { (result.status ≡ 0) ⊎ (result.status ≡ 1) }
+    ensures errors_mark { E.own_mark errors.new ≡ E.own_mark errors.old }
+{
+    let ended = convert_input(alloc, list, job, input, output, errors);
+    Outcome {
+        status: status_of(ended.is_complete()),
+        output: ended.output,
+        sheets: Vec::new(alloc),
+    }
+}
+
 /// Does what a job asks for.
 fn run_job<'a, R: Read + Drop, W: Output + Drop, P: FileStore<R, W>, E: Output>(
     alloc: Global,
@@ -351,7 +270,21 @@ fn run_job<'a, R: Read + Drop, W: Output + Drop, P: FileStore<R, W>, E: Output>(
     output: W,
     store: &P,
     errors: &mut E,
-) -> Outcome<'a, R, W>
+) -> Outcome<'a, W>
+    requires { IsTask (task_of job.now) }
+    ensures input { result.status ≤ 1 → (task_of job.now).files ≡ [] → (lines : List NameLineValue)
+        × AreNamesOf R.Read (P.is_opened store.now) (task_of job.now) built.now lines
+        × (result.sheets.items ≡ [])
+        × IsInputConverted R.Read W.Output E.Output (task_of job.now) lines result.status input output result.output
+        errors.old errors.new }
+    ensures files { result.status ≤ 1 → (task_of job.now).files ≢ [] → (lines : List NameLineValue)
+        × AreNamesOf R.Read (P.is_opened store.now) (task_of job.now) built.now lines
+        × (result.output ≡ output)
+        × (map ended_name result.sheets.items ≡ (task_of job.now).files)
+        × All (IsEndedSheet R.Read W.Output (P.is_opened store.now) (P.is_made store.now) (task_of job.now) lines)
+        result.sheets.items
+        × ((result.status ≡ 0) ↔ All (λ sheet. is_complete sheet ≡ true) result.sheets.items)
+        × AreReported E.Output (task_of job.now) result.sheets.items errors.old errors.new }
     ensures statuses { (result.status ≡ 0) ⊎ (result.status ≡ 1) ⊎ (result.status ≡ 3) }
     ensures untouched { result.status ≡ 3 → result.output ≡ output }
     ensures reported { result.status ≡ 3 → E.has_failed errors.new ≡ false → (arguments : List (List ℕ))
@@ -363,11 +296,11 @@ fn run_job<'a, R: Read + Drop, W: Output + Drop, P: FileStore<R, W>, E: Output>(
         Err(why) => return refuse(alloc, output, errors, &why),
     };
     if job.files.is_empty() {
-        return convert_input(alloc, &list, job, input, output, errors);
+        return run_input(alloc, &list, job, input, output, errors);
     }
     let ended = convert_all(alloc, &list, job, sheets, room, errors);
     Outcome {
-        status: status_of(are_whole(ended.as_slice())),
+        status: status_of(are_complete(ended.as_slice())),
         output,
         sheets: ended,
     }
@@ -380,7 +313,8 @@ fn run_job<'a, R: Read + Drop, W: Output + Drop, P: FileStore<R, W>, E: Output>(
 /// The status is
 ///
 /// - 0 where all sheets were converted, refused dates included, or a page was printed;
-/// - 1 where a sheet broke off, with a line for each such sheet in order, or the page could not be printed;
+/// - 1 where a sheet broke off, with a line for each such sheet in order, where there was no memory for a line, or where
+///   the page could not be printed;
 /// - 2 where the arguments were refused, with one line of the program's own or the text of clap;
 /// - 3 where a file could not be opened or made, an output would go to an input or to the file of another output, the list
 ///   of names is none, or memory ran out before the first sheet was read, with one line.
@@ -395,11 +329,21 @@ pub fn answer<'a, R: Read + Drop, W: Output + Drop, P: FileStore<R, W>, E: Outpu
     output: W,
     store: &P,
     errors: &mut E,
-) -> Outcome<'a, R, W>
+) -> Outcome<'a, W>
     // The bytes of what is written to are known, so that no clause on them is empty; there are none yet, and nothing has
     // failed.
     requires fresh { IsFresh W.Output output }
     requires fresh_errors { IsFresh E.Output errors.old }
+
+    // The arguments ask for a page, which was printed; or for the sheet of standard input; or for those of files.
+    ensures answered { result.status ≤ 1
+        → IsPageAnswered W.Output E.Output (map string_bytes arguments.entry.now) result.status
+        output result.output result.sheets.items errors.old errors.new
+        ⊎ IsInputAnswered R.Read W.Output E.Output (P.is_opened store.now) (map string_bytes arguments.entry.now)
+        built.now result.status input output result.output result.sheets.items errors.old errors.new
+        ⊎ AreFilesAnswered R.Read W.Output E.Output (P.is_opened store.now) (P.is_made store.now)
+        (map string_bytes arguments.entry.now) built.now result.status output result.output result.sheets.items
+        errors.old errors.new }
 
     // Unless the status is 3, arguments are refused exactly where something is wrong with them.
     ensures refused { result.status ≢ 3 → (result.status ≡ 2) ↔ AreWrong (map string_bytes arguments.entry.now) }

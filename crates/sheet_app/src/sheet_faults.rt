@@ -1,9 +1,14 @@
 //! Why a sheet breaks off.
 
+ghost use Rattle.std.specs.Prelude.{◌≡◌, ◌++◌, OnOk, codes};
+ghost use Rattle.csv.specs.Records.{fields_of};
+ghost use Rattle.sheet_app.specs.Lines.{listed_at, told};
+ghost use Rattle.sheet_app.specs.SheetFaults.{IsOfColumns};
+
 use crate::columns::ColumnFault;
-use crate::head_records::field_at;
 use csv::ByteRecord;
-use register_sheets::SheetCause;
+use register_records::OutputFault;
+use register_sheets::{SheetCause, field_at};
 use std::alloc::{AllocError, Global};
 
 /// How many names of a sheet are told.
@@ -37,29 +42,59 @@ impl From<AllocError> for SheetFault<'_> {
     }
 }
 
-/// The fault for a cause.
-pub fn fault_of<'a>(cause: SheetCause) -> SheetFault<'a> {
-    match cause {
-        SheetCause::NoMemory => SheetFault::OutOfMemory,
-        SheetCause::SinkFault => SheetFault::Unwritten,
-        SheetCause::NoNames => SheetFault::NoNames,
-        SheetCause::TooManyRecords => SheetFault::TooManyRecords,
+impl From<OutputFault> for SheetFault<'_> {
+    ghost use Rattle.std.specs.Prelude.{◌≡◌};
+    ghost use Rattle.sheet_app.specs.declared.sheet_faults.SheetFault.TheVariants.{Unwritten};
+
+    ghost from_gives = { λ error fault. fault ≡ Unwritten };
+
+    fn from(_error: OutputFault) -> Self {
+        SheetFault::Unwritten
+    }
+}
+
+impl From<SheetCause> for SheetFault<'_> {
+    ghost use Rattle.std.specs.Prelude.{◌≡◌};
+    ghost use Rattle.sheet_app.specs.SheetFaults.{fault_by};
+
+    ghost from_gives = { λ cause fault. fault ≡ fault_by cause };
+
+    fn from(cause: SheetCause) -> Self {
+        match cause {
+            SheetCause::NoMemory => SheetFault::OutOfMemory,
+            SheetCause::SinkFault => SheetFault::Unwritten,
+            SheetCause::NoNames => SheetFault::NoNames,
+            SheetCause::TooManyRecords => SheetFault::TooManyRecords,
+        }
     }
 }
 
 /// The fault for columns that are not found in a sheet with these names.
-pub fn fault_of_columns<'a>(fault: ColumnFault<'a>, names: ByteRecord) -> SheetFault<'a> {
+pub fn fault_of_columns<'a>(fault: ColumnFault<'a>, names: ByteRecord) -> SheetFault<'a>
+    ensures { IsOfColumns result }
+{
     match fault {
         ColumnFault::OutOfMemory => SheetFault::OutOfMemory,
         ColumnFault::NoColumn(word) => SheetFault::NoColumn { word, names },
     }
 }
 
+/// Adds the text at an index of a list to a line: behind a comma and a space, unless it is the first.
+pub fn push_listed(line: &mut Vec<u8>, index: usize, text: &[u8]) -> Result<(), AllocError>
+    ensures { OnOk result (line.new.items ≡ line.old.items ++ listed_at index text.now) }
+{
+    if index > 0 {
+        line.extend_from_slice(b", ")?;
+    }
+    line.extend_from_slice(text)
+}
+
 /// Adds the first names of a sheet to a line, with a comma between two, and dots where there are more.
-fn push_names(line: &mut Vec<u8>, names: &ByteRecord) -> Result<(), AllocError> {
-    'names: for place in 0..names.len().min(NAMES_TOLD) {
-        line.extend_from_slice(if place == 0 { b" " } else { b", " })?;
-        line.extend_from_slice(field_at(names, place))?;
+fn push_names(line: &mut Vec<u8>, names: &ByteRecord) -> Result<(), AllocError>
+    ensures { OnOk result (line.new.items ≡ line.old.items ++ told (fields_of names.now)) }
+{
+    'names: for index in 0..names.len().min(NAMES_TOLD) {
+        push_listed(line, index, field_at(names, index))?;
     }
     if names.len() > NAMES_TOLD {
         line.extend_from_slice(b", ..")?;
@@ -67,22 +102,32 @@ fn push_names(line: &mut Vec<u8>, names: &ByteRecord) -> Result<(), AllocError> 
     Ok(())
 }
 
+/// Adds to a line that a sheet has no column of this word, and its names.
+fn push_no_column(line: &mut Vec<u8>, word: &str, names: &ByteRecord) -> Result<(), AllocError>
+    ensures { OnOk result (line.new.items ≡ line.old.items
+        ++ (codes "no column " ++ (word.now ++ (codes ": the columns are " ++ told (fields_of names.now))))) }
+{
+    line.extend_from_slice(b"no column ")?;
+    line.extend_from_slice(word.as_bytes())?;
+    line.extend_from_slice(b": the columns are ")?;
+    push_names(line, names)
+}
+
 impl SheetFault<'_> {
+    ghost use Rattle.std.specs.Prelude.{◌≡◌, ◌++◌, OnOk};
+    ghost use Rattle.sheet_app.specs.Lines.{fault_text};
+
     /// Adds to a line why the sheet breaks off.
-    pub fn push_to(&self, line: &mut Vec<u8>) -> Result<(), AllocError> {
-        let why: &[u8] = match self {
-            SheetFault::OutOfMemory => b"out of memory",
-            SheetFault::Unread => b"cannot be read",
-            SheetFault::Unwritten => b"cannot write what comes of it",
-            SheetFault::NoNames => b"no record with names",
-            SheetFault::TooManyRecords => b"more than 1000000 records",
-            SheetFault::NoColumn { word, names } => {
-                line.extend_from_slice(b"no column ")?;
-                line.extend_from_slice(word.as_bytes())?;
-                line.extend_from_slice(b": the columns are")?;
-                return push_names(line, names);
-            }
-        };
-        line.extend_from_slice(why)
+    pub fn push_to(&self, line: &mut Vec<u8>) -> Result<(), AllocError>
+        ensures { OnOk result (line.new.items ≡ line.old.items ++ fault_text self.now) }
+    {
+        match self {
+            SheetFault::OutOfMemory => line.extend_from_slice(b"out of memory"),
+            SheetFault::Unread => line.extend_from_slice(b"cannot be read"),
+            SheetFault::Unwritten => line.extend_from_slice(b"cannot write what comes of it"),
+            SheetFault::NoNames => line.extend_from_slice(b"no record with names"),
+            SheetFault::TooManyRecords => line.extend_from_slice(b"more than 1000000 records"),
+            SheetFault::NoColumn { word, names } => push_no_column(line, word, names),
+        }
     }
 }

@@ -1,17 +1,27 @@
 //! What comes of a sheet.
 
+ghost use Rattle.std.specs.Prelude.{◌≡◌, ◌≤◌, ◌⊎◌, List, IfErr, IfOk, OnOk, length, true};
+ghost use Rattle.csv.specs.Records.{fields_of};
+ghost use Rattle.register_records.specs.Entries.{text_records};
+ghost use Rattle.register_records.specs.Sources.{Gains};
+ghost use Rattle.register_sheets.specs.AskedOfSheets.{IsChoice, IsChoiceBy, asked_in};
+ghost use Rattle.register_sheets.specs.Converted.{IsWholeSheet};
+ghost use Rattle.register_sheets.specs.declared.name_lists.NameLine.{NameLine as NameLineValue};
+ghost use Rattle.sheet_arguments.specs.Requests.{task_of};
+ghost use Rattle.sheet_app.specs.SheetFaults.{IsOfColumns};
+ghost use Rattle.sheet_app.specs.SheetViews.{AsksFor, IsEndedBy, IsTask, MakesChoices};
+ghost use Rattle.sheet_app.specs.Sheets.{IsAskedOf, IsBrokenBy, IsEnded, IsListBy, names_of, records_by};
+
 use crate::columns::{dates_named, id_named};
-use crate::head_records::head_record;
-use crate::sheet_faults::{SheetFault, fault_of, fault_of_columns};
+use crate::sheet_faults::{SheetFault, fault_of_columns};
 use csv::ByteRecord;
 use register_records::{Output, send};
 use register_sheets::{
-    AskedColumn, DateColumn, IdField, MAX_DATES, NameList, SheetCause, SheetChoice, SheetEnd,
-    SheetSetup, Unknown, convert_sheet, headings, unknown_names, write_register,
+    AskedByNames, AskedOfSheet, MAX_DATES, NameList, SheetCause, SheetEnd, SheetSetup,
+    convert_sheet, head_record, unknown_names, write_register,
 };
 use sheet_arguments::Job;
-use std::alloc::{AllocError, Global};
-use written_dates::{CalendarName, CalendarNames, Choice, Name, Names};
+use std::alloc::Global;
 
 /// The most names that a list of those that are not known has.
 const MOST_UNKNOWN: usize = 1000;
@@ -32,225 +42,216 @@ pub struct WholeSheet {
 /// How a sheet ended.
 #[derive(Drop)]
 pub enum SheetDone<'a> {
-    /// It was converted to its end.
+    /// It was converted to its end, with its registers.
     Whole(WholeSheet),
+    /// It was converted to its end, and what else was asked for broke off.
+    WholeBut(SheetFault<'a>),
     /// The names that are not known are listed.
     Listed,
     /// It broke off.
     Broken(SheetFault<'a>),
 }
 
-/// Where the columns are that are asked for.
-#[derive(Drop)]
-struct Places {
-    id: IdField,
-    dates: Vec<DateColumn>,
-}
-
-/// Where the columns are in a sheet with these names.
-fn places_in<'a>(
+/// What a job asks of a sheet with these names.
+fn asked_by_names<'a>(
     alloc: Global,
     names: ByteRecord,
     job: &Job<'a>,
-) -> Result<Places, SheetFault<'a>> {
+) -> Result<AskedOfSheet, SheetFault<'a>>
+    ensures asked { IfOk result (λ asked. IsAskedOf (task_of job.now) (fields_of names) (asked_in asked)) }
+    ensures fault { IfErr result IsOfColumns }
+{
     let id = match id_named(&names, job.id) {
         Ok(id) => id,
         Err(fault) => return Err(fault_of_columns(fault, names)),
     };
-    match dates_named(alloc, &names, job) {
-        Ok(dates) => Ok(Places { id, dates }),
-        Err(fault) => Err(fault_of_columns(fault, names)),
-    }
+    let dates = match dates_named(alloc, &names, job) {
+        Ok(dates) => dates,
+        Err(fault) => return Err(fault_of_columns(fault, names)),
+    };
+    Ok(AskedOfSheet {
+        delimiter: job.delimiter,
+        above: job.skip,
+        id,
+        reading: job.reading,
+        dates,
+        columns: job.columns.as_slice().to_vec(alloc)?,
+    })
 }
 
-/// Where the columns are in a sheet.
-fn places_of<'a>(alloc: Global, sheet: &[u8], job: &Job<'a>) -> Result<Places, SheetFault<'a>> {
+/// What a job asks of a sheet.
+fn asked_of<'a>(alloc: Global, sheet: &[u8], job: &Job<'a>) -> Result<AskedOfSheet, SheetFault<'a>>
+    ensures asked { IfOk result (λ asked. IsAskedOf (task_of job.now) (names_of (task_of job.now) sheet.now)
+        (asked_in asked)) }
+    ensures fault { IfErr result (λ fault. IsOfColumns fault ⊎ ((fault ≡ SheetFault.NoNames)
+        × (length (text_records job.now.delimiter sheet.now) ≤ job.now.skip))) }
+{
     match head_record(alloc, sheet, job.delimiter, job.skip)? {
-        Some(names) => places_in(alloc, names, job),
+        Some(names) => asked_by_names(alloc, names, job),
         None => Err(SheetFault::NoNames),
     }
 }
 
-/// The bytes of texts.
-fn slices_of(alloc: Global, texts: &[Vec<u8>]) -> Result<Vec<&[u8]>, AllocError> {
-    let mut slices = Vec::new(alloc);
-    'texts: for text in texts {
-        slices.push(text.as_slice())?;
-    }
-    Ok(slices)
-}
-
-/// What is asked of a sheet.
-#[derive(Drop)]
-struct Asked {
-    delimiter: u8,
-    above: u32,
-    reading: Choice,
-    columns: Vec<AskedColumn>,
-    places: Places,
-}
-
-/// What is asked of a sheet, and what it is read by.
-// In one struct, since the borrow checker has one reference to what a setup is made of.
-#[derive(Drop)]
-struct Known<'a> {
-    asked: Asked,
-    names: Names<'a>,
-    calendars: CalendarNames<'a>,
-    headings: Vec<&'a [u8]>,
-}
-
-/// What is asked of a sheet, with what it is read by: these names and headings.
-fn known_by<'a>(
-    alloc: Global,
-    asked: Asked,
-    names: &'a [Name<'a>],
-    calendars: &'a [CalendarName<'a>],
-    headings: &'a [Vec<u8>],
-) -> Result<Known<'a>, AllocError> {
-    Ok(Known {
-        asked,
-        names: Names::layered(alloc, names)?,
-        calendars: CalendarNames::layered(alloc, calendars)?,
-        headings: slices_of(alloc, headings)?,
-    })
-}
-
 /// The setup of what is asked of a sheet.
-fn setup_of<'a>(known: &'a Known<'a>) -> Result<SheetSetup<'a>, SheetCause> {
-    let setup = SheetSetup::new(SheetChoice {
-        delimiter: known.asked.delimiter,
-        above: known.asked.above,
-        id: known.asked.places.id,
-        dates: known.asked.places.dates.as_slice(),
-        columns: known.asked.columns.as_slice(),
-        headings: known.headings.as_slice(),
-        reading: known.asked.reading,
-        names: &known.names,
-        calendars: &known.calendars,
-    });
-    match setup {
-        Ok(setup) => Ok(setup),
-        // What the arguments ask for is a choice, with as many headings as are wanted.
-        Err(_) => Err(SheetCause::NoMemory),
+fn setup_of<'a>(known: &'a AskedByNames<'a>) -> SheetSetup<'a>
+    requires { MakesChoices known.now }
+    ensures { IsChoiceBy known.now result.choice × IsChoice result.choice }
+{
+    match known.setup() {
+        Ok(setup) => setup,
+        Err(_) => unreachable!(),
     }
-}
-
-/// How many dates were stopped by names that are not known.
-fn stopped_by(unknown: &Unknown) -> u64 {
-    let mut stopped = unknown.more;
-    'names: for name in &unknown.names {
-        stopped = stopped.saturating_add(name.count);
-    }
-    stopped
 }
 
 /// Writes the list of the names in a sheet that are not known.
-fn list_unknown<W: Output>(
+fn list_unknown<'b, W: Output>(
     alloc: Global,
     sheet: &[u8],
-    known: &Known,
+    setup: &SheetSetup,
     output: &mut W,
-) -> Result<(), SheetCause> {
-    let setup = setup_of(known)?;
-    let unknown = unknown_names(alloc, sheet, &setup, MOST_UNKNOWN)?;
+) -> Result<(), SheetFault<'b>>
+    ensures whole { OnOk result (Gains (W.contents output.old) (W.contents output.new)
+        (IsListBy setup.now.choice MOST_UNKNOWN sheet.now)) }
+    ensures flushed { OnOk result (W.is_flushed output.new ≡ true) }
+    ensures broken { IfErr result (IsBrokenBy W.Output setup.now.choice sheet.now output.old output.new) }
+{
+    let unknown = unknown_names(alloc, sheet, setup, MOST_UNKNOWN)?;
     let text = unknown.text(alloc)?;
     send(output, text.as_slice())?;
     Ok(())
+}
+
+/// Writes the sheet with the columns asked. Returns how many records it has, and how many were refused for each column of
+/// dates.
+fn write_sheet<'b, W: Output>(
+    alloc: Global,
+    sheet: &[u8],
+    setup: &SheetSetup,
+    output: &mut W,
+) -> Result<(u32, [u32; MAX_DATES]), SheetFault<'b>>
+    ensures whole { IfOk result (λ made. Gains (W.contents output.old) (W.contents output.new)
+        (IsWholeSheet setup.now.choice (records_by setup.now.choice sheet.now) made.0 made.1)) }
+    ensures flushed { OnOk result (W.is_flushed output.new ≡ true) }
+    ensures broken { IfErr result (IsBrokenBy W.Output setup.now.choice sheet.now output.old output.new) }
+{
+    match convert_sheet(alloc, sheet, setup, output) {
+        SheetEnd::Whole { rows, refused } => Ok((rows, refused)),
+        SheetEnd::Broken { cause } => Err(SheetFault::from(cause)),
+    }
 }
 
 /// Writes the registers of the columns of dates.
 fn write_registers<W: Output>(
     alloc: Global,
     sheet: &[u8],
-    known: &Known,
+    setup: &SheetSetup,
     registers: &mut [W],
 ) -> Result<(), SheetCause> {
-    let setup = setup_of(known)?;
     let choice = setup.choice();
-    'registers: for place in 0..registers.len() {
-        let Some(column) = choice.dates.get(place) else {
+    'registers: for index in 0..registers.len() {
+        let Some(column) = choice.dates.get(index) else {
             return Ok(());
         };
-        write_register(alloc, sheet, &setup, column, &mut registers[place])?;
+        write_register(alloc, sheet, setup, column, &mut registers[index])?;
     }
     Ok(())
 }
 
-/// Writes the sheet with the columns asked, and says what is known of it.
-fn write_sheet<W: Output>(
+/// What is known of a whole sheet with so many records, of which so many were refused for each column of dates. Only
+/// refused dates are stopped by names or left empty: a sheet without such is not read again.
+fn known_of(
     alloc: Global,
     sheet: &[u8],
-    known: &Known,
-    output: &mut W,
-) -> Result<WholeSheet, SheetCause> {
-    let setup = setup_of(known)?;
-    let (records, refused) = match convert_sheet(alloc, sheet, &setup, output) {
-        SheetEnd::Whole { rows, refused } => (rows, refused),
-        SheetEnd::Broken { cause } => return Err(cause),
+    setup: &SheetSetup,
+    records: u32,
+    refused: [u32; MAX_DATES],
+) -> Result<WholeSheet, SheetCause>
+    ensures records { IfOk result (λ whole. whole.records ≡ records) }
+    ensures refused { IfOk result (λ whole. whole.refused ≡ refused) }
+{
+    let (stopped, short) = if refused == [0; MAX_DATES] {
+        (0, 0)
+    } else {
+        let unknown = unknown_names(alloc, sheet, setup, 0)?;
+        (unknown.more, unknown.short)
     };
-    let unknown = unknown_names(alloc, sheet, &setup, MOST_UNKNOWN)?;
     Ok(WholeSheet {
         records,
         refused,
-        stopped: stopped_by(&unknown),
-        short: unknown.short,
+        stopped,
+        short,
     })
 }
 
-/// Writes what is asked of a sheet.
+/// Writes the registers of a whole sheet, and says what is known of it.
+fn complete<W: Output>(
+    alloc: Global,
+    sheet: &[u8],
+    setup: &SheetSetup,
+    registers: &mut [W],
+    records: u32,
+    refused: [u32; MAX_DATES],
+) -> Result<WholeSheet, SheetCause>
+    ensures records { IfOk result (λ whole. whole.records ≡ records) }
+    ensures refused { IfOk result (λ whole. whole.refused ≡ refused) }
+{
+    write_registers(alloc, sheet, setup, registers)?;
+    known_of(alloc, sheet, setup, records, refused)
+}
+
+/// Writes what a job asks of a sheet, by what is known.
 fn write_known<'b, W: Output>(
     alloc: Global,
     sheet: &[u8],
-    known: &Known,
-    unknown: bool,
+    known: &AskedByNames,
+    job: &Job<'b>,
     output: &mut W,
     registers: &mut [W],
-) -> Result<SheetDone<'b>, SheetCause> {
-    if unknown {
-        list_unknown(alloc, sheet, known, output)?;
+) -> Result<SheetDone<'b>, SheetFault<'b>>
+    requires { MakesChoices known.now }
+    ensures { (lines : List NameLineValue) → AsksFor (task_of job.now) lines sheet.now known.now
+        → IsEndedBy W.Output (task_of job.now) lines MOST_UNKNOWN sheet.now output.old output.new result }
+{
+    let setup = setup_of(known);
+    if job.unknown {
+        list_unknown(alloc, sheet, &setup, output)?;
         return Ok(SheetDone::Listed);
     }
-    let whole = write_sheet(alloc, sheet, known, output)?;
-    write_registers(alloc, sheet, known, registers)?;
-    Ok(SheetDone::Whole(whole))
+    let (records, refused) = write_sheet(alloc, sheet, &setup, output)?;
+    match complete(alloc, sheet, &setup, registers, records, refused) {
+        Ok(whole) => Ok(SheetDone::Whole(whole)),
+        Err(cause) => Ok(SheetDone::WholeBut(SheetFault::from(cause))),
+    }
 }
 
-/// Writes what is asked of a sheet, by the names of a list.
+/// Writes what a job asks of a sheet, by the names of a list.
 fn write_asked<'b, W: Output>(
     alloc: Global,
     sheet: &[u8],
     list: &NameList,
-    asked: Asked,
-    unknown: bool,
+    job: &Job<'b>,
     output: &mut W,
     registers: &mut [W],
-) -> Result<SheetDone<'b>, SheetCause> {
+) -> Result<SheetDone<'b>, SheetFault<'b>>
+    requires { IsTask (task_of job.now) }
+    ensures { IsEndedBy W.Output (task_of job.now) list.now.lines.items MOST_UNKNOWN sheet.now output.old output.new
+        result }
+{
+    let asked = asked_of(alloc, sheet, job)?;
     let names = list.names(alloc)?;
     let calendars = list.calendar_names(alloc)?;
-    let headings = headings(
-        alloc,
-        sheet,
-        asked.delimiter,
-        asked.above,
-        asked.places.dates.as_slice(),
-        asked.columns.as_slice(),
-    )?;
-    let known = known_by(
+    let headings = asked.headings(alloc, sheet)?;
+    let known = AskedByNames::new(
         alloc,
         asked,
         names.as_slice(),
         calendars.as_slice(),
         headings.as_slice(),
     )?;
-    write_known(alloc, sheet, &known, unknown, output, registers)
+    write_known(alloc, sheet, &known, job, output, registers)
 }
 
-/// Writes what a job asks of a sheet, by the names of a list.
-///
-/// # Errors
-///
-/// Why it broke off.
+/// Writes what a job asks of a sheet, by the names of a list, and returns how it has ended.
 pub fn convert_text<'b, W: Output>(
     alloc: Global,
     sheet: &[u8],
@@ -258,17 +259,13 @@ pub fn convert_text<'b, W: Output>(
     job: &Job<'b>,
     output: &mut W,
     registers: &mut [W],
-) -> Result<SheetDone<'b>, SheetFault<'b>> {
-    let places = places_of(alloc, sheet, job)?;
-    let asked = Asked {
-        delimiter: job.delimiter,
-        above: job.skip,
-        reading: job.reading,
-        columns: job.columns.as_slice().to_vec(alloc)?,
-        places,
-    };
-    match write_asked(alloc, sheet, list, asked, job.unknown, output, registers) {
-        Ok(done) => Ok(done),
-        Err(cause) => Err(fault_of(cause)),
+) -> SheetDone<'b>
+    requires { IsTask (task_of job.now) }
+    ensures { IsEnded W.Output (task_of job.now) list.now.lines.items MOST_UNKNOWN sheet.now output.old output.new
+        result }
+{
+    match write_asked(alloc, sheet, list, job, output, registers) {
+        Ok(done) => done,
+        Err(fault) => SheetDone::Broken(fault),
     }
 }

@@ -5,7 +5,7 @@ ghost use Rattle.register_files.specs.LoggedWriters.{logged_bytes};
 
 use register_files::{FileStore, LoggedWriter};
 use register_records::PlainOutput;
-use sheet_app::{FileSheet, Outcome, answer};
+use sheet_app::{EndedSheet, Outcome, answer};
 use std::alloc::{AllocError, Global};
 use std::io;
 use std::io::ErrorKind;
@@ -88,7 +88,7 @@ fn answered<'a>(
     arguments: &'a [String],
     input: Input,
     errors: &mut Written,
-) -> Outcome<'a, Input, Written>
+) -> Outcome<'a, Written>
     requires { (logged_bytes errors.old.inner ≡ []) × (errors.old.failed ≡ false) }
 {
     let output = PlainOutput::new(LoggedWriter::new(Vec::new(alloc)), 0);
@@ -111,7 +111,7 @@ fn bytes_of(output: Written) -> Vec<u8> {
 /// What stands in the outputs of sheets.
 fn texts_of(
     alloc: Global,
-    sheets: Vec<FileSheet<'_, Input, Written>>,
+    sheets: Vec<EndedSheet<'_, Written>>,
 ) -> Result<Vec<Vec<u8>>, AllocError> {
     let mut texts = Vec::new(alloc);
     for sheet in sheets {

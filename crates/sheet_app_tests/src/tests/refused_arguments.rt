@@ -33,14 +33,8 @@ const REFUSED: [Refused; 21] = [
         arguments: &["--date=1", "--all=iso", "--short-hebrew-years=4000"],
         reported: "register-sheet: bad short Hebrew years: 4000\n",
     },
-    Refused {
-        arguments: &["--date=1", "--all=iso", "--skip=-1"],
-        reported: "register-sheet: bad number of records to skip: -1\n",
-    },
-    Refused {
-        arguments: &["--date=1", "--all=iso", "--skip=00"],
-        reported: "register-sheet: bad number of records to skip: 00\n",
-    },
+    Refused { arguments: &["--date=1", "--all=iso", "--skip=-1"], reported: "register-sheet: bad number of records to skip: -1\n" },
+    Refused { arguments: &["--date=1", "--all=iso", "--skip=00"], reported: "register-sheet: bad number of records to skip: 00\n" },
     Refused { arguments: &["--date=1", "--all=iso", "--delimiter=,"], reported: "register-sheet: unknown delimiter: ,\n" },
     Refused { arguments: &["--date=1", "--all=iso", "--to=rd,"], reported: "register-sheet: unknown column: \n" },
     Refused { arguments: &["--date=1", "--all=iso", "--to=rd,iso, RD"], reported: "register-sheet: column named twice: rd\n" },

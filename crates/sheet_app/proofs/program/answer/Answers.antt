@@ -1,12 +1,68 @@
 -- Arguments that ask for something have no fault beside it, and arguments that are refused have one.
-use Rattle.std.proofs.Common.{◌≤◌, ◌⊎◌, ◌≡◌, ℕ, rules, arith, inl, inr, map, subst}
+use Rattle.std.proofs.Common.{◌≤◌, ◌⊎◌, ◌≡◌, ℕ, rules, arith, inl, inr, map, refl, subst}
 use Rattle.std.specs.String.{string_bytes}
 use Rattle.command_lines.specs.Meanings.{help, version, work}
 use Rattle.sheet_arguments.specs.Requests.{MeanJust, meaning_of, task_of}
 use Rattle.sheet_arguments.specs.declared.requests.Request.{Request}
 use Rattle.sheet_arguments.specs.Faults.{fault_of_error}
+use Rattle.sheet_app.specs.Answers.{version_line}
+use Rattle.sheet_app.proofs.ListLemmas.{none_or_some}
 use Rattle.sheet_app.proofs.RefusedLemmas.{is_refused, is_wrong, never_refused}
 use Rattle.sheet_app.proofs.program.answer.Goals as goal
+
+pub returns-in-Ok-Help-clause-answered : goal.returns-in-Ok-Help-clause-answered
+returns-in-Ok-Help-clause-answered g c = λ low.
+    let just : MeanJust (map string_bytes c.args.arguments.now) help
+    = subst (λ (r : Request). MeanJust (map string_bytes c.args.arguments.now) (meaning_of r)) c.in-Ok-Help.field-0-is
+    c.in-Ok-Help.ensures.asked in
+    inl (_, inl (just, refl), c.print_page.ensures.printed, c.print_page.ensures.none)
+
+pub returns-in-Ok-Version-clause-answered : goal.returns-in-Ok-Version-clause-answered
+returns-in-Ok-Version-clause-answered g c = λ low.
+    let just : MeanJust (map string_bytes c.args.arguments.now) version
+    = subst (λ (r : Request). MeanJust (map string_bytes c.args.arguments.now) (meaning_of r)) c.in-Ok-Version.field-0-is
+    c.in-Ok-Version.ensures.asked in
+    let is : c.as_str.result.now ≡ version_line = search rules in
+    inl (
+      c.as_str.result.now,
+      inr (just, is),
+      c.print_page-in-Ok-Version.ensures.printed,
+      c.print_page-in-Ok-Version.ensures.none,
+    )
+
+pub returns-in-Ok-Convert-clause-answered : goal.returns-in-Ok-Convert-clause-answered
+returns-in-Ok-Convert-clause-answered g c = λ low.
+    let job = c.in-Ok-Convert.job in
+    let just : MeanJust (map string_bytes c.args.arguments.now) (work (task_of job))
+    = subst (λ (r : Request). MeanJust (map string_bytes c.args.arguments.now) (meaning_of r)) c.in-Ok-Convert.field-0-is
+    c.in-Ok-Convert.ensures.asked in
+    elim (none_or_some (task_of job).files) [
+      | inl none ↦
+          let (lines, named, no_sheets, converted) = c.run_job.ensures.input low none in
+          inr (inl (record {
+            task = task_of job;
+            lines = lines;
+            asked = just;
+            no_files = none;
+            named = named;
+            no_sheets = no_sheets;
+            converted = converted;
+          }))
+      | inr some ↦
+          let (lines, named, untouched, of_files, ended, complete, reported) = c.run_job.ensures.files low some in
+          inr (inr (record {
+            task = task_of job;
+            lines = lines;
+            asked = just;
+            some_files = some;
+            named = named;
+            untouched = untouched;
+            of_files = of_files;
+            ended = ended;
+            complete = complete;
+            reported = reported;
+          }))
+    ]
 
 pub returns-in-Ok-Help-clause-refused : goal.returns-in-Ok-Help-clause-refused
 returns-in-Ok-Help-clause-refused g c =

@@ -1,0 +1,87 @@
+-- The lines on sheets.
+use Rattle.std.proofs.Common.{◌≡◌, ◌<◌, ◌+◌, ◌∙◌, ◌++◌, ◌∷◌, ℕ, zero, suc, List, [], Bool, Option, Some, None, ap, append_assoc}
+use Rattle.std.proofs.Common.{append-nil, arith}
+use Rattle.std.proofs.Common.{◌&&◌, codes, false, get_or, length, refl, sym, take, true}
+use Rattle.std.specs.Io.KnownBytes.{Appends}
+use Rattle.std.specs.List.{flat_map}
+use Rattle.std.proofs.lemmas.List.{take_more}
+use Rattle.std.proofs.lemmas.List.Concat.{flat_map-append}
+use Rattle.std.proofs.lemmas.List.Elements.{All-pop}
+use Rattle.clap.specs.Words.{Text}
+use Rattle.register_records.specs.declared.outputs.Output as outputs
+use Rattle.sheet_app.specs.EndedSheets.{AreReported, ended_lines}
+use Rattle.sheet_app.specs.Lines.{listed, listed_at}
+use Rattle.sheet_app.specs.declared.converting.EndedSheet.{EndedSheet}
+use Rattle.sheet_arguments.specs.Requests.{Task}
+use Rattle.sheet_app.specs.SheetViews.{Says}
+
+-- one text more
+listed_more : (text : Text) (texts : List Text) (one : Text)
+    → listed ((text ∷ texts) ++ one ∷ []) ≡ listed (text ∷ texts) ++ (codes ", " ++ one)
+listed_more text texts one =
+    ap (λ more. text ++ more) (flat_map-append (λ other. codes ", " ++ other) texts (one ∷ [])
+    ∙ ap (λ more. flat_map (λ other. codes ", " ++ other) texts ++ more) (append-nil (codes ", " ++ one)))
+    ∙ sym (append_assoc text (flat_map (λ other. codes ", " ++ other) texts) (codes ", " ++ one))
+
+pub text_more : (line head : Text) (texts : List Text) (i : ℕ) (text : Text) → i < length texts
+    → text ≡ get_or texts i [] → line ≡ head ++ listed (take i texts)
+    → line ++ listed_at i text ≡ head ++ listed (take (i + 1) texts)
+text_more line head [] i text within same is = absurd (omega (arith, within))
+text_more line head (first ∷ texts) zero text within same is =
+    rw (is, same) (rw (append-nil head, append-nil first) refl)
+text_more line head (first ∷ texts) (suc i) text within same is =
+    rw (is, same, take_more (first ∷ texts) (suc i) [] within, listed_more first (take i texts) (get_or texts i []))
+    (append_assoc head (listed (first ∷ take i texts)) (codes ", " ++ get_or texts i []))
+
+none_gained : (held : Option (List ℕ)) → Appends held held []
+none_gained None = tt
+none_gained (Some bytes) = sym (append-nil bytes)
+
+-- nothing was said
+pub says_nothing : {E : Type 0} (e : outputs.Ghosts E) (before : E) → Says e before before true []
+says_nothing e before = record { good = λ good. good; gained = λ said good. none_gained (e.contents before) }
+
+both_said : (one other : Bool) → (one && other) ≡ true → (one ≡ true) × (other ≡ true)
+both_said true true said = (refl, refl)
+both_said true false said = absurd (cc)
+both_said false other said = absurd (cc)
+
+pub both_gained : (a b c : Option (List ℕ)) (one other : List ℕ) → Appends a b one → Appends b c other
+    → Appends a c (one ++ other)
+both_gained None b c one other x y = tt
+both_gained (Some xs) None c one other x y = absurd x
+both_gained (Some xs) (Some ys) None one other x y = absurd y
+both_gained (Some xs) (Some ys) (Some zs) one other x y = y ∙ ap (λ l. l ++ other) x ∙ append_assoc xs one other
+
+-- two texts were said, one after the other
+pub says_both : {E : Type 0} (e : outputs.Ghosts E) (before between after : E) (one other : Bool) (x y : List ℕ)
+    → Says e before between one x → Says e between after other y
+    → Says e before after (one && other) (x ++ y)
+says_both e before between after one other x y a b = record {
+  good = λ good. a.good (b.good good);
+  gained = λ said good.
+      let (first, second) = both_said one other said in
+      both_gained (e.contents before) (e.contents between) (e.contents after) x y (a.gained first (b.good good))
+      (b.gained second good);
+}
+
+-- no sheet was reported yet
+pub none_reported : {W E : Type 0} (e : outputs.Ghosts E) (task : Task) (before : E)
+    → AreReported {W = W} e task [] before before
+none_reported e task before = record { good = λ good. good; gained = λ all good. none_gained (e.contents before) }
+
+-- one sheet more was
+pub more_reported : {W E : Type 0} (e : outputs.Ghosts E) (task : Task) (sheets new : List (EndedSheet W))
+    (sheet : EndedSheet W) (before between after : E) → new ≡ sheets ++ sheet ∷ []
+    → AreReported e task sheets before between
+    → Says e between after sheet.is_reported (ended_lines task sheet) → AreReported e task new before after
+more_reported e task sheets new sheet before between after more are says = rw more (record {
+  good = λ good. are.good (says.good good);
+  gained = λ all good.
+      let (first, last) = All-pop (λ (s : EndedSheet _). s.is_reported ≡ true) (sheets ++ sheet ∷ []) sheets (Some sheet)
+      refl all in
+      rw (flat_map-append (ended_lines task) sheets (sheet ∷ []), append-nil (ended_lines task sheet))
+      (both_gained (e.contents before) (e.contents between) (e.contents after) _ _
+      (are.gained first (says.good good))
+      (says.gained last good));
+})

@@ -1,0 +1,92 @@
+-- Items that are moved from the front of one list to the end of another.
+use Rattle.std.proofs.Common.{◌≡◌, ◌++◌, ◌∷◌, [], List, All, append_assoc, append-nil, arith, length, map, subst, sym}
+use Rattle.std.proofs.Common.{◌≢◌, ◌⊎◌, ◌∙◌, ℕ, ap₂, inl, inr, refl}
+use Rattle.std.specs.List.{AllZip}
+use Rattle.std.specs.declared.io.traits.Read as reads
+use Rattle.std.proofs.lemmas.List.{map-append}
+use Rattle.std.proofs.lemmas.List.Elements.{All-cons, All-nil, All-push, All-head, All-tail}
+use Rattle.clap.specs.Words.{Text}
+use Rattle.register_records.specs.declared.outputs.Output as outputs
+use Rattle.register_sheets.specs.declared.name_lists.NameLine.{NameLine}
+use Rattle.sheet_arguments.specs.Requests.{Task}
+use Rattle.sheet_app.specs.EndedSheets.{IsEndOf, IsEndedSheet, ended_name}
+use Rattle.sheet_app.specs.FileSheets.{IsNewSheet, sheet_name}
+use Rattle.sheet_app.specs.declared.converting.EndedSheet.{EndedSheet}
+use Rattle.sheet_app.specs.declared.file_sheets.FileSheet.{FileSheet}
+
+-- one more, where each is made into another, and both have one name
+pub made_more : {X Y Z : Type 0} (f : X → Z) (h : Y → Z) (all : List Z) (done new : List X) (one : X)
+    (left rest : List Y) (item : Y)
+    → new ≡ done ++ one ∷ [] → f one ≡ h item → left ≡ item ∷ rest → map f done ++ map h left ≡ all
+    → map f new ++ map h rest ≡ all
+made_more f h all done new one left rest item n s l e = rw (n, map-append, append_assoc, s) (rw l at e)
+
+-- once none is left, all are made
+pub all_made : {X Y Z : Type 0} (f : X → Z) (h : Y → Z) (all : List Z) (done : List X) (left : List Y) → length left ≡ 0
+    → map f done ++ map h left ≡ all → map f done ≡ all
+all_made f h all done [] e p = sym (append-nil (map f done)) ∙ p
+all_made f h all done (item ∷ left) e p = absurd (omega arith)
+
+-- what holds of each item of a list holds of each of one more
+pub each_more : {X : Type 0} (P : X → Type 0) (xs new : List X) (x : X) → new ≡ xs ++ x ∷ [] → All P xs → P x
+    → All P new
+each_more P xs new x n each one = subst (All P) (sym n) (All-push P xs x each one)
+
+-- what holds of each item that is left holds of the first, and of the others
+pub first_of_left : {X : Type 0} (P : X → Type 0) (left rest : List X) (x : X) → left ≡ x ∷ rest → All P left → P x
+first_of_left P left rest x l each = All-head P x rest (subst (All P) l each)
+
+pub others_left : {X : Type 0} (P : X → Type 0) (left rest : List X) (x : X) → left ≡ x ∷ rest → All P left → All P rest
+others_left P left rest x l each = All-tail P x rest (subst (All P) l each)
+
+pub none_or_some : {X : Type 0} (xs : List X) → (xs ≡ []) ⊎ (xs ≢ [])
+none_or_some [] = inl refl
+none_or_some (x ∷ xs) = inr (λ e. cc)
+
+-- with one item more, and its end
+zip_pushed : {X Y : Type 0} (R : X → Y → Type 0) (xs : List X) (ys : List Y) (x : X) (y : Y) → AllZip R xs ys → R x y
+    → AllZip R (xs ++ x ∷ []) (ys ++ y ∷ [])
+zip_pushed R [] [] x y zip one = (one, tt)
+zip_pushed R [] (b ∷ ys) x y zip one = absurd zip
+zip_pushed R (a ∷ xs) [] x y zip one = absurd zip
+zip_pushed R (a ∷ xs) (b ∷ ys) x y zip one = (zip.0, zip_pushed R xs ys x y zip.1 one)
+
+pub zip_more : {X Y : Type 0} (R : X → Y → Type 0) (all xs left rest : List X) (ys new : List Y) (x : X) (y : Y)
+    → new ≡ ys ++ y ∷ [] → left ≡ x ∷ rest → xs ++ left ≡ all → AllZip R xs ys → R x y
+    → (taken : List X) × (taken ++ rest ≡ all) × AllZip R taken new
+zip_more R all xs left rest ys new x y n s e zip one =
+    (xs ++ x ∷ [], rw append_assoc (rw s at e), rw n (zip_pushed R xs ys x y zip one))
+
+pub zip_all : {X Y : Type 0} (R : X → Y → Type 0) (all xs left : List X) (ys : List Y) → length left ≡ 0
+    → xs ++ left ≡ all → AllZip R xs ys → AllZip R all ys
+zip_all R all xs [] ys none e zip = subst (λ l. AllZip R l ys) (sym (append-nil xs) ∙ e) zip
+zip_all R all xs (x ∷ left) ys none e zip = absurd (omega (arith, none))
+
+-- the sheets that were made have ended
+pub ends_named : {R W : Type 0} (r : reads.Ghosts R) (o : outputs.Ghosts W) (task : Task) (lines : List NameLine)
+    (sheets : List (FileSheet R W)) (ended : List (EndedSheet W)) → AllZip (IsEndOf r o task lines) sheets ended
+    → map ended_name ended ≡ map sheet_name sheets
+ends_named r o task lines [] [] zip = refl
+ends_named r o task lines [] (end ∷ ended) zip = absurd zip
+ends_named r o task lines (sheet ∷ sheets) [] zip = absurd zip
+ends_named r o task lines (sheet ∷ sheets) (end ∷ ended) zip =
+    ap₂ (λ (n : Text) (ns : List Text). n ∷ ns) zip.0.named (ends_named r o task lines sheets ended zip.1)
+
+pub ends_all : {R W : Type 0} (r : reads.Ghosts R) (o : outputs.Ghosts W) (IsOpened : Text → R → Type 0)
+    (IsMade : Text → ℕ → W → Type 0) (task : Task) (lines : List NameLine) (sheets : List (FileSheet R W))
+    (ended : List (EndedSheet W)) → All (IsNewSheet o IsOpened IsMade task) sheets
+    → AllZip (IsEndOf r o task lines) sheets ended → All (IsEndedSheet r o IsOpened IsMade task lines) ended
+ends_all r o IsOpened IsMade task lines [] [] new zip = All-nil _
+ends_all r o IsOpened IsMade task lines [] (end ∷ ended) new zip = absurd zip
+ends_all r o IsOpened IsMade task lines (sheet ∷ sheets) [] new zip = absurd zip
+ends_all r o IsOpened IsMade task lines (sheet ∷ sheets) (end ∷ ended) new zip =
+    let one = All-head _ sheet sheets new in
+    let name = zip.0.named in
+    All-cons _ end ended (record {
+      source = sheet.source;
+      opened = rw name one.opened;
+      given = sheet.output;
+      mark = one.mark;
+      made = rw name one.made;
+      converted = zip.0.converted;
+    }) (ends_all r o IsOpened IsMade task lines sheets ended (All-tail _ sheet sheets new) zip.1)

@@ -1,0 +1,263 @@
+-- What arguments ask for is a choice.
+use Rattle.std.proofs.Common.{◌≡◌, ◌≢◌, ◌≤◌, ◌<◌, ◌+◌, ◌*◌, ◌∙◌, ◌⊎◌, ◌++◌, ◌∷◌, ℕ, suc, Bool, List, [], Option, None}
+use Rattle.std.proofs.Common.{Some, Result, Ok, Err, ap}
+use Rattle.std.proofs.Common.{arith, false, get_or, inl, inr, length, length-append, map, refl, slice_get, subst, sym, true}
+use Rattle.std.proofs.Common.{ap₂}
+use Rattle.std.specs.Borrow.{Bor}
+use Rattle.std.specs.Prelude.{◌==◌, codes, count_by, if◌then◌else◌, nat_lt, unwrap_or}
+use Rattle.std.specs.Cmp.{IsEquivalence}
+use Rattle.std.specs.List.{AllByRecursion, IsDistinct, flat_map, list_any}
+use Rattle.std.specs.Set.{is_member}
+use Rattle.std.specs.Str.{bytes_eq}
+use Rattle.std.proofs.lemmas.Cmp.{nat_list_eq_equiv}
+use Rattle.std.proofs.lemmas.List.{length-map}
+use Rattle.std.proofs.lemmas.Map.Keys.{IsDistinct-push, apart_from_distinct}
+use Rattle.std.proofs.lemmas.Map.Made.{length-le_from_is_member}
+use Rattle.std.proofs.lemmas.Option.{unwrap_or-slice_get}
+use Rattle.clap.specs.Words.{Text}
+use Rattle.date_texts.specs.Calendars.{target_name}
+use Rattle.command_lines.specs.Values.{IsValueOf, delimiter_option}
+use Rattle.date_texts.specs.declared.calendar.Calendar.{Calendar}
+use Rattle.date_texts.specs.declared.calendar.Calendar.TheVariants as calendar
+use Rattle.date_texts.specs.declared.target.Target.{Target}
+use Rattle.date_texts.specs.declared.target.Target.TheVariants as target
+use Rattle.register_records.specs.Entries.{Fields, text_records}
+use Rattle.register_records.specs.SetupRules.{NamesTwice, is_delimiter}
+use Rattle.register_sheets.specs.AskedOfSheets.{HasHeadings, IsChoice, IsChoiceOf, SheetAsked}
+use Rattle.register_sheets.specs.Choices.{AsksOnce, asked_targets, asks_twice, column_limit, date_limit}
+use Rattle.register_sheets.specs.Choices.{is_day_number, is_weekday}
+use Rattle.register_sheets.specs.Headings.{AreHeadings, asked_name, asked_names, wanted_for, wanted_heading}
+use Rattle.register_sheets.specs.declared.choices.AskedColumn.{AskedColumn}
+use Rattle.register_sheets.specs.declared.choices.AskedColumn.TheVariants.{Cells, DayNumber, Weekday}
+use Rattle.register_sheets.specs.declared.choices.DateColumn.{DateColumn}
+use Rattle.register_sheets.specs.declared.choices.SheetChoice.{SheetChoice}
+use Rattle.sheet_arguments.specs.CommandLine.{Values}
+use Rattle.sheet_arguments.specs.Faults.{Fault, column_twice, unknown_column}
+use Rattle.sheet_arguments.specs.Requests.{Ask, Task}
+use Rattle.sheet_arguments.specs.WordLists.{all_columns, column_named, columns_asked, is_among, names_in, or_fault, with_columns}
+use Rattle.written_dates.specs.declared.meanings.Name.{Name}
+use Rattle.sheet_app.specs.SheetViews.{IsTask}
+use Rattle.sheet_app.specs.Sheets.{IsAskedOf}
+
+-- columns of one name
+alike : AskedColumn → AskedColumn → Bool
+alike a b = bytes_eq (asked_name a) (asked_name b)
+
+alike_equiv : IsEquivalence alike
+alike_equiv = record {
+  refl = λ a. nat_list_eq_equiv.refl (asked_name a);
+  symm = λ a b. nat_list_eq_equiv.symm (asked_name a) (asked_name b);
+  congr = λ a b c. nat_list_eq_equiv.congr (asked_name a) (asked_name b) (asked_name c);
+}
+
+target_alike : Target → Target → Bool
+target_alike a b = bytes_eq (target_name a) (target_name b)
+
+no_value : {B : Type 0} (fault : Fault) (b : B) → Err fault ≡ Ok b → ⊥
+no_value fault b e = cc
+
+found_next : {A B : Type 0} (fault : Fault) (found : Option A) (next : A → Result B Fault) (b : B)
+    → or_fault fault found next ≡ Ok b → (a : A) × (next a ≡ Ok b)
+found_next fault None next b is = absurd (no_value fault b is)
+found_next fault (Some a) next b is = (a, is)
+
+new_next : {B : Type 0} (among : Bool) (fault : Fault) (next : Result B Fault) (b : B)
+    → (if among then Err fault else next) ≡ Ok b → (among ≡ false) × (next ≡ Ok b)
+new_next true fault next b is = absurd (no_value fault b is)
+new_next false fault next b is = (refl, is)
+
+among_alike : (column : AskedColumn) (columns : List AskedColumn)
+    → list_any (alike column) columns ≡ is_among columns column
+among_alike column [] = refl
+among_alike column (other ∷ columns) = rw (alike_equiv.symm column other, among_alike column columns) refl
+
+-- columns that lists name are of different names
+distinct : (columns : List AskedColumn) (names : List Text) (all : List AskedColumn) → IsDistinct alike columns
+    → with_columns columns names ≡ Ok all → IsDistinct alike all
+distinct columns [] all so is = let same : columns ≡ all = cc in subst (λ l. IsDistinct alike l) same so
+distinct columns (name ∷ names) all so is =
+    let (column, found) = found_next (unknown_column name) (column_named name) (λ column.
+    if is_among columns column then Err (column_twice column) else with_columns (columns ++ column ∷ []) names) all is in
+    let (new, rest) = new_next (is_among columns column) (column_twice column) (with_columns (columns ++ column ∷ []) names)
+    all found in
+    distinct (columns ++ column ∷ []) names all
+    (IsDistinct-push alike_equiv columns column so (among_alike column columns ∙ new)) rest
+
+two_default : IsDistinct alike (Weekday ∷ Cells (target.Date calendar.Gregorian) ∷ [])
+unfolding IsDistinct
+two_default = ((refl, tt), (tt, tt))
+
+none_distinct : IsDistinct alike []
+unfolding IsDistinct
+none_distinct = tt
+
+asked_distinct : (list : Option Text) (all : List AskedColumn) → columns_asked list ≡ Ok all → IsDistinct alike all
+asked_distinct None all is =
+    let same : Weekday ∷ Cells (target.Date calendar.Gregorian) ∷ [] ≡ all = cc in
+    subst (λ l. IsDistinct alike l) same two_default
+asked_distinct (Some list) all is = distinct [] (names_in list) all none_distinct is
+
+-- each column is one of those that there are
+member : (column : AskedColumn) → is_member alike all_columns column ≡ true
+member DayNumber = refl
+member Weekday = refl
+member (Cells (target.Date calendar.Gregorian)) = refl
+member (Cells (target.Date calendar.Iso)) = refl
+member (Cells (target.Date calendar.Julian)) = refl
+member (Cells (target.Date calendar.Coptic)) = refl
+member (Cells (target.Date calendar.Ethiopic)) = refl
+member (Cells (target.Date calendar.Egyptian)) = refl
+member (Cells (target.Date calendar.Armenian)) = refl
+member (Cells (target.Date calendar.Islamic)) = refl
+member (Cells (target.Date calendar.Hebrew)) = refl
+member (Cells (target.Date calendar.Longcount)) = refl
+member (Cells (target.Date calendar.French)) = refl
+member (Cells (target.Date calendar.Roman)) = refl
+member (Cells (target.Date calendar.Republican)) = refl
+member (Cells target.Haab) = refl
+member (Cells target.Tzolkin) = refl
+
+few : (all : List AskedColumn) → IsDistinct alike all → nat_lt column_limit (length all) ≡ false
+few all so =
+    let most : length all ≤ 17 = length-le_from_is_member alike_equiv all all_columns so (λ column is. member column) in
+    grind (arith, most)
+
+not_both : (b c : Bool) → c ≡ false → (b ≡ true → c ≡ true) → b ≡ false
+not_both true c no same = absurd (let yes = same refl in cc)
+not_both false c no same = refl
+
+told : (b : Bool) → (b ≡ true) ⊎ (b ≡ false)
+told true = inl refl
+told false = inr refl
+
+-- of columns that are alike there is at most one
+no_other : (p : AskedColumn → Bool) (column : AskedColumn) (columns : List AskedColumn)
+    → ((other : AskedColumn) → p other ≡ true → alike column other ≡ true)
+    → AllByRecursion (λ other. alike column other ≡ false) columns → count_by p columns ≡ 0
+no_other p column [] same apart = refl
+no_other p column (other ∷ columns) same (no, apart) =
+    let rest = no_other p column columns same apart in
+    let none : p other ≡ false = not_both (p other) (alike column other) no (same other) in grind (arith, rest, none)
+
+at_most_one : (p : AskedColumn → Bool) (columns : List AskedColumn)
+    → ((one other : AskedColumn) → p one ≡ true → p other ≡ true → alike one other ≡ true)
+    → IsDistinct alike columns → count_by p columns ≤ 1
+unfolding IsDistinct
+at_most_one p [] both so = omega arith
+at_most_one p (column ∷ columns) both so =
+    let rest = at_most_one p columns both so.1 in
+    elim (told (p column)) [
+      | inl yes ↦
+          let none = no_other p column columns (λ other is. both column other yes is) so.0 in grind (arith, none, yes)
+      | inr no ↦ grind (arith, rest, no)
+    ]
+
+both_days : (one other : AskedColumn) → is_day_number one ≡ true → is_day_number other ≡ true → alike one other ≡ true
+both_days DayNumber DayNumber a b = refl
+both_days DayNumber Weekday a b = absurd (cc)
+both_days DayNumber (Cells target) a b = absurd (cc)
+both_days Weekday other a b = absurd (cc)
+both_days (Cells target) other a b = absurd (cc)
+
+both_weekdays : (one other : AskedColumn) → is_weekday one ≡ true → is_weekday other ≡ true → alike one other ≡ true
+both_weekdays Weekday Weekday a b = refl
+both_weekdays Weekday DayNumber a b = absurd (cc)
+both_weekdays Weekday (Cells target) a b = absurd (cc)
+both_weekdays DayNumber other a b = absurd (cc)
+both_weekdays (Cells target) other a b = absurd (cc)
+
+asked_once : (all : List AskedColumn) → IsDistinct alike all → asks_twice all ≡ false
+asked_once all so =
+    let days = at_most_one is_day_number all both_days so in
+    let weekdays = at_most_one is_weekday all both_weekdays so in grind (arith, days, weekdays)
+
+-- targets stand apart as their columns do
+other_targets : (one : Target) (columns : List AskedColumn)
+    → AllByRecursion (λ other. alike (Cells one) other ≡ false) columns
+    → AllByRecursion (λ other. target_alike one other ≡ false) (asked_targets columns)
+other_targets one [] apart = tt
+other_targets one (DayNumber ∷ columns) (no, apart) = other_targets one columns apart
+other_targets one (Weekday ∷ columns) (no, apart) = other_targets one columns apart
+other_targets one (Cells other ∷ columns) (no, apart) = (no, other_targets one columns apart)
+
+targets_distinct : (columns : List AskedColumn) → IsDistinct alike columns
+    → IsDistinct target_alike (asked_targets columns)
+unfolding IsDistinct
+targets_distinct [] so = tt
+targets_distinct (DayNumber ∷ columns) so = targets_distinct columns so.1
+targets_distinct (Weekday ∷ columns) so = targets_distinct columns so.1
+targets_distinct (Cells one ∷ columns) so = (other_targets one columns so.0, targets_distinct columns so.1)
+
+none_twice : (targets : List Target) → IsDistinct target_alike targets → ¬ (NamesTwice targets)
+none_twice targets so (i, j, before, within, same) =
+    let d = target.Haab in
+    let here : get_or targets i d ≡ get_or targets j d
+    = sym (unwrap_or-slice_get targets i d) ∙ ap (λ found. unwrap_or found d) same ∙ unwrap_or-slice_get targets j d in
+    let apart = apart_from_distinct target_alike targets i j d so before within in
+    let alike_too = nat_list_eq_equiv.refl (target_name (get_or targets j d)) in
+    let other : target_alike (get_or targets j d) (get_or targets j d) ≡ false = rw here at apart in cc
+
+-- the columns that arguments ask for are asked once
+pub once : (list : Option Text) (all : List AskedColumn) (choice : SheetChoice) → columns_asked list ≡ Ok all
+    → choice.columns.now ≡ all → AsksOnce choice
+once list all choice is same =
+    let so = asked_distinct list all is in
+    record {
+      few = rw same (few all so);
+      day = rw same (asked_once all so);
+      targets = rw same (none_twice (asked_targets all) (targets_distinct all so));
+    }
+
+-- there are as many headings as are wanted
+headings_long : (taken wanted headings : Fields) → AreHeadings taken wanted headings → length headings ≡ length wanted
+headings_long taken [] [] are = refl
+headings_long taken [] (heading ∷ headings) are = absurd are
+headings_long taken (name ∷ wanted) [] are = absurd are
+headings_long taken (name ∷ wanted) (heading ∷ headings) are =
+    ap suc (headings_long (taken ++ heading ∷ []) wanted headings are.1)
+
+wanted_long : (several : Bool) (own : Fields) (columns : List AskedColumn) (dates : List DateColumn)
+    → length (flat_map (wanted_for several own columns) dates) ≡ length dates * (length columns + 1)
+wanted_long several own columns [] = refl
+wanted_long several own columns (date ∷ dates) =
+    let rest = wanted_long several own columns dates in
+    let here : length (wanted_for several own columns date) ≡ length columns + 1
+    = length-map (wanted_heading several (get_or own date.date [])) (asked_names columns)
+    ∙ length-append (map asked_name columns) (codes "refusal" ∷ []) ∙ ap (λ n. n + 1) (length-map asked_name columns) in
+    length-append (wanted_for several own columns date) (flat_map (wanted_for several own columns) dates)
+    ∙ grind (arith, here, rest)
+
+pub is_choice : (task : Task) (names headings : Fields) (asked : SheetAsked) (sheet : List ℕ) (in_dates : List Name)
+    (of_calendars : List (List ℕ × Calendar)) (choice : SheetChoice) → IsTask task → IsAskedOf task names asked
+    → HasHeadings asked sheet headings → IsChoiceOf asked in_dates of_calendars headings choice → IsChoice choice
+is_choice task names headings asked sheet in_dates of_calendars choice task_is is headed of =
+    let own = get_or (text_records asked.delimiter sheet) asked.above [] in
+    let dates : length choice.dates.now ≡ length task.dates = ap length of.dates ∙ is.dates.as_many in
+    let made : length choice.headings.now ≡ length headings
+    = sym (length-map (λ (heading : Bor (List ℕ)). heading.now) choice.headings.now) ∙ ap length of.headings_are in
+    let long = headings_long own _ headings headed in
+    let wanted = wanted_long (nat_lt 1 (length asked.dates)) own asked.columns asked.dates in
+    let some : (length task.dates == 0) ≡ false = task_is.some_dates in
+    let few : nat_lt date_limit (length task.dates) ≡ false = task_is.few_dates in
+    record {
+      dated = record { some = grind (arith, dates, some); few = rw dates few };
+      once = once task_is.list task.columns choice task_is.columns (of.columns ∙ is.columns);
+      delimited = rw (of.delimiter ∙ is.delimiter) task_is.delimited;
+      headed = made ∙ long ∙ wanted
+          ∙ ap₂ (λ (m n : ℕ). m * (n + 1)) (sym (ap length of.dates)) (sym (ap length of.columns));
+    }
+
+delimiter_is : (value : Option Text) (byte : ℕ) → IsValueOf delimiter_option value byte → is_delimiter byte ≡ true
+delimiter_is None byte is = rw is refl
+delimiter_is (Some word) byte (inl comma) = rw comma.1 refl
+delimiter_is (Some word) byte (inr (inl semicolon)) = rw semicolon.1 refl
+delimiter_is (Some word) byte (inr (inr tab)) = rw tab.1 refl
+
+pub is_task : (values : Values) (task : Task) → Ask values task → IsTask task
+is_task values task ask = record {
+  some_dates = rw ask.dates ask.some_dates;
+  few_dates = rw ask.dates ask.few_dates;
+  delimited = delimiter_is values.delimiter task.delimiter ask.delimiter;
+  list = values.to;
+  columns = ask.columns;
+}

@@ -1,0 +1,8 @@
+use Rattle.csv.specs.Records.{fields_of}
+use Rattle.sheet_arguments.specs.Requests.{task_of}
+use Rattle.sheet_app.proofs.ColumnLemmas.{AreFirstDates}
+use Rattle.sheet_app.proofs.columns.dates_named.Given as goal
+
+-- the columns so far
+abbrev pub invariant-dates : goal.invariant-dates
+invariant-dates l = AreFirstDates (fields_of l.names) (task_of l.job) l.dates.items l.index

@@ -1,0 +1,16 @@
+use Rattle.std.proofs.Common.{◌≡◌, ◌≤◌, ◌+◌, ◌++◌, vec_capacity, vec_len}
+use Rattle.std.specs.List.{AllZip}
+use Rattle.std.specs.Vec.Iter.{into_iter_items, into_iter_len}
+use Rattle.sheet_arguments.specs.Requests.{task_of}
+use Rattle.sheet_app.specs.EndedSheets.{AreReported, IsEndOf}
+use Rattle.sheet_app.proofs.converting.convert_all.Given as goal
+
+-- the sheets so far have ended, and the others are left
+abbrev pub invariant-sheets : goal.invariant-sheets
+invariant-sheets g l = record {
+  room : vec_len l.ended + into_iter_len l.sheet-iterator ≤ vec_capacity l.ended;
+  ended : (taken : _) × (taken ++ into_iter_items l.sheet-iterator ≡ l.fn.sheets.items)
+      × AllZip (IsEndOf g.R.Read g.W.Output (task_of l.job) l.list.lines.items) taken l.ended.items;
+  reported : AreReported g.E.Output (task_of l.job) l.ended.items l.initial.errors l.errors;
+  mark : g.E.Output.own_mark l.errors ≡ g.E.Output.own_mark l.initial.errors;
+}

@@ -1,7 +1,0 @@
-use Rattle.std.proofs.Common.{◌≡◌, drop}
-use Rattle.register_sheets.specs.Reading.{IsReading, left_of}
-use Rattle.sheet_app.proofs.head_records.pass_names.Given as goal
-
-abbrev pub invariant-records : goal.invariant-records
-invariant-records l =
-    record { reading : IsReading l.records; left : left_of l.records ≡ drop l.counter (left_of l.fn.records) }

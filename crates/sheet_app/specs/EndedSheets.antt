@@ -1,0 +1,70 @@
+-- The sheets of a command line, as they have ended.
+use Rattle.std.specs.Prelude.{◌≡◌, ◌++◌, ◌&&◌, ◌⊎◌, ℕ, All, Bool, List, IfSome, false, length, true}
+use Rattle.std.specs.Io.KnownBytes.{Appends}
+use Rattle.std.specs.List.{flat_map}
+use Rattle.std.specs.declared.io.traits.Read as reads
+use Rattle.clap.specs.Words.{Text}
+use Rattle.register_files.specs.Openings.{IsNewlyMade}
+use Rattle.register_records.specs.declared.outputs.Output as outputs
+use Rattle.register_sheets.specs.declared.name_lists.NameLine.{NameLine}
+use Rattle.sheet_arguments.specs.Requests.{Task}
+use Rattle.sheet_app.specs.FileSheets.{ending_of, sheet_name}
+use Rattle.sheet_app.specs.Lines.{lines_on}
+use Rattle.sheet_app.specs.Sheets.{IsEnded}
+use Rattle.sheet_app.specs.declared.converting.EndedSheet.{EndedSheet}
+use Rattle.sheet_app.specs.declared.file_sheets.FileSheet.{FileSheet}
+use Rattle.sheet_app.specs.declared.sheet_faults.SheetFault.TheVariants as fault
+use Rattle.sheet_app.specs.declared.sheets.SheetDone.{SheetDone}
+use Rattle.sheet_app.specs.declared.sheets.SheetDone.TheVariants as done
+use Rattle.sheet_app.specs.declared.sheets.TheConstants.{MOST_UNKNOWN}
+
+-- the source gives this text, as far as its bytes are known
+abbrev pub Gives : {R : Type 0} → reads.Ghosts R → R → List ℕ → Type 0
+Gives r source text = IfSome (r.remaining source) (λ left. text ≡ left)
+
+-- a sheet was read and has ended so, with what its output has gained; or it could not be read, and that has gained nothing
+abbrev pub IsConverted : {R W : Type 0} → reads.Ghosts R → outputs.Ghosts W → Task → List NameLine → R → W → W
+    → SheetDone → Type 0
+IsConverted r o task lines source given written how =
+    ((how ≡ done.Broken fault.Unread) × (written ≡ given))
+    ⊎ ((text : List ℕ) × Gives r source text × IsEnded o task lines MOST_UNKNOWN text given written how)
+
+abbrev pub ended_name : {W : Type 0} → EndedSheet W → Text
+ended_name sheet = sheet.name.now
+
+-- all that was asked for is there
+abbrev pub is_whole : SheetDone → Bool
+is_whole (done.Whole whole) = true
+is_whole done.Listed = true
+is_whole other = false
+
+-- and nothing to report was lost
+abbrev pub is_complete : {W : Type 0} → EndedSheet W → Bool
+is_complete sheet = is_whole sheet.done && sheet.is_reported
+
+-- the lines on a sheet
+abbrev pub ended_lines : {W : Type 0} → Task → EndedSheet W → List ℕ
+ended_lines task sheet = lines_on task.summary (length task.dates) (ended_name sheet) sheet.done
+
+-- standard error has gained the lines on these sheets, if there was memory for all, and unless it failed
+pub record AreReported {W E : Type 0} (e : outputs.Ghosts E) (task : Task) (sheets : List (EndedSheet W))
+    (before after : E) : Type 0 where
+  pub good : e.has_failed after ≡ false → e.has_failed before ≡ false
+  pub gained : All (λ sheet. sheet.is_reported ≡ true) sheets → e.has_failed after ≡ false
+      → Appends (e.contents before) (e.contents after) (flat_map (ended_lines task) sheets)
+
+-- this is how a sheet has ended
+pub record IsEndOf {R W : Type 0} (r : reads.Ghosts R) (o : outputs.Ghosts W) (task : Task) (lines : List NameLine)
+    (sheet : FileSheet R W) (ended : EndedSheet W) : Type 0 where
+  pub named : ended_name ended ≡ sheet_name sheet
+  pub converted : IsConverted r o task lines sheet.source sheet.output ended.output ended.done
+
+-- a sheet of a file was converted from the file of its name, to an output that was made by that name with the ending
+pub record IsEndedSheet {R W : Type 0} (r : reads.Ghosts R) (o : outputs.Ghosts W) (IsOpened : Text → R → Type 0)
+    (IsMade : Text → ℕ → W → Type 0) (task : Task) (lines : List NameLine) (sheet : EndedSheet W) : Type 0 where
+  pub source : R
+  pub opened : IsOpened (ended_name sheet) source
+  pub given : W
+  pub mark : ℕ
+  pub made : IsNewlyMade o IsMade (ended_name sheet ++ ending_of task) mark given
+  pub converted : IsConverted r o task lines source given sheet.output sheet.done

@@ -1,0 +1,44 @@
+-- What clauses see of a sheet on its way. No public contract cites this file.
+use Rattle.std.specs.Prelude.{◌≡◌, ◌==◌, ℕ, Bool, List, Option, Result, Ok, Err, false, length, nat_lt, true}
+use Rattle.std.specs.Io.KnownBytes.{Appends}
+use Rattle.clap.specs.Words.{Text}
+use Rattle.register_records.specs.SetupRules.{is_delimiter}
+use Rattle.register_records.specs.declared.outputs.Output as outputs
+use Rattle.register_sheets.specs.AskedOfSheets.{IsChoice, IsChoiceBy}
+use Rattle.register_sheets.specs.Choices.{date_limit}
+use Rattle.register_sheets.specs.declared.asked_of_sheets.AskedByNames.{AskedByNames}
+use Rattle.register_sheets.specs.declared.choices.SheetChoice.{SheetChoice}
+use Rattle.register_sheets.specs.declared.name_lists.NameLine.{NameLine}
+use Rattle.sheet_arguments.specs.Requests.{Task}
+use Rattle.sheet_arguments.specs.WordLists.{columns_asked}
+use Rattle.sheet_app.specs.Sheets.{IsBroken, IsChoiceFor, IsEnded}
+use Rattle.sheet_app.specs.declared.sheet_faults.SheetFault.{SheetFault}
+use Rattle.sheet_app.specs.declared.sheets.SheetDone.{SheetDone}
+
+-- a choice by what is known is what a task asks
+abbrev pub AsksFor : Task → List NameLine → List ℕ → AskedByNames → Type 0
+AsksFor task lines sheet known =
+    (choice : SheetChoice) → IsChoiceBy known choice → IsChoice choice → IsChoiceFor task lines sheet choice
+
+-- how a sheet has ended, or why it broke off
+abbrev pub IsEndedBy : {W : Type 0} → outputs.Ghosts W → Task → List NameLine → ℕ → List ℕ → W → W
+    → Result SheetDone SheetFault → Type 0
+IsEndedBy o task lines most sheet given written (Ok done) = IsEnded o task lines most sheet given written done
+IsEndedBy o task lines most sheet given written (Err fault) = IsBroken o task lines sheet given written fault
+
+-- an output that has not failed had not failed before, and has gained this text, if that was said
+pub record Says {E : Type 0} (e : outputs.Ghosts E) (before after : E) (said : Bool) (text : List ℕ) : Type 0 where
+  pub good : e.has_failed after ≡ false → e.has_failed before ≡ false
+  pub gained : said ≡ true → e.has_failed after ≡ false → Appends (e.contents before) (e.contents after) text
+
+-- what is known makes choices alone
+abbrev pub MakesChoices : AskedByNames → Type 0
+MakesChoices known = (choice : SheetChoice) → IsChoiceBy known choice → IsChoice choice
+
+-- what is so of each task that arguments ask for
+pub record IsTask (task : Task) : Type 0 where
+  pub some_dates : (length task.dates == 0) ≡ false
+  pub few_dates : nat_lt date_limit (length task.dates) ≡ false
+  pub delimited : is_delimiter task.delimiter ≡ true
+  pub list : Option Text
+  pub columns : columns_asked list ≡ Ok task.columns

@@ -1,0 +1,114 @@
+-- What a task asks of a sheet, and what comes of it.
+use Rattle.std.specs.Prelude.{◌≡◌, ◌≤◌, ◌<◌, ◌++◌, ◌⊎◌, ⊤, ℕ, List, [], Option, None, Some, get_or, length, false, true}
+use Rattle.register_records.specs.Entries.{Fields, record_limit, text_records}
+use Rattle.register_records.specs.Sources.{Gains}
+use Rattle.register_records.specs.declared.outputs.Output as outputs
+use Rattle.register_sheets.specs.AskedOfSheets.{IsChoice, IsListedChoice, SheetAsked}
+use Rattle.register_sheets.specs.Converted.{ArePartOfSheet, below, IsFullSheet, IsWholeSheet}
+use Rattle.register_sheets.specs.NameLists.{IsListOf}
+use Rattle.register_sheets.specs.UnknownNames.{IsUnknown, NameCount, list_text}
+use Rattle.register_sheets.specs.declared.choices.SheetChoice.{SheetChoice}
+use Rattle.register_sheets.specs.declared.name_lists.NameLine.{NameLine}
+use Rattle.sheet_arguments.specs.Requests.{Task}
+use Rattle.sheet_app.specs.Columns.{AreDateColumns, IsIdField}
+use Rattle.sheet_app.specs.declared.sheet_faults.SheetFault.{SheetFault}
+use Rattle.sheet_app.specs.declared.sheet_faults.SheetFault.TheVariants as fault
+use Rattle.sheet_app.specs.declared.sheets.SheetDone.{SheetDone}
+use Rattle.sheet_app.specs.declared.sheets.SheetDone.TheVariants as done
+
+-- the lines of the user's list, where there is one
+abbrev pub IsOwnList : Option (List ℕ) → List NameLine → Type 0
+IsOwnList None lines = lines ≡ []
+IsOwnList (Some text) lines = IsListOf (text_records 44 text) lines
+
+-- the lines of both lists, the user's in front
+pub record AreBothLists (own : Option (List ℕ)) (built : List ℕ) (lines : List NameLine) : Type 0 where
+  pub front : List NameLine
+  pub behind : List NameLine
+  pub both : lines ≡ front ++ behind
+  pub of_user : IsOwnList own front
+  pub built_in : IsListOf (text_records 44 built) behind
+
+-- the names of a sheet's columns for a task
+abbrev pub names_of : Task → List ℕ → Fields
+names_of task sheet = get_or (text_records task.delimiter sheet) task.skip []
+
+-- this is what a task asks of a sheet whose columns have these names
+pub record IsAskedOf (task : Task) (names : Fields) (asked : SheetAsked) : Type 0 where
+  pub delimiter : asked.delimiter ≡ task.delimiter
+  pub above : asked.above ≡ task.skip
+  pub id : IsIdField names task.id asked.id
+  pub reading : asked.reading ≡ task.reading
+  pub dates : AreDateColumns names task asked.dates
+  pub columns : asked.columns ≡ task.columns
+
+-- the choice is what a task asks of a sheet, by the names of these lines
+pub record IsChoiceFor (task : Task) (lines : List NameLine) (sheet : List ℕ) (choice : SheetChoice) : Type 0 where
+  pub asked : SheetAsked
+  pub is_asked : IsAskedOf task (names_of task sheet) asked
+  pub listed : IsListedChoice asked lines sheet choice
+  pub is_choice : IsChoice choice
+
+-- the records of a sheet by a choice
+abbrev pub records_by : SheetChoice → List ℕ → List Fields
+records_by choice sheet = text_records choice.delimiter sheet
+
+-- these bytes are the sheet that a task asks for, with so many records and, for each column of dates, so many refused
+pub record IsAskedSheet (task : Task) (lines : List NameLine) (sheet : List ℕ) (count : ℕ) (refused bytes : List ℕ)
+    : Type 0 where
+  pub choice : SheetChoice
+  pub chosen : IsChoiceFor task lines sheet choice
+  pub whole : IsWholeSheet choice (records_by choice sheet) count refused bytes
+
+-- these bytes are the list of the first names in a sheet that are not known by a choice, at most so many
+pub record IsListBy (choice : SheetChoice) (most : ℕ) (sheet bytes : List ℕ) : Type 0 where
+  pub found : List NameCount
+  pub more : ℕ
+  pub short : ℕ
+  pub kept : ℕ
+  pub unknown : IsUnknown choice (records_by choice sheet) most found more short kept
+  pub written : bytes ≡ list_text found
+
+-- these bytes are the list that a task asks for
+abbrev pub IsAskedList : Task → List NameLine → ℕ → List ℕ → List ℕ → Type 0
+IsAskedList task lines most sheet bytes =
+    (choice : SheetChoice) × IsChoiceFor task lines sheet choice × IsListBy choice most sheet bytes
+
+-- why a sheet breaks off before there is a choice
+abbrev pub IsEarly : Task → List ℕ → SheetFault → Type 0
+IsEarly task sheet fault.OutOfMemory = ⊤
+IsEarly task sheet (fault.NoColumn word names) = ⊤
+IsEarly task sheet fault.NoNames = length (text_records task.delimiter sheet) ≤ task.skip
+IsEarly task sheet other = ⊥
+
+-- what an output has gained of a sheet that broke off by a choice, and why it did
+abbrev pub IsBrokenBy : {W : Type 0} → outputs.Ghosts W → SheetChoice → List ℕ → W → W → SheetFault → Type 0
+IsBrokenBy o choice sheet given written fault.OutOfMemory =
+    (written ≡ given) ⊎ Gains (o.contents given) (o.contents written) (ArePartOfSheet choice (records_by choice sheet))
+IsBrokenBy o choice sheet given written fault.Unwritten = o.has_failed written ≡ true
+IsBrokenBy o choice sheet given written fault.NoNames =
+    (written ≡ given) × (length (records_by choice sheet) ≤ choice.above)
+IsBrokenBy o choice sheet given written fault.TooManyRecords =
+    (record_limit < length (below choice (records_by choice sheet)))
+    × ((written ≡ given) ⊎ Gains (o.contents given) (o.contents written) (IsFullSheet choice (records_by choice sheet)))
+IsBrokenBy o choice sheet given written other = ⊥
+
+-- the sheet that a task asks for broke off, with nothing gained, or by a choice
+abbrev pub IsBroken : {W : Type 0} → outputs.Ghosts W → Task → List NameLine → List ℕ → W → W → SheetFault → Type 0
+IsBroken o task lines sheet given written fault =
+    ((written ≡ given) × IsEarly task sheet fault)
+    ⊎ ((choice : SheetChoice) × IsChoiceFor task lines sheet choice × IsBrokenBy o choice sheet given written fault)
+
+-- what the output of a sheet has gained, by how it has ended; a list is of at most so many names
+abbrev pub IsEnded : {W : Type 0} → outputs.Ghosts W → Task → List NameLine → ℕ → List ℕ → W → W → SheetDone → Type 0
+IsEnded o task lines most sheet given written (done.Whole whole) =
+    Gains (o.contents given) (o.contents written) (IsAskedSheet task lines sheet whole.records whole.refused)
+    × (o.is_flushed written ≡ true) × (task.unknown ≡ false)
+IsEnded o task lines most sheet given written (done.WholeBut fault) =
+    (count : ℕ) × (refused : List ℕ)
+    × Gains (o.contents given) (o.contents written) (IsAskedSheet task lines sheet count refused)
+    × (o.is_flushed written ≡ true) × (task.unknown ≡ false)
+IsEnded o task lines most sheet given written done.Listed =
+    Gains (o.contents given) (o.contents written) (IsAskedList task lines most sheet)
+    × (o.is_flushed written ≡ true) × (task.unknown ≡ true)
+IsEnded o task lines most sheet given written (done.Broken fault) = IsBroken o task lines sheet given written fault

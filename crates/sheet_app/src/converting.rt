@@ -1,0 +1,164 @@
+//! Reads the sheets of a command line, and converts each.
+
+ghost use Rattle.std.specs.Prelude.{◌≡◌, ◌≤◌, ◌↔◌, [], All, true, vec_capacity, vec_len};
+ghost use Rattle.std.specs.List.{AllZip};
+ghost use Rattle.sheet_arguments.specs.Requests.{task_of};
+ghost use Rattle.sheet_app.specs.EndedSheets.{AreReported, IsConverted, IsEndOf, ended_lines, ended_name};
+ghost use Rattle.sheet_app.specs.EndedSheets.{is_complete};
+ghost use Rattle.sheet_app.specs.SheetViews.{IsTask, Says};
+
+use crate::file_sheets::FileSheet;
+use crate::reports::report_sheet;
+use crate::sheet_faults::SheetFault;
+use crate::sheets::{SheetDone, convert_text};
+use register_records::Output;
+use register_sheets::NameList;
+use sheet_arguments::Job;
+use std::alloc::Global;
+use std::io::Read;
+
+/// What standard input is called.
+const INPUT: &str = "standard input";
+
+/// A sheet that was converted or broke off.
+#[derive(Drop)]
+pub struct EndedSheet<'a, W> {
+    /// What it is called.
+    pub name: &'a str,
+    /// Its output and those of its registers, as they were left.
+    pub output: W,
+    pub registers: Vec<W>,
+    /// How it ended.
+    pub done: SheetDone<'a>,
+    /// Whether there was memory for the lines on it.
+    pub is_reported: bool,
+}
+
+/// Reads a sheet, and writes what a job asks of it, by the names of a list.
+fn convert_source<'b, R: Read, W: Output>(
+    alloc: Global,
+    list: &NameList,
+    job: &Job<'b>,
+    source: &mut R,
+    output: &mut W,
+    registers: &mut [W],
+) -> SheetDone<'b>
+    requires { IsTask (task_of job.now) }
+    ensures { IsConverted R.Read W.Output (task_of job.now) list.now.lines.items source.old output.old output.new result }
+{
+    let mut text = Vec::new(alloc);
+    if source.read_to_end(&mut text).is_err() {
+        return SheetDone::Broken(SheetFault::Unread);
+    }
+    convert_text(alloc, text.as_slice(), list, job, output, registers)
+}
+
+/// Converts a sheet, and reports how it has ended.
+fn convert_one<'a, R: Read + Drop, W: Output + Drop, E: Output>(
+    alloc: Global,
+    list: &NameList,
+    job: &Job<'a>,
+    sheet: FileSheet<'a, R, W>,
+    errors: &mut E,
+) -> EndedSheet<'a, W>
+    requires { IsTask (task_of job.now) }
+    ensures ended { IsEndOf R.Read W.Output (task_of job.now) list.now.lines.items sheet.entry result }
+    ensures lines { Says E.Output errors.old errors.new result.is_reported (ended_lines (task_of job.now) result) }
+    ensures errors_mark { E.own_mark errors.new ≡ E.own_mark errors.old }
+{
+    let FileSheet {
+        name,
+        mut source,
+        mut output,
+        mut registers,
+    } = sheet;
+    let done = convert_source(
+        alloc,
+        list,
+        job,
+        &mut source,
+        &mut output,
+        registers.as_mut_slice(),
+    );
+    let dates = job.dates.len();
+    let is_reported = report_sheet(alloc, errors, name, dates, job.summary, &done);
+    EndedSheet {
+        name,
+        output,
+        registers,
+        done,
+        is_reported,
+    }
+}
+
+/// Converts each sheet. There is room for the converted ones.
+pub fn convert_all<'a, R: Read + Drop, W: Output + Drop, E: Output>(
+    alloc: Global,
+    list: &NameList,
+    job: &Job<'a>,
+    sheets: Vec<FileSheet<'a, R, W>>,
+    room: Vec<EndedSheet<'a, W>>,
+    errors: &mut E,
+) -> Vec<EndedSheet<'a, W>>
+    requires task { IsTask (task_of job.now) }
+    requires none { room.items ≡ [] }
+    requires room { vec_len sheets ≤ vec_capacity room }
+    ensures ended { AllZip (IsEndOf R.Read W.Output (task_of job.now) list.now.lines.items) sheets.entry.items
+        result.items }
+    ensures lines { AreReported E.Output (task_of job.now) result.items errors.old errors.new }
+    ensures errors_mark { E.own_mark errors.new ≡ E.own_mark errors.old }
+{
+    let mut ended = room;
+    'sheets: for sheet in sheets {
+        ended.push_reserved(convert_one(alloc, list, job, sheet, errors));
+    }
+    ended
+}
+
+/// Converts the sheet that standard input gives.
+pub fn convert_input<'a, R: Read + Drop, W: Output + Drop, E: Output>(
+    alloc: Global,
+    list: &NameList,
+    job: &Job<'a>,
+    input: R,
+    output: W,
+    errors: &mut E,
+) -> EndedSheet<'a, W>
+    requires { IsTask (task_of job.now) }
+    ensures name { ended_name result ≡ INPUT.now }
+    ensures converted { IsConverted R.Read W.Output (task_of job.now) list.now.lines.items input output result.output
+        result.done }
+    ensures lines { Says E.Output errors.old errors.new result.is_reported (ended_lines (task_of job.now) result) }
+    ensures errors_mark { E.own_mark errors.new ≡ E.own_mark errors.old }
+{
+    let sheet = FileSheet {
+        name: INPUT,
+        source: input,
+        output,
+        registers: Vec::new(alloc),
+    };
+    convert_one(alloc, list, job, sheet, errors)
+}
+
+impl<W> EndedSheet<'_, W> {
+    ghost use Rattle.std.specs.Prelude.{◌≡◌};
+    ghost use Rattle.sheet_app.specs.EndedSheets.{is_complete};
+
+    /// Whether all that was asked for is there, and nothing to report was lost.
+    pub fn is_complete(&self) -> bool
+        ensures { result ≡ is_complete self.now }
+    {
+        let is_whole = match self.done {
+            SheetDone::Whole(_) | SheetDone::Listed => true,
+            SheetDone::WholeBut(_) | SheetDone::Broken(_) => false,
+        };
+        is_whole && self.is_reported
+    }
+}
+
+/// Whether all sheets are complete.
+pub fn are_complete<W>(sheets: &[EndedSheet<'_, W>]) -> bool
+    ensures { (result ≡ true) ↔ All (λ sheet. is_complete sheet ≡ true) sheets.now }
+{
+    sheets.iter().all(|sheet| sheet.is_complete())
+}

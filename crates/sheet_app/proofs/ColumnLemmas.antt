@@ -1,12 +1,17 @@
 -- The columns that words name, one after the other.
-use Rattle.std.proofs.Common.{rules, ◌≡◌, ◌≢◌, ◌∙◌, ◌+◌, ◌<◌, ◌≤◌, ◌⊎◌, ◌∷◌, ◌++◌, ℕ, zero, suc, List, [], None, Some}
+use Rattle.std.proofs.Common.{rules, ◌≡◌, ◌≢◌, ◌↔◌, ◌∙◌, ◌+◌, ◌-◌, ◌<◌, ◌≤◌, ◌⊎◌, ◌∷◌, ◌++◌, ℕ, zero, suc, List, [], None, Some}
 use Rattle.std.proofs.Common.{ap, arith, get_or, inl, inr, length, length-append, refl, slice_get, sym, subst}
+use Rattle.std.proofs.Common.{map}
+use Rattle.std.specs.Borrow.{Bor}
+use Rattle.std.specs.Prelude.{option_map}
 use Rattle.std.proofs.lemmas.Bool.{cases_lt}
+use Rattle.std.proofs.lemmas.Option.{slice_get-get_or, slice_get-map}
 use Rattle.register_records.specs.Entries.{Fields}
 use Rattle.register_sheets.specs.declared.choices.DateColumn.{DateColumn}
 use Rattle.sheet_arguments.specs.Requests.{Task}
 use Rattle.clap.specs.Words.{Text}
-use Rattle.sheet_app.specs.Columns.{AreDateColumns, IsDateColumn}
+use Rattle.command_lines.specs.Values.{IsNumberWord}
+use Rattle.sheet_app.specs.Columns.{AreDateColumns, HoldsOfNone, IsBareWord, IsCalendarField, IsColumn, IsDateColumn, IsWord, NamesNoColumn}
 
 -- this holds of none of the first names, so many
 abbrev pub HoldsOfNoneBefore : (Text → Type 0) → Fields → ℕ → Type 0
@@ -60,3 +65,43 @@ one_more_date names task columns new n column first is more = record {
 pub all_dates : (names : Fields) (task : Task) (columns : List DateColumn) (n : ℕ) → AreFirstDates names task columns n
     → n ≡ length task.dates → AreDateColumns names task columns
 all_dates names task columns n first all = record { as_many = first.as_many ∙ all; each = first.each }
+
+-- a word that is a number from 1 names the column before it, where no name is the word
+pub number_some : (word : Text) (most number : ℕ) → ((n : ℕ) → (Some number ≡ Some n) ↔ IsNumberWord most word n)
+    → 1 ≤ number
+number_some word most number is = ((is number).0 refl).some
+
+pub column_by_number : (names : Fields) (word text bare : Text) (most number : ℕ) → text ≡ word → bare ≡ word
+    → most ≡ length names → ((n : ℕ) → (Some number ≡ Some n) ↔ IsNumberWord most word n)
+    → HoldsOfNone (IsWord text) names → HoldsOfNone (IsBareWord bare) names → IsColumn names word (number - 1)
+column_by_number names word text bare most number e f many is none bare_none =
+    let named : IsNumberWord most word number = (is number).0 refl in
+    let low : 1 ≤ number = named.some in
+    let next : number - 1 + 1 ≡ number = omega (arith, low) in
+    inr (inr (rw e at none, rw f at bare_none, rw (next, ← many) named))
+
+pub no_column : (names : Fields) (word text bare : Text) (most : ℕ) → text ≡ word → bare ≡ word
+    → most ≡ length names → ((n : ℕ) → (None ≡ Some n) ↔ IsNumberWord most word n)
+    → HoldsOfNone (IsWord text) names → HoldsOfNone (IsBareWord bare) names → NamesNoColumn names word
+no_column names word text bare most e f many is none bare_none = record {
+  no_name = rw e at none;
+  no_bare_name = rw f at bare_none;
+  no_number = λ number named. none_some number ((is number).1 (rw many named));
+}
+
+-- the column of dates that a word asks for
+pub asked_word : (words : List (Bor Text)) (index : ℕ) (word : Bor Text) → index < length words
+    → word ≡ get_or words index word → slice_get (map (λ (w : Bor Text). w.now) words) index ≡ Some word.now
+asked_word words index word within there =
+    slice_get-map (λ (w : Bor Text). w.now) words index
+    ∙ ap (option_map (λ (w : Bor Text). w.now)) (slice_get-get_or words index word within ∙ ap (λ (w : Bor Text). Some w) (sym there))
+
+pub date_column : (names : Fields) (task : Task) (index : ℕ) (word : Text) (column : DateColumn)
+    → slice_get task.dates index ≡ Some word → IsColumn names word column.date
+    → IsCalendarField names task.calendars index column.calendar → IsDateColumn names task index column
+date_column names task index word column asked date calendar = record {
+  word = word;
+  asked = asked;
+  date = date;
+  calendar = calendar;
+}

@@ -1,46 +1,49 @@
 -- How sheets end.
 use Rattle.std.proofs.Common.{◌≡◌, ◌≢◌, ◌≤◌, ◌<◌, ℕ, List, Option, inl, inr, length, map, refl, true}
+use Rattle.std.specs.Prelude.{Err, IsErrAnd, Ok, Result}
 use Rattle.register_records.specs.Entries.{Fields, record_limit}
 use Rattle.register_records.specs.Sources.{Gains}
 use Rattle.register_records.specs.declared.outputs.Output as outputs
-use Rattle.register_sheets.specs.AskedOfSheets.{HasHeadings, IsListedChoice, SheetAsked, asked_in}
+use Rattle.register_sheets.specs.AskedOfSheets.{IsChoiceBy, IsListedChoice, SheetAsked}
 use Rattle.register_sheets.specs.Converted.{ArePartOfSheet, IsFullSheet, IsWholeSheet, below}
-use Rattle.register_sheets.specs.NameLists.{calendar_names_in, calendar_seen, name_seen, names_in_dates}
 use Rattle.register_sheets.specs.declared.asked_of_sheets.AskedByNames.{AskedByNames}
 use Rattle.register_sheets.specs.declared.choices.SheetChoice.{SheetChoice}
 use Rattle.register_sheets.specs.declared.name_lists.NameLine.{NameLine}
 use Rattle.register_sheets.specs.declared.sheet_ends.SheetCause.{SheetCause}
 use Rattle.register_sheets.specs.declared.sheet_ends.SheetCause.TheVariants as cause
-use Rattle.register_sheets.proofs.AskedOfSheetLemmas.{listed_choice}
 use Rattle.sheet_arguments.specs.Requests.{Task}
-use Rattle.written_dates.specs.Fields.{bare_name, entries}
-use Rattle.written_dates.specs.declared.fields.CalendarName.{CalendarName}
-use Rattle.written_dates.specs.declared.meanings.Name.{Name}
+use Rattle.written_dates.specs.Fields.{bare_name}
 use Rattle.sheet_app.specs.SheetFaults.{IsOfColumns, fault_by}
-use Rattle.sheet_app.specs.SheetViews.{AsksFor}
-use Rattle.sheet_app.specs.Sheets.{IsAskedList, IsAskedOf, IsAskedSheet, IsBrokenBy, IsChoiceFor, IsEarly}
+use Rattle.sheet_app.specs.SheetViews.{AsksFor, IsEndedBy, IsTask, MakesChoices}
+use Rattle.sheet_app.specs.Sheets.{IsAskedList, IsAskedOf, IsAskedSheet, IsBroken, IsBrokenBy, IsChoiceFor, IsEarly}
 use Rattle.sheet_app.specs.Sheets.{IsListBy, names_of, records_by}
 use Rattle.sheet_app.specs.declared.sheet_faults.SheetFault.{SheetFault}
 use Rattle.sheet_app.specs.declared.sheet_faults.SheetFault.TheVariants as fault
+use Rattle.sheet_app.specs.declared.sheets.SheetDone.{SheetDone}
+use Rattle.sheet_app.proofs.TaskLemmas.{is_choice}
 
 -- what is known was made of what a task asks
 pub asks_for : (task : Task) (lines : List NameLine) (sheet : List ℕ) (known : AskedByNames) (asked : SheetAsked)
-    (in_dates : List Name) (of_calendars : List CalendarName) (headings : Fields)
     → IsAskedOf task (names_of task sheet) asked
-    → map name_seen in_dates ≡ names_in_dates lines → map calendar_seen of_calendars ≡ calendar_names_in lines
-    → HasHeadings asked sheet headings
-    → asked_in known.asked ≡ asked → known.names.listed.now ≡ in_dates
-    → entries known.calendars ≡ map bare_name of_calendars
-    → map (λ heading. heading.now) known.headings.items ≡ headings
+    → ((choice : SheetChoice) → IsChoiceBy known choice → IsListedChoice asked lines sheet choice)
     → AsksFor task lines sheet known
-asks_for task lines sheet known asked in_dates of_calendars headings is dates calendars headed ea en ec eh =
-    λ choice of_known good. record {
-      asked = asked;
-      is_asked = is;
-      listed = listed_choice known asked lines sheet in_dates of_calendars headings choice dates calendars headed ea en ec eh
-          of_known;
-      is_choice = good;
-    }
+asks_for task lines sheet known asked is listed = λ choice by good.
+    record { asked = asked; is_asked = is; listed = listed choice by; is_choice = good }
+
+pub makes_choices : (task : Task) (lines : List NameLine) (sheet : List ℕ) (known : AskedByNames) (asked : SheetAsked)
+    → IsTask task → IsAskedOf task (names_of task sheet) asked
+    → ((choice : SheetChoice) → IsChoiceBy known choice → IsListedChoice asked lines sheet choice) → MakesChoices known
+makes_choices task lines sheet known asked task_is is listed = λ choice by.
+    let list = listed choice by in
+    is_choice task (names_of task sheet) list.headings asked sheet list.in_dates (map bare_name list.of_calendars) choice
+    task_is is list.headed list.chosen
+
+-- a fault that was handed on
+pub ended_fault : {W : Type 0} (o : outputs.Ghosts W) (task : Task) (lines : List NameLine) (most : ℕ) (sheet : List ℕ)
+    (given written : W) (r : Result SheetDone SheetFault) (fault : SheetFault) → IsErrAnd r (λ why. why ≡ fault)
+    → IsBroken o task lines sheet given written fault → IsEndedBy o task lines most sheet given written r
+ended_fault o task lines most sheet given written (Ok done) fault handed broken = absurd handed
+ended_fault o task lines most sheet given written (Err why) fault handed broken = rw handed broken
 
 -- a sheet that broke off in the middle
 pub broken_sheet : {W : Type 0} (o : outputs.Ghosts W) (choice : SheetChoice) (sheet : List ℕ) (given written : W)

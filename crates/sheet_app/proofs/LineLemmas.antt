@@ -1,9 +1,10 @@
 -- The lines on sheets.
 use Rattle.std.proofs.Common.{◌≡◌, ◌<◌, ◌+◌, ◌∙◌, ◌++◌, ◌∷◌, ℕ, zero, suc, List, [], Bool, Option, Some, None, ap, append_assoc}
 use Rattle.std.proofs.Common.{append-nil, arith}
-use Rattle.std.proofs.Common.{◌&&◌, codes, false, get_or, length, refl, sym, take, true}
+use Rattle.std.proofs.Common.{◌&&◌, codes, false, get_or, length, refl, subst, sym, take, true}
 use Rattle.std.specs.Io.KnownBytes.{Appends}
 use Rattle.std.specs.List.{flat_map}
+use Rattle.std.specs.Prelude.{◌==◌, Err, IfErr, IfOk, Ok, Result, if◌then◌else◌}
 use Rattle.std.proofs.lemmas.List.{take_more}
 use Rattle.std.proofs.lemmas.List.Concat.{flat_map-append}
 use Rattle.std.proofs.lemmas.List.Elements.{All-pop}
@@ -23,6 +24,11 @@ listed_more text texts one =
     ∙ ap (λ more. flat_map (λ other. codes ", " ++ other) texts ++ more) (append-nil (codes ", " ++ one)))
     ∙ sym (append_assoc text (flat_map (λ other. codes ", " ++ other) texts) (codes ", " ++ one))
 
+next_listed : (i : ℕ) (text : Text) → listed_at (suc i) text ≡ codes ", " ++ text
+next_listed i text =
+    let no : (suc i == 0) ≡ false = grind arith in
+    ap (λ (b : Bool). if b then text else (codes ", " ++ text)) no
+
 pub text_more : (line head : Text) (texts : List Text) (i : ℕ) (text : Text) → i < length texts
     → text ≡ get_or texts i [] → line ≡ head ++ listed (take i texts)
     → line ++ listed_at i text ≡ head ++ listed (take (i + 1) texts)
@@ -30,7 +36,8 @@ text_more line head [] i text within same is = absurd (omega (arith, within))
 text_more line head (first ∷ texts) zero text within same is =
     rw (is, same) (rw (append-nil head, append-nil first) refl)
 text_more line head (first ∷ texts) (suc i) text within same is =
-    rw (is, same, take_more (first ∷ texts) (suc i) [] within, listed_more first (take i texts) (get_or texts i []))
+    rw (next_listed i text, is, same, take_more (first ∷ texts) (suc i) [] within,
+    listed_more first (take i texts) (get_or texts i []))
     (append_assoc head (listed (first ∷ take i texts)) (codes ", " ++ get_or texts i []))
 
 none_gained : (held : Option (List ℕ)) → Appends held held []
@@ -85,3 +92,22 @@ more_reported e task sheets new sheet before between after more are says = rw mo
       (are.gained first (says.good good))
       (says.gained last good));
 })
+
+-- a line was said, or there was no memory for it
+pub line_said : {E L X : Type 0} (e : outputs.Ghosts E) (before after : E) (said : Bool) (bytes : L → List ℕ)
+    (line : Result L X) (text : List ℕ) → IfOk line (λ l. bytes l ≡ text)
+    → IfOk line (λ l. Says e before after said (bytes l))
+    → IfErr line (λ x. (said ≡ false) × (e.has_failed after ≡ false → e.has_failed before ≡ false))
+    → Says e before after said text
+line_said e before after said bytes (Ok l) text is says lost =
+    subst (λ (t : List ℕ). Says e before after said t) is says
+line_said e before after said bytes (Err x) text is says lost = record {
+  good = lost.1;
+  gained = λ yes good. let no = lost.0 in absurd (cc);
+}
+
+-- one sheet alone was reported
+pub one_reported : {W E : Type 0} (e : outputs.Ghosts E) (task : Task) (sheet : EndedSheet W) (before after : E)
+    → Says e before after sheet.is_reported (ended_lines task sheet) → AreReported e task (sheet ∷ []) before after
+one_reported e task sheet before after says =
+    more_reported e task [] (sheet ∷ []) sheet before before after refl (none_reported e task before) says

@@ -1,9 +1,12 @@
 -- Items that are moved from the front of one list to the end of another.
 use Rattle.std.proofs.Common.{◌≡◌, ◌++◌, ◌∷◌, [], List, All, append_assoc, append-nil, arith, length, map, subst, sym}
 use Rattle.std.proofs.Common.{◌≢◌, ◌⊎◌, ◌∙◌, ℕ, ap₂, inl, inr, refl}
+use Rattle.std.proofs.Common.{◌<◌, ◌+◌, Bool, ap, get_or, take, true}
+use Rattle.std.specs.Prelude.{◌==◌}
+use Rattle.std.specs.Borrow.{Bor}
 use Rattle.std.specs.List.{AllZip}
 use Rattle.std.specs.declared.io.traits.Read as reads
-use Rattle.std.proofs.lemmas.List.{map-append}
+use Rattle.std.proofs.lemmas.List.{get_or-map, length-map, map-append, take_more}
 use Rattle.std.proofs.lemmas.List.Elements.{All-cons, All-nil, All-push, All-head, All-tail}
 use Rattle.clap.specs.Words.{Text}
 use Rattle.register_records.specs.declared.outputs.Output as outputs
@@ -76,17 +79,42 @@ pub ends_all : {R W : Type 0} (r : reads.Ghosts R) (o : outputs.Ghosts W) (IsOpe
     (IsMade : Text → ℕ → W → Type 0) (task : Task) (lines : List NameLine) (sheets : List (FileSheet R W))
     (ended : List (EndedSheet W)) → All (IsNewSheet o IsOpened IsMade task) sheets
     → AllZip (IsEndOf r o task lines) sheets ended → All (IsEndedSheet r o IsOpened IsMade task lines) ended
-ends_all r o IsOpened IsMade task lines [] [] new zip = All-nil _
+ends_all r o IsOpened IsMade task lines [] [] new zip = All-nil (IsEndedSheet r o IsOpened IsMade task lines)
 ends_all r o IsOpened IsMade task lines [] (end ∷ ended) new zip = absurd zip
 ends_all r o IsOpened IsMade task lines (sheet ∷ sheets) [] new zip = absurd zip
 ends_all r o IsOpened IsMade task lines (sheet ∷ sheets) (end ∷ ended) new zip =
-    let one = All-head _ sheet sheets new in
+    let one = All-head (IsNewSheet o IsOpened IsMade task) sheet sheets new in
     let name = zip.0.named in
-    All-cons _ end ended (record {
+    All-cons (IsEndedSheet r o IsOpened IsMade task lines) end ended (record {
       source = sheet.source;
       opened = rw name one.opened;
       given = sheet.output;
       mark = one.mark;
       made = rw name one.made;
       converted = zip.0.converted;
-    }) (ends_all r o IsOpened IsMade task lines sheets ended (All-tail _ sheet sheets new) zip.1)
+    }) (ends_all r o IsOpened IsMade task lines sheets ended (All-tail (IsNewSheet o IsOpened IsMade task) sheet sheets new)
+    zip.1)
+
+-- one more, of the name at its index
+pub named_more : {X : Type 0} (f : X → Text) (names : List (Bor Text)) (done new : List X) (one : X) (i : ℕ) (d : Bor Text)
+    → new ≡ done ++ one ∷ [] → f one ≡ (get_or names i d).now → i < length names
+    → map f done ≡ take i (map (λ (n : Bor Text). n.now) names)
+    → map f new ≡ take (i + 1) (map (λ (n : Bor Text). n.now) names)
+named_more f names done new one i d n s within e =
+    let texts : List Text = map (λ (m : Bor Text). m.now) names in
+    let long : i < length texts = simp length-map within in
+    let next : get_or texts i [] ≡ (get_or names i d).now = get_or-map (λ (m : Bor Text). m.now) names i d [] within in
+    rw (n, map-append, e, s, take_more texts i [] long, next) refl
+
+-- there are no names exactly where nothing is named
+is_none : (n : ℕ) (b : Bool) → b ≡ (n == 0) → b ≡ true → n ≡ 0
+is_none n b e is = grind (arith, e, is)
+
+pub no_names : (files : List (Bor Text)) (n : ℕ) (b : Bool) → n ≡ length files → b ≡ (n == 0) → b ≡ true
+    → map (λ (file : Bor Text). file.now) files ≡ []
+no_names [] n b many e is = refl
+no_names (file ∷ files) n b many e is = absurd (omega (arith, many, is_none n b e is))
+
+pub some_names : (files : List (Bor Text)) → map (λ (file : Bor Text). file.now) files ≡ [] → length files ≡ 0
+some_names [] none = refl
+some_names (file ∷ files) none = absurd (cc)

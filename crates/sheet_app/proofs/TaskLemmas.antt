@@ -11,6 +11,7 @@ use Rattle.std.specs.Set.{is_member}
 use Rattle.std.specs.Str.{bytes_eq}
 use Rattle.std.proofs.lemmas.Cmp.{nat_list_eq_equiv}
 use Rattle.std.proofs.lemmas.List.{length-map}
+use Rattle.std.proofs.lemmas.List.Sums.{sum_by-cons}
 use Rattle.std.proofs.lemmas.Map.Keys.{IsDistinct-push, apart_from_distinct}
 use Rattle.std.proofs.lemmas.Map.Made.{length-le_from_is_member}
 use Rattle.std.proofs.lemmas.Option.{unwrap_or-slice_get}
@@ -40,7 +41,7 @@ use Rattle.sheet_app.specs.SheetViews.{IsTask}
 use Rattle.sheet_app.specs.Sheets.{IsAskedOf}
 
 -- columns of one name
-alike : AskedColumn → AskedColumn → Bool
+abbrev alike : AskedColumn → AskedColumn → Bool
 alike a b = bytes_eq (asked_name a) (asked_name b)
 
 alike_equiv : IsEquivalence alike
@@ -50,7 +51,7 @@ alike_equiv = record {
   congr = λ a b c. nat_list_eq_equiv.congr (asked_name a) (asked_name b) (asked_name c);
 }
 
-target_alike : Target → Target → Bool
+abbrev target_alike : Target → Target → Bool
 target_alike a b = bytes_eq (target_name a) (target_name b)
 
 no_value : {B : Type 0} (fault : Fault) (b : B) → Err fault ≡ Ok b → ⊥
@@ -123,8 +124,8 @@ few all so =
     grind (arith, most)
 
 not_both : (b c : Bool) → c ≡ false → (b ≡ true → c ≡ true) → b ≡ false
-not_both true c no same = absurd (let yes = same refl in cc)
-not_both false c no same = refl
+not_both true c isnt same = absurd (let holds = same refl in cc)
+not_both false c isnt same = refl
 
 told : (b : Bool) → (b ≡ true) ⊎ (b ≡ false)
 told true = inl refl
@@ -135,9 +136,22 @@ no_other : (p : AskedColumn → Bool) (column : AskedColumn) (columns : List Ask
     → ((other : AskedColumn) → p other ≡ true → alike column other ≡ true)
     → AllByRecursion (λ other. alike column other ≡ false) columns → count_by p columns ≡ 0
 no_other p column [] same apart = refl
-no_other p column (other ∷ columns) same (no, apart) =
+no_other p column (other ∷ columns) same (differs, apart) =
     let rest = no_other p column columns same apart in
-    let none : p other ≡ false = not_both (p other) (alike column other) no (same other) in grind (arith, rest, none)
+    let none : p other ≡ false = not_both (p other) (alike column other) differs (same other) in grind (arith, rest, none)
+
+one_counted : (p : AskedColumn → Bool) (column : AskedColumn) (columns : List AskedColumn) → p column ≡ true
+    → count_by p columns ≡ 0 → count_by p (column ∷ columns) ≤ 1
+one_counted p column columns holds none =
+    let more : count_by p (column ∷ columns) ≡ (if p column then 1 else 0) + count_by p columns
+    = sum_by-cons (λ (x : AskedColumn). if p x then 1 else 0) column columns in
+    let counted : Bool → ℕ = λ b. if b then 1 else 0 in
+    let one : counted (p column) ≡ counted true = ap counted holds in
+    omega (arith, more, one, none)
+
+none_counted : (p : AskedColumn → Bool) (column : AskedColumn) (columns : List AskedColumn) → p column ≡ false
+    → count_by p columns ≤ 1 → count_by p (column ∷ columns) ≤ 1
+none_counted p column columns isnt rest = grind (arith, isnt, rest)
 
 at_most_one : (p : AskedColumn → Bool) (columns : List AskedColumn)
     → ((one other : AskedColumn) → p one ≡ true → p other ≡ true → alike one other ≡ true)
@@ -147,9 +161,9 @@ at_most_one p [] both so = omega arith
 at_most_one p (column ∷ columns) both so =
     let rest = at_most_one p columns both so.1 in
     elim (told (p column)) [
-      | inl yes ↦
-          let none = no_other p column columns (λ other is. both column other yes is) so.0 in grind (arith, none, yes)
-      | inr no ↦ grind (arith, rest, no)
+      | inl holds ↦
+          one_counted p column columns holds (no_other p column columns (λ other is. both column other holds is) so.0)
+      | inr isnt ↦ none_counted p column columns isnt rest
     ]
 
 both_days : (one other : AskedColumn) → is_day_number one ≡ true → is_day_number other ≡ true → alike one other ≡ true
@@ -176,9 +190,9 @@ other_targets : (one : Target) (columns : List AskedColumn)
     → AllByRecursion (λ other. alike (Cells one) other ≡ false) columns
     → AllByRecursion (λ other. target_alike one other ≡ false) (asked_targets columns)
 other_targets one [] apart = tt
-other_targets one (DayNumber ∷ columns) (no, apart) = other_targets one columns apart
-other_targets one (Weekday ∷ columns) (no, apart) = other_targets one columns apart
-other_targets one (Cells other ∷ columns) (no, apart) = (no, other_targets one columns apart)
+other_targets one (DayNumber ∷ columns) (first, apart) = other_targets one columns apart
+other_targets one (Weekday ∷ columns) (first, apart) = other_targets one columns apart
+other_targets one (Cells other ∷ columns) (first, apart) = (first, other_targets one columns apart)
 
 targets_distinct : (columns : List AskedColumn) → IsDistinct alike columns
     → IsDistinct target_alike (asked_targets columns)
@@ -218,12 +232,12 @@ headings_long taken (name ∷ wanted) (heading ∷ headings) are =
 
 wanted_long : (several : Bool) (own : Fields) (columns : List AskedColumn) (dates : List DateColumn)
     → length (flat_map (wanted_for several own columns) dates) ≡ length dates * (length columns + 1)
-wanted_long several own columns [] = refl
+wanted_long several own columns [] = omega arith
 wanted_long several own columns (date ∷ dates) =
     let rest = wanted_long several own columns dates in
     let here : length (wanted_for several own columns date) ≡ length columns + 1
-    = length-map (wanted_heading several (get_or own date.date [])) (asked_names columns)
-    ∙ length-append (map asked_name columns) (codes "refusal" ∷ []) ∙ ap (λ n. n + 1) (length-map asked_name columns) in
+    = length-map (asked_names columns) (wanted_heading several (get_or own date.date []))
+    ∙ length-append (map asked_name columns) (codes "refusal" ∷ []) ∙ ap (λ n. n + 1) (length-map columns asked_name) in
     length-append (wanted_for several own columns date) (flat_map (wanted_for several own columns) dates)
     ∙ grind (arith, here, rest)
 
@@ -234,7 +248,7 @@ is_choice task names headings asked sheet in_dates of_calendars choice task_is i
     let own = get_or (text_records asked.delimiter sheet) asked.above [] in
     let dates : length choice.dates.now ≡ length task.dates = ap length of.dates ∙ is.dates.as_many in
     let made : length choice.headings.now ≡ length headings
-    = sym (length-map (λ (heading : Bor (List ℕ)). heading.now) choice.headings.now) ∙ ap length of.headings_are in
+    = sym (length-map choice.headings.now (λ (heading : Bor (List ℕ)). heading.now)) ∙ ap length of.headings_are in
     let long = headings_long own _ headings headed in
     let wanted = wanted_long (nat_lt 1 (length asked.dates)) own asked.columns asked.dates in
     let some : (length task.dates == 0) ≡ false = task_is.some_dates in

@@ -1,14 +1,27 @@
 -- Arguments that ask for something have no fault beside it, and arguments that are refused have one.
 use Rattle.std.proofs.Common.{◌≤◌, ◌⊎◌, ◌≡◌, ℕ, rules, arith, inl, inr, map, refl, subst}
 use Rattle.std.specs.String.{string_bytes}
+use Rattle.clap.specs.Words.{matches_of}
 use Rattle.command_lines.specs.Meanings.{help, version, work}
+use Rattle.sheet_arguments.specs.CommandLine.{command_line, values_of}
 use Rattle.sheet_arguments.specs.Requests.{MeanJust, meaning_of, task_of}
 use Rattle.sheet_arguments.specs.declared.requests.Request.{Request}
 use Rattle.sheet_arguments.specs.Faults.{fault_of_error}
 use Rattle.sheet_app.specs.Answers.{version_line}
 use Rattle.sheet_app.proofs.ListLemmas.{none_or_some}
 use Rattle.sheet_app.proofs.RefusedLemmas.{is_refused, is_wrong, never_refused}
+use Rattle.sheet_app.proofs.TaskLemmas.{is_task}
 use Rattle.sheet_app.proofs.program.answer.Goals as goal
+
+-- what arguments ask for is a task
+pub run_job-requires : goal.run_job-requires
+run_job-requires g c =
+    let arguments = map string_bytes c.args.arguments.now in
+    let task = task_of c.in-Ok-Convert.job in
+    let just : MeanJust arguments (work task)
+    = subst (λ (r : Request). MeanJust arguments (meaning_of r)) c.in-Ok-Convert.field-0-is c.in-Ok-Convert.ensures.asked in
+    let meant = (just (work task)).0 refl in
+    is_task (values_of (matches_of command_line arguments)) task meant.1
 
 pub returns-in-Ok-Help-clause-answered : goal.returns-in-Ok-Help-clause-answered
 returns-in-Ok-Help-clause-answered g c = λ low.

@@ -1,0 +1,18 @@
+-- Each turn finds the next column.
+use Rattle.std.proofs.Common.{rules, ◌≡◌, ◌<◌, ◌∷◌, ◌++◌, [], Some, None, slice_get, get_or, map, length, List, ℕ, arith}
+use Rattle.csv.specs.Records.{fields_of}
+use Rattle.sheet_arguments.specs.Requests.{task_of}
+use Rattle.sheet_app.proofs.ColumnLemmas.{asked_word, date_column, one_more_date}
+use Rattle.sheet_app.proofs.columns.dates_named.Goals as goal
+
+pub dates-preserved : goal.dates-preserved
+dates-preserved c =
+    let names = fields_of c.args.names.now in
+    let task = task_of c.args.job.now in
+    let words = c.args.job.now.dates.items in
+    let within : c.dates.index < length words = omega (arith, c.dates-test.true, c.len-index-end.ensures) in
+    let there : c.index-word.result.now ≡ get_or words c.dates.index c.index-word.result.now = search rules in
+    let pushed : c.push.new.self.items ≡ c.dates.dates.items ++ record { date = c.in-Some.date; calendar = c.in_ok-calendar.calendar } ∷ [] = search rules in
+    one_more_date names task c.dates.dates.items c.push.new.self.items c.dates.index _ c.dates.invariant
+    (date_column names task c.dates.index c.index-word.result.now.now _ (asked_word words c.dates.index c.index-word.result.now within there)
+    c.in-Some.ensures.some c.in_ok-calendar.ensures) pushed

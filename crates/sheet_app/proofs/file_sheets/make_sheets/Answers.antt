@@ -1,0 +1,31 @@
+-- Each turn makes the outputs of the next file.
+use Rattle.std.proofs.Common.{rules, ◌≡◌, ◌++◌, ◌∷◌, []}
+use Rattle.std.specs.Vec.Iter.{into_iter_items}
+use Rattle.sheet_arguments.specs.Requests.{task_of}
+use Rattle.sheet_app.specs.FileSheets.{IsNewSheet, sheet_name, source_name}
+use Rattle.sheet_app.specs.declared.file_sheets.FileSheet.{FileSheet}
+use Rattle.sheet_app.specs.declared.file_sheets.OpenedFile.{OpenedFile}
+use Rattle.sheet_app.proofs.ListLemmas.{each_more, first_of_left, made_more, others_left}
+use Rattle.sheet_app.proofs.file_sheets.make_sheets.Goals as goal
+
+pub sources-preserved : goal.sources-preserved
+sources-preserved g c =
+    let opened = c.in-Some.opened in
+    let store = c.args.store.now in
+    let before = c.sources.opened-iterator in
+    let IsOpened = λ (file : OpenedFile g.row.R.Denot). g.P.FileStore.is_opened store file.name.now file.source in
+    let IsMade = λ (sheet : FileSheet g.row.R.Denot g.row.W.Denot). IsNewSheet g.W.Output (g.P.FileStore.is_opened store)
+        (g.P.FileStore.is_made store) (task_of c.args.job.now) sheet in
+    let left : into_iter_items before ≡ opened ∷ into_iter_items c.next.new.self = search rules in
+    let pushed : c.push.new.self.items ≡ c.sources.sheets.items ++ c.in_ok-sheet.sheet ∷ [] = search rules in
+    let first = first_of_left IsOpened (into_iter_items before) (into_iter_items c.next.new.self) opened left
+        c.sources.invariant.opened in
+    record {
+      named = made_more sheet_name source_name _ c.sources.sheets.items c.push.new.self.items c.in_ok-sheet.sheet
+          (into_iter_items before) (into_iter_items c.next.new.self) opened pushed c.in_ok-sheet.ensures.named left
+          c.sources.invariant.named;
+      opened = others_left IsOpened (into_iter_items before) (into_iter_items c.next.new.self) opened left
+          c.sources.invariant.opened;
+      made = each_more IsMade c.sources.sheets.items c.push.new.self.items c.in_ok-sheet.sheet pushed
+          c.sources.invariant.made (c.in_ok-sheet.ensures.made first);
+    }

@@ -1,0 +1,52 @@
+-- Standard input is converted where no file is asked for, and else the files.
+use Rattle.std.proofs.Common.{rules, ◌≡◌, ◌↔◌, ◌∙◌, [], All, List, ℕ, ap, arith, inl, inr, length, map, refl, true, vec_len}
+use Rattle.std.specs.Borrow.{Bor}
+use Rattle.sheet_arguments.specs.Requests.{task_of}
+use Rattle.sheet_app.specs.EndedSheets.{is_complete}
+use Rattle.sheet_app.specs.declared.converting.EndedSheet.{EndedSheet}
+use Rattle.sheet_app.proofs.ListLemmas.{ends_all, ends_named, no_names, some_names}
+use Rattle.sheet_app.proofs.program.run_job.Goals as goal
+
+pub returns-then-is_empty-clause-files : goal.returns-then-is_empty-clause-files
+returns-then-is_empty-clause-files g c = λ low some.
+    let files = c.args.job.now.files in
+    let length_is : vec_len files ≡ length files.items = omega (arith, files.ok.0) in
+    absurd (some (no_names files.items (vec_len files) c.is_empty.result length_is c.is_empty.ensures c.if-is_empty.true))
+
+pub returns-then-is_empty-clause-statuses : goal.returns-then-is_empty-clause-statuses
+returns-then-is_empty-clause-statuses g c =
+    elim c.run_input.ensures.statuses [ inl zero ↦ inl zero | inr one ↦ inr (inl one) ]
+
+pub returns-then-is_empty-clause-reported : goal.returns-then-is_empty-clause-reported
+returns-then-is_empty-clause-reported g c = λ three good arguments.
+    elim c.run_input.ensures.statuses
+    [ inl zero ↦ absurd (omega (arith, three, zero)) | inr one ↦ absurd (omega (arith, three, one)) ]
+
+pub returns-clause-input : goal.returns-clause-input
+returns-clause-input g c = λ low none.
+    let short : length c.args.job.now.files.items ≡ 0 = some_names c.args.job.now.files.items none in
+    absurd (search rules)
+
+pub returns-clause-files : goal.returns-clause-files
+returns-clause-files g c = λ low some.
+    let list = c.in-Ok.prepared.list.lines.items in
+    let sheets = c.in-Ok.prepared.sheets.items in
+    let ended = c.convert_all-ended.result.items in
+    let task = task_of c.args.job.now in
+    let zip = c.convert_all-ended.ensures.ended in
+    let all : (c.are_complete.result ≡ true) ↔ All (λ (sheet : EndedSheet g.row.W.Denot). is_complete sheet ≡ true) ended
+    = rw c.as_slice.ensures.value at c.are_complete.ensures in
+    (
+      list,
+      c.in-Ok.ensures.lists,
+      refl,
+      ends_named g.R.Read g.W.Output task list sheets ended zip ∙ c.in-Ok.ensures.named,
+      ends_all g.R.Read g.W.Output (g.P.FileStore.is_opened c.args.store.now) (g.P.FileStore.is_made c.args.store.now) task
+          list sheets ended c.in-Ok.ensures.made zip,
+      (λ zero. all.0 (c.status_of.ensures.complete.0 zero), λ each. c.status_of.ensures.complete.1 (all.1 each)),
+      c.convert_all-ended.ensures.lines,
+    )
+
+pub returns-clause-statuses : goal.returns-clause-statuses
+returns-clause-statuses g c =
+    elim c.status_of.ensures.statuses [ inl zero ↦ inl zero | inr one ↦ inr (inl one) ]

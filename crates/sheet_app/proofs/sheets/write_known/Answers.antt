@@ -1,0 +1,58 @@
+-- What was written by the choice that is known is what the task asks.
+use Rattle.std.proofs.Common.{inr, refl}
+use Rattle.sheet_arguments.specs.Requests.{task_of}
+use Rattle.sheet_app.specs.declared.sheets.TheConstants.{MOST_UNKNOWN}
+use Rattle.sheet_app.proofs.EndLemmas.{asked_list, asked_sheet, ended_fault}
+use Rattle.sheet_app.proofs.sheets.write_known.Goals as goal
+
+pub returns-in_err-list_unknown : goal.returns-in_err-list_unknown
+returns-in_err-list_unknown g c = λ lines asks.
+    let choice = c.setup_of-setup.result.choice in
+    let chosen = asks choice c.setup_of-setup.ensures.0 c.setup_of-setup.ensures.1 in
+    ended_fault g.W.Output (task_of c.args.job.now) lines MOST_UNKNOWN c.args.sheet.now c.args.output.now
+    c.list_unknown.new.output c.from_residual.result _ c.from_residual.ensures.1
+    (inr (choice, chosen, c.in_err-list_unknown.ensures.broken))
+
+pub returns-then-job : goal.returns-then-job
+returns-then-job g c = λ lines asks.
+    let choice = c.setup_of-setup.result.choice in
+    let chosen = asks choice c.setup_of-setup.ensures.0 c.setup_of-setup.ensures.1 in (
+      asked_list (task_of c.args.job.now) lines MOST_UNKNOWN c.args.sheet.now choice
+          (g.W.Output.contents c.args.output.now) (g.W.Output.contents c.list_unknown.new.output) chosen
+          c.in_ok-list_unknown.ensures.whole,
+      c.in_ok-list_unknown.ensures.flushed,
+      c.if-job.true,
+    )
+
+pub returns-in_err-records : goal.returns-in_err-records
+returns-in_err-records g c = λ lines asks.
+    let choice = c.setup_of-setup.result.choice in
+    let chosen = asks choice c.setup_of-setup.ensures.0 c.setup_of-setup.ensures.1 in
+    ended_fault g.W.Output (task_of c.args.job.now) lines MOST_UNKNOWN c.args.sheet.now c.args.output.now
+    c.write_sheet.new.output c.from_residual-in_err-records.result _ c.from_residual-in_err-records.ensures.1
+    (inr (choice, chosen, c.in_err-records.ensures.broken))
+
+pub returns-in-Ok : goal.returns-in-Ok
+returns-in-Ok g c = λ lines asks.
+    let choice = c.setup_of-setup.result.choice in
+    let chosen = asks choice c.setup_of-setup.ensures.0 c.setup_of-setup.ensures.1 in (
+      asked_sheet (task_of c.args.job.now) lines c.args.sheet.now choice c.in_ok-records.records c.in-Ok.whole.records
+          c.in_ok-records.refused c.in-Ok.whole.refused (g.W.Output.contents c.args.output.now)
+          (g.W.Output.contents c.write_sheet.new.output) chosen c.in-Ok.ensures.records c.in-Ok.ensures.refused
+          c.in_ok-records.ensures.whole,
+      c.in_ok-records.ensures.flushed,
+      c.if-job.false,
+    )
+
+pub returns-in-Err : goal.returns-in-Err
+returns-in-Err g c = λ lines asks.
+    let choice = c.setup_of-setup.result.choice in
+    let chosen = asks choice c.setup_of-setup.ensures.0 c.setup_of-setup.ensures.1 in (
+      c.in_ok-records.records,
+      c.in_ok-records.refused,
+      asked_sheet (task_of c.args.job.now) lines c.args.sheet.now choice c.in_ok-records.records c.in_ok-records.records
+          c.in_ok-records.refused c.in_ok-records.refused (g.W.Output.contents c.args.output.now)
+          (g.W.Output.contents c.write_sheet.new.output) chosen refl refl c.in_ok-records.ensures.whole,
+      c.in_ok-records.ensures.flushed,
+      c.if-job.false,
+    )

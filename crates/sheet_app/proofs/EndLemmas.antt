@@ -1,24 +1,19 @@
 -- How sheets end.
-use Rattle.std.proofs.Common.{◌≡◌, ◌≢◌, ◌≤◌, ◌<◌, ℕ, List, Option, inl, inr, length, map, refl, true}
+use Rattle.std.proofs.Common.{◌≡◌, ℕ, List, Option, map}
 use Rattle.std.specs.Prelude.{Err, IsErrAnd, Ok, Result}
-use Rattle.register_records.specs.Entries.{Fields, record_limit}
 use Rattle.register_records.specs.Sources.{Gains}
 use Rattle.register_records.specs.declared.outputs.Output as outputs
 use Rattle.register_sheets.specs.AskedOfSheets.{IsChoiceBy, IsListedChoice, SheetAsked}
-use Rattle.register_sheets.specs.Converted.{ArePartOfSheet, IsFullSheet, IsWholeSheet, below}
+use Rattle.register_sheets.specs.Converted.{IsWholeSheet}
 use Rattle.register_sheets.specs.declared.asked_of_sheets.AskedByNames.{AskedByNames}
 use Rattle.register_sheets.specs.declared.choices.SheetChoice.{SheetChoice}
 use Rattle.register_sheets.specs.declared.name_lists.NameLine.{NameLine}
-use Rattle.register_sheets.specs.declared.sheet_ends.SheetCause.{SheetCause}
-use Rattle.register_sheets.specs.declared.sheet_ends.SheetCause.TheVariants as cause
 use Rattle.sheet_arguments.specs.Requests.{Task}
 use Rattle.written_dates.specs.Fields.{bare_name}
-use Rattle.sheet_app.specs.SheetFaults.{IsOfColumns, fault_by}
 use Rattle.sheet_app.specs.SheetViews.{AsksFor, IsEndedBy, IsTask, MakesChoices}
-use Rattle.sheet_app.specs.Sheets.{IsAskedList, IsAskedOf, IsAskedSheet, IsBroken, IsBrokenBy, IsChoiceFor, IsEarly}
+use Rattle.sheet_app.specs.Sheets.{IsAskedList, IsAskedOf, IsAskedSheet, IsBroken, IsChoiceFor}
 use Rattle.sheet_app.specs.Sheets.{IsListBy, names_of, records_by}
 use Rattle.sheet_app.specs.declared.sheet_faults.SheetFault.{SheetFault}
-use Rattle.sheet_app.specs.declared.sheet_faults.SheetFault.TheVariants as fault
 use Rattle.sheet_app.specs.declared.sheets.SheetDone.{SheetDone}
 use Rattle.sheet_app.proofs.TaskLemmas.{is_choice}
 
@@ -44,43 +39,6 @@ pub ended_fault : {W : Type 0} (o : outputs.Ghosts W) (task : Task) (lines : Lis
     → IsBroken o task lines sheet given written fault → IsEndedBy o task lines most sheet given written r
 ended_fault o task lines most sheet given written (Ok done) fault handed broken = absurd handed
 ended_fault o task lines most sheet given written (Err why) fault handed broken = rw handed broken
-
--- a sheet that broke off in the middle
-pub broken_sheet : {W : Type 0} (o : outputs.Ghosts W) (choice : SheetChoice) (sheet : List ℕ) (given written : W)
-    (why : SheetCause) (is : SheetFault) → is ≡ fault_by why
-    → (why ≡ cause.NoMemory
-    → Gains (o.contents given) (o.contents written) (ArePartOfSheet choice (records_by choice sheet)))
-    → (why ≡ cause.NoNames → (written ≡ given) × (length (records_by choice sheet) ≤ choice.above))
-    → (why ≡ cause.TooManyRecords
-    → Gains (o.contents given) (o.contents written) (IsFullSheet choice (records_by choice sheet)))
-    → (why ≡ cause.SinkFault → o.has_failed written ≡ true)
-    → IsBrokenBy o choice sheet given written is
-broken_sheet o choice sheet given written cause.NoMemory is e part none full sink = rw e (inr (part refl))
-broken_sheet o choice sheet given written cause.SinkFault is e part none full sink = rw e (sink refl)
-broken_sheet o choice sheet given written cause.NoNames is e part none full sink = rw e (none refl)
-broken_sheet o choice sheet given written cause.TooManyRecords is e part none full sink =
-    let gains = full refl in rw e (gains.1.more, inr gains)
-
--- a list that was not written
-pub broken_list : {W : Type 0} (o : outputs.Ghosts W) (choice : SheetChoice) (sheet : List ℕ) (given : W)
-    (why : SheetCause) (is : SheetFault) → is ≡ fault_by why
-    → (why ≡ cause.NoNames → length (records_by choice sheet) ≤ choice.above)
-    → (why ≡ cause.TooManyRecords → record_limit < length (below choice (records_by choice sheet)))
-    → why ≢ cause.SinkFault
-    → IsBrokenBy o choice sheet given given is
-broken_list o choice sheet given cause.NoMemory is e none more no_sink = rw e (inl refl)
-broken_list o choice sheet given cause.SinkFault is e none more no_sink = absurd (no_sink refl)
-broken_list o choice sheet given cause.NoNames is e none more no_sink = rw e (refl, none refl)
-broken_list o choice sheet given cause.TooManyRecords is e none more no_sink = rw e (more refl, inl refl)
-
--- a column that is missing
-pub early : (task : Task) (sheet : List ℕ) (is : SheetFault) → IsOfColumns is → IsEarly task sheet is
-early task sheet fault.OutOfMemory of = tt
-early task sheet (fault.NoColumn word names) of = tt
-early task sheet fault.Unread of = absurd of
-early task sheet fault.Unwritten of = absurd of
-early task sheet fault.NoNames of = absurd of
-early task sheet fault.TooManyRecords of = absurd of
 
 -- what was made by a choice is what a task asks
 pub asked_sheet : (task : Task) (lines : List NameLine) (sheet : List ℕ) (choice : SheetChoice) (count n : ℕ)

@@ -1,7 +1,7 @@
 -- The lines on sheets.
 use Rattle.std.proofs.Common.{◌≡◌, ◌<◌, ◌+◌, ◌∙◌, ◌++◌, ◌∷◌, ℕ, zero, suc, List, [], Bool, Option, Some, None, ap, append_assoc}
 use Rattle.std.proofs.Common.{append-nil, arith}
-use Rattle.std.proofs.Common.{◌&&◌, codes, false, get_or, length, refl, subst, sym, take, true}
+use Rattle.std.proofs.Common.{codes, false, get_or, length, refl, subst, sym, take, true}
 use Rattle.std.specs.Io.KnownBytes.{Appends}
 use Rattle.std.specs.List.{flat_map}
 use Rattle.std.specs.Prelude.{◌==◌, Err, IfErr, IfOk, Ok, Result, if◌then◌else◌}
@@ -44,33 +44,12 @@ none_gained : (held : Option (List ℕ)) → Appends held held []
 none_gained None = tt
 none_gained (Some bytes) = sym (append-nil bytes)
 
--- nothing was said
-pub says_nothing : {E : Type 0} (e : outputs.Ghosts E) (before : E) → Says e before before true []
-says_nothing e before = record { good = λ good. good; gained = λ said good. none_gained (e.contents before) }
-
-both_said : (one other : Bool) → (one && other) ≡ true → (one ≡ true) × (other ≡ true)
-both_said true true said = (refl, refl)
-both_said true false said = absurd (cc)
-both_said false other said = absurd (cc)
-
 pub both_gained : (a b c : Option (List ℕ)) (one other : List ℕ) → Appends a b one → Appends b c other
     → Appends a c (one ++ other)
 both_gained None b c one other x y = tt
 both_gained (Some xs) None c one other x y = absurd x
 both_gained (Some xs) (Some ys) None one other x y = absurd y
 both_gained (Some xs) (Some ys) (Some zs) one other x y = y ∙ ap (λ l. l ++ other) x ∙ append_assoc xs one other
-
--- two texts were said, one after the other
-pub says_both : {E : Type 0} (e : outputs.Ghosts E) (before between after : E) (one other : Bool) (x y : List ℕ)
-    → Says e before between one x → Says e between after other y
-    → Says e before after (one && other) (x ++ y)
-says_both e before between after one other x y a b = record {
-  good = λ good. a.good (b.good good);
-  gained = λ said good.
-      let (first, second) = both_said one other said in
-      both_gained (e.contents before) (e.contents between) (e.contents after) x y (a.gained first (b.good good))
-      (b.gained second good);
-}
 
 -- no sheet was reported yet
 pub none_reported : {W E : Type 0} (e : outputs.Ghosts E) (task : Task) (before : E)

@@ -1,7 +1,7 @@
 -- Items that are moved from the front of one list to the end of another.
-use Rattle.std.proofs.Common.{◌≡◌, ◌++◌, ◌∷◌, [], List, All, append_assoc, append-nil, arith, length, map, subst, sym}
-use Rattle.std.proofs.Common.{◌≢◌, ◌⊎◌, ◌∙◌, ℕ, ap₂, inl, inr, refl}
-use Rattle.std.proofs.Common.{◌<◌, ◌+◌, Bool, ap, get_or, take, true}
+use Rattle.std.proofs.Common.{◌≡◌, ◌++◌, ◌∷◌, [], List, All, append_assoc, arith, length, map, subst, sym}
+use Rattle.std.proofs.Common.{◌≢◌, ◌⊎◌, ℕ, ap₂, inl, inr, refl}
+use Rattle.std.proofs.Common.{◌<◌, ◌+◌, Bool, get_or, take, true}
 use Rattle.std.specs.Prelude.{◌==◌}
 use Rattle.std.specs.Borrow.{Bor}
 use Rattle.std.specs.List.{AllZip}
@@ -23,12 +23,6 @@ pub made_more : {X Y Z : Type 0} (f : X → Z) (h : Y → Z) (all : List Z) (don
     → new ≡ done ++ one ∷ [] → f one ≡ h item → left ≡ item ∷ rest → map f done ++ map h left ≡ all
     → map f new ++ map h rest ≡ all
 made_more f h all done new one left rest item n s l e = rw (n, map-append, append_assoc, s) (rw l at e)
-
--- once none is left, all are made
-pub all_made : {X Y Z : Type 0} (f : X → Z) (h : Y → Z) (all : List Z) (done : List X) (left : List Y) → length left ≡ 0
-    → map f done ++ map h left ≡ all → map f done ≡ all
-all_made f h all done [] e p = sym (append-nil (map f done)) ∙ p
-all_made f h all done (item ∷ left) e p = absurd (omega arith)
 
 -- what holds of each item of a list holds of each of one more
 pub each_more : {X : Type 0} (P : X → Type 0) (xs new : List X) (x : X) → new ≡ xs ++ x ∷ [] → All P xs → P x
@@ -59,11 +53,6 @@ pub zip_more : {X Y : Type 0} (R : X → Y → Type 0) (all xs left rest : List 
     → (taken : List X) × (taken ++ rest ≡ all) × AllZip R taken new
 zip_more R all xs left rest ys new x y n s e zip one =
     (xs ++ x ∷ [], rw append_assoc (rw s at e), rw n (zip_pushed R xs ys x y zip one))
-
-pub zip_all : {X Y : Type 0} (R : X → Y → Type 0) (all xs left : List X) (ys : List Y) → length left ≡ 0
-    → xs ++ left ≡ all → AllZip R xs ys → AllZip R all ys
-zip_all R all xs [] ys none e zip = subst (λ l. AllZip R l ys) (sym (append-nil xs) ∙ e) zip
-zip_all R all xs (x ∷ left) ys none e zip = absurd (omega (arith, none))
 
 -- the sheets that were made have ended
 pub ends_named : {R W : Type 0} (r : reads.Ghosts R) (o : outputs.Ghosts W) (task : Task) (lines : List NameLine)

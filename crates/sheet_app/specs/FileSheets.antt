@@ -1,5 +1,5 @@
 -- The sheets of a command line, as their files are opened.
-use Rattle.std.specs.Prelude.{◌≡◌, ◌++◌, ℕ, List, codes, if◌then◌else◌}
+use Rattle.std.specs.Prelude.{◌++◌, ℕ, List, codes, if◌then◌else◌}
 use Rattle.clap.specs.Words.{Text}
 use Rattle.register_files.specs.Openings.{IsNewlyMade}
 use Rattle.register_records.specs.declared.outputs.Output as outputs

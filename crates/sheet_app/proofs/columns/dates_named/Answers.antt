@@ -1,5 +1,5 @@
 -- Each turn finds the next column.
-use Rattle.std.proofs.Common.{rules, ◌≡◌, ◌<◌, ◌∷◌, ◌++◌, [], Some, None, slice_get, get_or, map, length, List, ℕ, arith}
+use Rattle.std.proofs.Common.{rules, ◌≡◌, ◌<◌, ◌∷◌, ◌++◌, [], get_or, length, arith}
 use Rattle.csv.specs.Records.{fields_of}
 use Rattle.sheet_arguments.specs.Requests.{task_of}
 use Rattle.sheet_app.proofs.ColumnLemmas.{asked_word, date_column, one_more_date}

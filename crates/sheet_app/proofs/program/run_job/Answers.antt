@@ -1,6 +1,5 @@
 -- Standard input is converted where no file is asked for, and else the files.
-use Rattle.std.proofs.Common.{rules, ◌≡◌, ◌↔◌, ◌∙◌, [], All, List, ℕ, ap, arith, inl, inr, length, map, refl, true, vec_len}
-use Rattle.std.specs.Borrow.{Bor}
+use Rattle.std.proofs.Common.{rules, ◌≡◌, ◌↔◌, ◌∙◌, All, arith, inl, inr, length, refl, true, vec_len}
 use Rattle.sheet_arguments.specs.Requests.{task_of}
 use Rattle.sheet_app.specs.EndedSheets.{is_complete}
 use Rattle.sheet_app.specs.declared.converting.EndedSheet.{EndedSheet}

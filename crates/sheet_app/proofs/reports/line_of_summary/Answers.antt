@@ -1,5 +1,5 @@
 -- Each turn adds the next count.
-use Rattle.std.proofs.Common.{rules, ◌≡◌, ◌<◌, ◌∙◌, arith, get_or, length, map, sym}
+use Rattle.std.proofs.Common.{rules, ◌≡◌, ◌<◌, ◌∙◌, get_or, length, map, sym}
 use Rattle.std.proofs.Common.{[], ◌++◌, codes}
 use Rattle.std.specs.Fmt.{decimal}
 use Rattle.sheet_app.specs.Lines.{head_of}

@@ -1,8 +1,7 @@
 -- What is known was made of what the task asks, with the names of the list and the headings of the sheet.
 use Rattle.std.proofs.Common.{◌∙◌, ap, map}
-use Rattle.register_sheets.specs.AskedOfSheets.{IsChoiceBy, IsListedChoice, asked_in}
+use Rattle.register_sheets.specs.AskedOfSheets.{asked_in}
 use Rattle.register_sheets.specs.Headings.{items_of}
-use Rattle.register_sheets.specs.declared.choices.SheetChoice.{SheetChoice}
 use Rattle.register_sheets.proofs.AskedOfSheetLemmas.{listed_choice}
 use Rattle.sheet_arguments.specs.Requests.{task_of}
 use Rattle.written_dates.specs.Fields.{bare_name}

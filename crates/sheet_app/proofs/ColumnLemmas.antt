@@ -73,8 +73,9 @@ no_column names word text bare most e f many is none bare_none = record {
 pub asked_word : (words : List (Bor Text)) (index : ℕ) (word : Bor Text) → index < length words
     → word ≡ get_or words index word → slice_get (map (λ (w : Bor Text). w.now) words) index ≡ Some word.now
 asked_word words index word within there =
-    slice_get-map (λ (w : Bor Text). w.now) words index
-    ∙ ap (option_map (λ (w : Bor Text). w.now)) (slice_get-get_or words index word within ∙ ap (λ (w : Bor Text). Some w) (sym there))
+    let found : slice_get words index ≡ Some word
+    = slice_get-get_or words index word within ∙ ap (λ (w : Bor Text). Some w) (sym there) in
+    slice_get-map (λ (w : Bor Text). w.now) words index ∙ ap (option_map (λ (w : Bor Text). w.now)) found
 
 pub date_column : (names : Fields) (task : Task) (index : ℕ) (word : Text) (column : DateColumn)
     → slice_get task.dates index ≡ Some word → IsColumn names word column.date

@@ -36,8 +36,13 @@ text_more line head [] i text within same is = absurd (omega (arith, within))
 text_more line head (first ∷ texts) zero text within same is =
     rw (is, same) (rw (append-nil head, append-nil first) refl)
 text_more line head (first ∷ texts) (suc i) text within same is =
-    rw (next_listed i text, is, same, take_more (first ∷ texts) (suc i) [] within,
-    listed_more first (take i texts) (get_or texts i []))
+    rw (
+      next_listed i text,
+      is,
+      same,
+      take_more (first ∷ texts) (suc i) [] within,
+      listed_more first (take i texts) (get_or texts i []),
+    )
     (append_assoc head (listed (first ∷ take i texts)) (codes ", " ++ get_or texts i []))
 
 none_gained : (held : Option (List ℕ)) → Appends held held []

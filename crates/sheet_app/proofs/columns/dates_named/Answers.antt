@@ -1,6 +1,7 @@
 -- Each turn finds the next column.
 use Rattle.std.proofs.Common.{rules, ◌≡◌, ◌<◌, ◌∷◌, ◌++◌, [], get_or, length, arith}
 use Rattle.csv.specs.Records.{fields_of}
+use Rattle.register_sheets.specs.declared.choices.DateColumn.{DateColumn}
 use Rattle.sheet_arguments.specs.Requests.{task_of}
 use Rattle.sheet_app.proofs.ColumnLemmas.{asked_word, date_column, one_more_date}
 use Rattle.sheet_app.proofs.columns.dates_named.Goals as goal
@@ -10,9 +11,12 @@ dates-preserved c =
     let names = fields_of c.args.names.now in
     let task = task_of c.args.job.now in
     let words = c.args.job.now.dates.items in
-    let within : c.dates.index < length words = omega (arith, c.dates-test.true, c.len-index-end.ensures) in
-    let there : c.index-word.result.now ≡ get_or words c.dates.index c.index-word.result.now = search rules in
-    let pushed : c.push.new.self.items ≡ c.dates.dates.items ++ record { date = c.in-Some.date; calendar = c.in_ok-calendar.calendar } ∷ [] = search rules in
-    one_more_date names task c.dates.dates.items c.push.new.self.items c.dates.index _ c.dates.invariant
-    (date_column names task c.dates.index c.index-word.result.now.now _ (asked_word words c.dates.index c.index-word.result.now within there)
-    c.in-Some.ensures.some c.in_ok-calendar.ensures) pushed
+    let index = c.dates.index in
+    let word = c.index-word.result.now in
+    let column : DateColumn = record { date = c.in-Some.date; calendar = c.in_ok-calendar.calendar } in
+    let within : index < length words = omega (arith, c.dates-test.true, c.len-index-end.ensures) in
+    let there : word ≡ get_or words index word = search rules in
+    let pushed : c.push.new.self.items ≡ c.dates.dates.items ++ column ∷ [] = search rules in
+    one_more_date names task c.dates.dates.items c.push.new.self.items index column c.dates.invariant
+    (date_column names task index word.now column (asked_word words index word within there) c.in-Some.ensures.some
+    c.in_ok-calendar.ensures) pushed

@@ -15,11 +15,11 @@ sources-preserved g c =
     let before = c.sources.opened-iterator in
     let IsOpened = λ (file : OpenedFile g.row.R.Denot). g.P.FileStore.is_opened store file.name.now file.source in
     let IsMade = λ (sheet : FileSheet g.row.R.Denot g.row.W.Denot). IsNewSheet g.W.Output (g.P.FileStore.is_opened store)
-        (g.P.FileStore.is_made store) (task_of c.args.job.now) sheet in
+    (g.P.FileStore.is_made store) (task_of c.args.job.now) sheet in
     let left : into_iter_items before ≡ opened ∷ into_iter_items c.next.new.self = search rules in
     let pushed : c.push.new.self.items ≡ c.sources.sheets.items ++ c.in_ok-sheet.sheet ∷ [] = search rules in
     let first = first_of_left IsOpened (into_iter_items before) (into_iter_items c.next.new.self) opened left
-        c.sources.invariant.opened in
+    c.sources.invariant.opened in
     record {
       named = made_more sheet_name source_name _ c.sources.sheets.items c.push.new.self.items c.in_ok-sheet.sheet
           (into_iter_items before) (into_iter_items c.next.new.self) opened pushed c.in_ok-sheet.ensures.named left

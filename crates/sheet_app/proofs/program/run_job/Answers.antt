@@ -34,8 +34,7 @@ returns-clause-files g c = λ low some.
     let task = task_of c.args.job.now in
     let zip = c.convert_all-ended.ensures.ended in
     let all : (c.are_complete.result ≡ true) ↔ All (λ (sheet : EndedSheet g.row.W.Denot). is_complete sheet ≡ true) ended
-    = rw c.as_slice.ensures.value at c.are_complete.ensures in
-    (
+    = rw c.as_slice.ensures.value at c.are_complete.ensures in (
       list,
       c.in-Ok.ensures.lists,
       refl,

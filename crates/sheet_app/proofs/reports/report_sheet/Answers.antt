@@ -15,4 +15,7 @@ returns-in-WholeBut-clause-lines g c =
     c.line_of_fault.ensures c.send_line.ensures.line c.send_line.ensures.lost in
     let lines = λ (done : SheetDone). lines_on c.args.summary c.args.dates c.args.name.now done in
     let Told = λ (text : List ℕ). Says g.E.Output before after c.send_line.result text in
-    elim c.in-WholeBut.is [ inl but ↦ subst Told (sym (ap lines but)) said | inr broken ↦ subst Told (sym (ap lines broken)) said ]
+    elim c.in-WholeBut.is [
+      | inl but ↦ subst Told (sym (ap lines but)) said
+      | inr broken ↦ subst Told (sym (ap lines broken)) said
+    ]

@@ -9,6 +9,7 @@ ghost use Rattle.register_page_exports.specs.Reports.{Reports, ReportsEnd};
 
 mod choices;
 pub mod dates;
+pub mod days;
 pub mod orders;
 pub mod sheet_tables;
 pub mod sheets;

@@ -1,10 +1,15 @@
-//! The order of entries by their days, for a page.
+//! The order of entries by their days, and records in an order, for a page.
 
-ghost use Rattle.std.specs.Prelude.{◌≡◌, ◌≢◌, ℕ, List};
+ghost use Rattle.std.specs.Prelude.{◌≡◌, ◌≢◌, ◌⊎◌, ◌≤◌, ◌<◌, ℕ, List, All, Any, length};
 ghost use Rattle.day_orders.specs.DayOrders.{IsDayOrder};
+ghost use Rattle.record_orders.specs.Orders.{records_at};
+ghost use Rattle.register_records.specs.Entries.{text_records};
+ghost use Rattle.register_sheets.specs.Sheets.{records_text};
 ghost use Rattle.register_page_exports.specs.SheetReports.{PutsText};
 
+use crate::sheets::{TextReport, put_text};
 use day_orders::day_order as order_of;
+use record_orders::{OrderFault, records_in_order};
 use register_page::copy_if_fits;
 use std::alloc::Global;
 
@@ -34,6 +39,37 @@ pub extern "C" fn day_order(alloc: Global, days: &[u32], room: &mut [u32], repor
         },
         Err(_) => OrderReport {
             ending: 1,
+            length: 0,
+        },
+    };
+}
+
+/// Puts the CSV text of the records of `text` at these `indices` to the front of `room`: [`records_in_order`], with a
+/// report. Its ending is 0 where the text was made, 1 where memory ran out, and 2 where an index is that of no record.
+#[unsafe(no_mangle)]
+pub extern "C" fn sheet_records(
+    alloc: Global,
+    text: &[u8],
+    delimiter: u8,
+    indices: &[u32],
+    room: &mut [u8],
+    report: &mut TextReport,
+)
+    ensures text { report.new.ending ≡ 0 → PutsText (records_text delimiter
+        (records_at (text_records delimiter text.now) indices.now)) room.old room.new report.new.length }
+    ensures there { report.new.ending ≡ 0
+        → All (λ index. index < length (text_records delimiter text.now)) indices.now }
+    ensures none { report.new.ending ≢ 0 → (report.new.length ≡ 0) × (room.new ≡ room.old) × ((report.new.ending ≡ 1)
+        ⊎ ((report.new.ending ≡ 2) × Any (λ index. length (text_records delimiter text.now) ≤ index) indices.now)) }
+{
+    *report = match records_in_order(alloc, text, delimiter, indices) {
+        Ok(made) => put_text(made.as_slice(), room),
+        Err(OrderFault::OutOfMemory) => TextReport {
+            ending: 1,
+            length: 0,
+        },
+        Err(OrderFault::NoSuchRecord) => TextReport {
+            ending: 2,
             length: 0,
         },
     };

@@ -1,4 +1,4 @@
-//! Tests of `register_page` and `register_sheets` through their public functions.
+//! Tests of what `register_page_exports` offers a page, through the public functions that it calls.
 #![tactic(auto)]
 
 #[cfg(test)]

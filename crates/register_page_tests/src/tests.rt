@@ -8,6 +8,7 @@ use register_sheets::{WriteFault, pick, write};
 use std::alloc::Global;
 use std::test::Fail;
 
+mod days;
 mod examples;
 mod names;
 mod orders;

@@ -1,7 +1,10 @@
-//! The examples in the doc comments of `register_page` and `register_sheets`, each under the name of its item. The lines
-//! are the same in both places.
+//! The examples in the doc comments of `register_page`, `register_sheets`, `entry_days` and `record_orders`, each under the
+//! name of its item. The lines are the same in both places.
 
+use entry_days::{EntryDay, register_days};
+use record_orders::records_in_order;
 use register_page::convert_text;
+use register_records::{Form, Setup};
 use register_sheets::{pick, write};
 use std::test::Fail;
 
@@ -32,5 +35,36 @@ fn fields_are_picked(rt: HostRuntime) -> Result<(), Fail> {
 fn fields_are_written(rt: HostRuntime) -> Result<(), Fail> {
     let text = write(rt.alloc(), b"a,bc\"d", &[3, 0, 3], 2, b',')?;
     assert!(rt; text.as_slice() == b"\"a,b\",\n\"c\"\"d\"\n".as_slice());
+    Ok(())
+}
+
+/// `register_days`
+#[test]
+fn a_register_has_its_days(rt: HostRuntime) -> Result<(), Fail> {
+    let setup = Setup::new(&[], 1, b',', 1, Form::Plain)?;
+    let mut days = Vec::new(rt.alloc());
+    register_days(
+        rt.alloc(),
+        b"id,calendar,date\na,iso,0001-W01-1\n",
+        &setup,
+        &mut days,
+    )?;
+    assert!(rt;
+        days.as_slice()
+            == [EntryDay {
+                day: 3652425,
+                calendar: 1
+            }]
+            .as_slice()
+    );
+    Ok(())
+}
+
+/// `records_in_order`
+#[test]
+fn records_come_in_another_order(rt: HostRuntime) -> Result<(), Fail> {
+    let text = b"Name,Date\r\n\"Shaw, Anna\",\"1699\"\nLund";
+    let made = records_in_order(rt.alloc(), text, b',', &[0, 2, 1])?;
+    assert!(rt; made.as_slice() == b"Name,Date\nLund\n\"Shaw, Anna\",1699\n".as_slice());
     Ok(())
 }

@@ -3,7 +3,7 @@
 import { clear, downloadLink, element, setText, textOf, withFocus } from './elements.mjs';
 import { WORDS } from './language.mjs';
 
-const HEADS = ['name', 'rows', 'refused', 'state', 'table'];
+const HEADS = ['name', 'form', 'rows', 'refused', 'state', 'table'];
 
 function newTable(count) {
   const table = element('table', '', { className: 'list' });
@@ -41,20 +41,21 @@ function saveLink(link, number, { saved }) {
 /** A row of the list, and what draws it. A table that was saved is not drawn anew, or its link would end. */
 function newRow(number, steps) {
   const line = element('tr'), open = element('button', '', { type: 'button', className: 'plain', id: `open-${number}` });
+  const form = element('td', '', { className: 'form' });
   const [rows, refused] = [0, 1].map(() => element('td', '', { className: 'number' }));
   const state = element('td', '', { className: 'state' }), cell = element('td');
   const table = cell.appendChild(element('div', '', { className: 'buttons' }));
   const saved = element('span', WORDS.isSaved, { className: 'is-saved', hidden: true });
   const name = element('th', '', { scope: 'row' });
   name.append(open);
-  rows.dataset.name = WORDS.listHeads.rows;
-  refused.dataset.name = WORDS.listHeads.refused;
-  line.append(name, rows, refused, state, cell);
+  for (const [it, head] of [[form, 'form'], [rows, 'rows'], [refused, 'refused']]) it.dataset.name = WORDS.listHeads[head];
+  line.append(name, form, rows, refused, state, cell);
   open.setAttribute('aria-controls', 'register-opened');
   open.addEventListener('click', () => steps.opened(number));
   let drawn = { text: '', kind: '', blob: null };
   const drawTexts = (report, isOpen) => {
     setText(open, { own: report.name }).setAttribute('aria-expanded', String(isOpen));
+    setText(form, report.form);
     report.counts.forEach((count, i) => setText([rows, refused][i], count));
     setText(state, report.state);
     line.className = report.kind;
@@ -71,8 +72,8 @@ function newRow(number, steps) {
   return {
     line,
     draw(report, isOpen) {
-      const blob = report.link && report.link.blob, { name: title, kind, counts, state: words, isSaved } = report;
-      const text = textOf([{ own: title }, kind, ...counts, words, `${isSaved} ${isOpen}`]);
+      const blob = report.link && report.link.blob, { name: title, kind, form: taken, counts, state: words, isSaved } = report;
+      const text = textOf([{ own: title }, kind, taken, ...counts, words, `${isSaved} ${isOpen}`]);
       if (text !== drawn.text) drawTexts(report, isOpen);
       if (kind !== drawn.kind || blob !== drawn.blob) drawTable(report);
       drawn = { text, kind, blob };

@@ -181,12 +181,18 @@ function stateWords(job, now) {
   return [words, ...firstLineWords(reply).flatMap((line) => [' ', line])];
 }
 
+// What a register was taken for, by its header: nothing before it was read, and of one without its header.
+function formWords({ reply }) {
+  const answer = reply && reply.answer;
+  return answer && answer.ending !== NO_HEADER ? WORDS.formOf(WORDS.delimiters[answer.delimiter], answer.sealed) : '';
+}
+
 function listRow(job, now) {
   const { number, file, status, reply, isSaved } = job, has = registers.hasTable(job), isWhole = registers.isWhole(job);
   const answer = has ? reply.answer : null, name = registers.tableName(job);
   const size = has ? WORDS.bytes(answer.table.size) : '';
   return {
-    number, name: file.name, state: stateWords(job, now), isSaved,
+    number, name: file.name, form: formWords(job), state: stateWords(job, now), isSaved,
     kind: status === 'ended' ? (isWhole ? 'whole' : 'broken') : status,
     counts: has ? [answer.rows, answer.refused].map(WORDS.number) : ['', ''],
     caution: has && answer.formulas.count ? WORDS.formulasShort(answer.formulas.count) : '',

@@ -146,7 +146,7 @@ async function register({ compiled, file, columns }) {
   const setup = { columns: numbersOf(columns), delimiter, sealed };
   const converted = module.convert(text, setup, expectedLength(text.length, lines, columns.length));
   await checkUnchanged(file, bytesAt);
-  const answer = { ...converted, delimiter };
+  const answer = { ...converted, delimiter, sealed };
   if (answer.ending === NO_HEADER) return { ...answer, table: null, firstLine: firstLineOf(frontOf(module, text)) };
   if (answer.table.length === 0) return { ...answer, table: null };
   const table = new Table(module, answer.table, delimiter);

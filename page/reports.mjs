@@ -194,7 +194,8 @@ function listRow(job, now) {
   return {
     number, name: file.name, form: formWords(job), state: stateWords(job, now), isSaved,
     kind: status === 'ended' ? (isWhole ? 'whole' : 'broken') : status,
-    counts: has ? [answer.rows, answer.refused].map(WORDS.number) : ['', ''],
+    // They are known of a whole table alone.
+    counts: isWhole ? [answer.rows, answer.refused].map(WORDS.number) : ['', ''],
     caution: has && answer.formulas.count ? WORDS.formulasShort(answer.formulas.count) : '',
     link: has ? {
       words: isWhole ? WORDS.saveShort(size) : WORDS.savePartShort(size), blob: answer.table, name, isTable: true,

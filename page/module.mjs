@@ -1,13 +1,17 @@
 // What stands between the page, or Node, and the WebAssembly module: a heap, and the module's calls.
 
+import { FACTS } from './unbuilt-facts.mjs';
+
 const PAGE = 65536;
 // What the module's memory can have: pointers of 32 bits, without the last page.
 const MOST = 2 ** 32 - PAGE;
-// Fields that are turned into bytes, or back, at once.
-const AT_ONCE = 256;
-/** The day of an entry without one, and how the module has it. */
-export const NO_DAY = 2 ** 31 - 1;
-const NO_DAY_THERE = 2 ** 32 - 1;
+// Fields that are turned into bytes, or back, at once; bytes that a record may have where some of many are wanted, and that
+// each has.
+const AT_ONCE = 256, FEW = 1024, LEAST_RECORD = 2;
+/** The day of an entry without one. Others are counted from the first day that a table can have, which is 0. */
+export const NO_DAY = 2 ** 32 - 1;
+/** The calendar of an entry whose calendar is not known. */
+export const NO_CALENDAR = 255;
 // Of three numbers the day stands first.
 const DAY_FIRST = 1;
 
@@ -370,20 +374,50 @@ export class Module {
     return { ending, list: found, more, short, kept };
   }
 
+  // So many numbers of 32 bits that stand in a part, copied out.
+  numbersOf({ pointer }, count) {
+    return new Uint32Array(this.exports.memory.buffer, pointer, count).slice();
+  }
+
+  /**
+   * The days of a register's records and the numbers of their calendars, and how its reading ended; where it broke off, they
+   * are those of the records before. `guess` is how many there may be.
+   * @param {Part} text
+   * @returns {{ ending: number, days: Uint32Array, calendars: Uint8Array }}
+   */
+  registerDays(text, delimiter, sealed, guess = expectedRecords(text.length)) {
+    const days = { ...this.malloc(4 * guess), items: guess }, calendars = this.malloc(guess);
+    const [ending, length] = this.call('register_days', 2, [text, delimiter, sealed ? 1 : 0, days, calendars]);
+    const isWhole = length <= guess, own = isWhole ? this.numbersOf(days, length) : null;
+    const found = isWhole ? { ending, days: own, calendars: this.bytes({ ...calendars, length }).slice() } : null;
+    this.free(calendars, days);
+    return found || this.registerDays(text, delimiter, sealed, length);
+  }
+
   /**
    * The numbers of entries, from 0, by their days. Those of the same day, and those without one, which stand at the end, are in
    * the order in which they came.
-   * @param {Int32Array} days
+   * @param {Uint32Array} days
    */
   dayOrder(days) {
-    const first = days.reduce((least, day) => Math.min(least, day), NO_DAY);
-    const lent = this.putNumbers(Uint32Array.from(days, (day) => (day === NO_DAY ? NO_DAY_THERE : day - first)));
-    const room = { ...this.malloc(4 * days.length), items: days.length };
+    const lent = this.putNumbers(days), room = { ...this.malloc(4 * days.length), items: days.length };
     const [ending] = this.call('day_order', 2, [lent, room]);
     if (ending !== 0) throw new NoMemory();
-    const order = new Uint32Array(this.exports.memory.buffer, room.pointer, days.length).slice();
-    this.free(lent, room);
+    const order = this.numbersOf(room, days.length);
+    this.free(room, lent);
     return order;
+  }
+
+  /**
+   * The records of a sheet at these indices, from 0, in this order.
+   * @param {Part} text
+   */
+  sheetRecords(text, delimiter, indices) {
+    const numbers = this.putNumbers(indices), guess = PAGE + Math.min(text.length, FEW * indices.length);
+    const { ending, text: records } = this.makeFrom('sheet_records', 0, [text, delimiter, numbers], [numbers], guess);
+    if (ending === 1) throw new NoMemory();
+    if (ending !== 0) throw new Error(`sheet_records: ${ending}`);
+    return records;
   }
 
   /**
@@ -423,6 +457,9 @@ export async function instantiate(compiled, most = MOST) {
   const heap = new Heap(most);
   return new Module(await WebAssembly.instantiate(compiled, heap.imports()), heap);
 }
+
+// How many records a register of so many bytes can be expected to have, at most.
+const expectedRecords = (size) => Math.min(FACTS.limits.records, Math.ceil(size / LEAST_RECORD));
 
 /** How long the table of a register can be expected to be: what a record has, and a line's further cells. */
 export function expectedLength(size, lines, columns) {

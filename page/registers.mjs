@@ -12,7 +12,7 @@ const SMALL = 2 ** 20, SHARE = 64;
 
 /**
  * A job is a register, by its number among those that were chosen; `slot` is its place among those that run, and `tries`
- * says how often it was converted before. `picture` holds what a picture of its table shows, once it was wanted; for a
+ * says how often it was converted before. `picture` holds what a picture of its entries shows, once it was wanted; for a
  * register alone that is found before, and `ready` has it. Of a run,
  * `opened` is the number of the register whose details are shown, and `archive` holds the archive of all whole tables,
  * once it was wanted.
@@ -162,8 +162,8 @@ function isToBeDrawn({ jobs }, job) {
 
 function pictureTasks(run) {
   return run.jobs.filter((job) => isToBeDrawn(run, job)).map((job) => {
-    const { table, rows, delimiter } = job.reply.answer, key = pictureKey(run, job);
-    return { key, worker: key, name: 'picture', words: { table, rows, delimiter } };
+    const { text, delimiter, sealed } = job.reply.answer, key = pictureKey(run, job);
+    return { key, worker: key, name: 'picture', words: { text, delimiter, sealed } };
   });
 }
 

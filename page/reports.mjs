@@ -1,5 +1,6 @@
 // What is shown of registers and sheets, in words and rows, for the view to draw.
 
+import { CALENDARS } from './calendars.mjs';
 import { choicesText, isColumn } from './choices.mjs';
 import { CHOICES, canBeOther } from './door.mjs';
 import { textOf } from './elements.mjs';
@@ -208,11 +209,10 @@ function listRow(job, now) {
 
 const rowId = (id, { row }) => `${id}-row-${row}`;
 
-const calendarWords = ({ name, written }) => WORDS.calendars[name] || { own: written };
+const calendarWords = ({ calendar }) => WORDS.calendars[CALENDARS[calendar]] || WORDS.noCalendar;
 
 function pictureRow(id, row, far, { from }) {
-  const { name, bins, refused } = row;
-  const own = far.filter(({ calendar }) => calendar.trim().toLowerCase() === name);
+  const { bins, refused } = row, own = far.filter(({ calendar }) => calendar === row.calendar);
   return {
     label: calendarWords(row), bins, refused: refused === 0 ? '' : WORDS.refused(refused),
     far: own.map((it) => ({ id: rowId(id, it), year: it.year, side: it.day < from ? 'before' : 'behind' })),
@@ -220,17 +220,17 @@ function pictureRow(id, row, far, { from }) {
 }
 
 // What the picture shows, in words: each calendar, and each gap, which the picture leads to.
-function pictureLines({ rows, others }, gaps) {
+function pictureLines({ rows }, gaps) {
   const ofRows = rows.map((row) =>
     ({ words: WORDS.entriesOf(calendarWords(row), row.count, row.years, row.refused) }));
-  return [...ofRows, ...(others ? [{ words: WORDS.otherEntries(others) }] : []), ...gaps];
+  return [...ofRows, ...gaps];
 }
 
 function farTable(pictureId, far, allFar) {
   if (far.length === 0) return [];
   const { row, id, calendar, date, year } = WORDS.pictureHeads;
   const rows = far.map((it) => ({
-    fields: [String(it.row), it.id, it.calendar, it.date, String(it.year)], reason: '', span: 0, id: rowId(pictureId, it),
+    fields: [String(it.row), it.id, it.written, it.date, String(it.year)], reason: '', span: 0, id: rowId(pictureId, it),
   }));
   return [{ caption: WORDS.farEntries(far.length, allFar), heading: [row, id, calendar, date, year], rows }];
 }

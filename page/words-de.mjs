@@ -272,7 +272,7 @@ export const WORDS = {
   entriesOf: (name, n, years, refused) => [name, ': ', WORDS.entries(n),
     n === 0 ? '' : years[0] === years[1] ? ` in ${years[0]}` : ` von ${years[0]} bis ${years[1]}`,
     refused === 0 ? '' : `; ${WORDS.refused(refused)}`, '.'],
-  otherEntries: (n) => `Andere Namen von Kalendern: ${WORDS.entries(n)}.`,
+  noCalendar: 'Kein bekannter Kalender',
   gap: (one, other) => ['Kein Eintrag zwischen ', own(one.date), ` (Zeile ${WORDS.number(one.row)}) und `, own(other.date),
     ` (Zeile ${WORDS.number(other.row)}), von ${one.year} bis ${other.year}.`],
   farEntries: (n, all) => (n < all ? `Die ersten ${n} von ${WORDS.number(all)} Einträgen, die weit von den anderen liegen`

@@ -259,7 +259,7 @@ export const WORDS = {
   entriesOf: (name, n, years, refused) => [name, ': ', WORDS.entries(n),
     n === 0 ? '' : years[0] === years[1] ? ` in ${years[0]}` : ` from ${years[0]} to ${years[1]}`,
     refused === 0 ? '' : `; ${WORDS.refused(refused)}`, '.'],
-  otherEntries: (n) => `Other names of calendars: ${WORDS.entries(n)}.`,
+  noCalendar: 'No known calendar',
   gap: (one, other) => ['No entry between ', own(one.date), ` (row ${WORDS.number(one.row)}) and `, own(other.date),
     ` (row ${WORDS.number(other.row)}), from ${one.year} to ${other.year}.`],
   farEntries: (n, all) => (n < all ? `The first ${n} of ${WORDS.number(all)} entries that are far from the others`

@@ -3,15 +3,14 @@
 import { TooLarge, archiveOf } from './archive.mjs';
 import { CALENDARS, TARGETS } from './calendars.mjs';
 import { choicesOf, columnNumbers } from './choices.mjs';
-import { ChangedFile, NoReading, checkUnchanged, readFile, readPieces } from './files.mjs';
+import { ChangedFile, NoReading, checkUnchanged, readFile } from './files.mjs';
 import { formulasAmong, mayHaveFormula } from './formulas.mjs';
 import { NoMemory, expectedLength, instantiate } from './module.mjs';
-import { putInOrder, recordBegins } from './orders.mjs';
 import {
   isAnsel, isDelimiterOf, isJson, isObject, isTree, kindOf, likelyAbove, likelyDelimiter, likelyEncodings, markedEncoding,
 } from './proposals.mjs';
 import { EVERY, LOOKED_AT, REFUSED_SHOWN, SHOWN, Table, range, rowsOf } from './tables.mjs';
-import { Entries, timelineOf } from './timeline.mjs';
+import { timelineOf } from './timeline.mjs';
 import { FACTS } from './unbuilt-facts.mjs';
 import { NAMES } from './unbuilt-names.mjs';
 
@@ -56,6 +55,13 @@ async function blobOf(module, part, ...first) {
     await new Promise((done) => { setTimeout(done); });
   }
   return new Blob(pieces, { type: 'text/csv' });
+}
+
+// Takes the bytes of a Blob into the module's memory.
+async function partOf(module, blob) {
+  const part = module.malloc(blob.size);
+  await readFile(blob, (at, length) => module.bytes({ pointer: part.pointer + at, length }));
+  return part;
 }
 
 const numbersOf = (targets) => targets.map((name) => TARGETS.indexOf(name));
@@ -152,7 +158,8 @@ async function register({ compiled, file, columns }) {
   const table = new Table(module, answer.table, delimiter);
   const first = table.firstRows(), refused = answer.ending === 0 && answer.refused === 0 ? null : table.refusedRows();
   const formulas = formulasOf(module, text, answer.table, delimiter, first.from, answer.rows);
-  return { ...answer, first, refusedRows: refused, formulas, table: await blobOf(module, answer.table, MARK) };
+  const own = await blobOf(module, text), made = await blobOf(module, answer.table, MARK);
+  return { ...answer, first, refusedRows: refused, formulas, text: own, table: made };
 }
 
 /** An archive of files, with a comment. */
@@ -160,11 +167,12 @@ async function archive({ files, comment }) {
   return { archive: await archiveOf(files, comment, new Date()) };
 }
 
-/** What a picture of a table with so many rows shows. The mark before it is no part of it. */
-async function picture({ compiled, table, delimiter, rows }) {
-  const own = table.slice(MARK_LENGTH), entries = new Entries(delimiter, rows);
-  await readPieces(own, (_, piece) => entries.take(piece));
-  return timelineOf(await instantiate(compiled), entries.whole(), delimiter, (from, to) => own.slice(from, to));
+/** What a picture of a register shows, by the text that was converted. One that broke off has the records before. */
+async function picture({ compiled, text, delimiter, sealed }) {
+  const module = await instantiate(compiled), own = await partOf(module, text);
+  const entries = module.registerDays(own, delimiter, sealed);
+  if (entries.ending === 1) throw new NoMemory();
+  return timelineOf(module, own, delimiter, entries);
 }
 
 // ---- Sheets ----
@@ -442,18 +450,15 @@ async function sheetRegister(words) {
   return { ending, register: made };
 }
 
-// The days of one column of dates and what a picture of them shows, by the table of its register.
+// The days of one column of dates, and what a picture of them shows, by its register.
 async function gathered(words) {
   const { module, delimiter, ending, table: register } = await registerOf(words);
   if (ending !== 0) throw new Error(`sheet_register: ${ending}`);
-  const setup = { columns: [], delimiter, sealed: false };
-  const { rows, table } = module.convert(register, setup, expectedLength(2 * register.length, 0, 0));
-  const gathering = new Entries(delimiter, rows);
-  gathering.take(module.bytes(table));
-  const entries = gathering.whole();
-  const picture = await timelineOf(module, entries, delimiter,
-    (from, to) => module.bytes({ pointer: table.pointer + from, length: to - from }));
-  module.free(table, register);
+  const entries = module.registerDays(register, delimiter, false);
+  if (entries.ending === 1) throw new NoMemory();
+  if (entries.ending !== 0) throw new Error(`register_days: ${entries.ending}`);
+  const picture = timelineOf(module, register, delimiter, entries);
+  module.free(register);
   return { days: entries.days, picture };
 }
 
@@ -474,16 +479,15 @@ const sheetPicture = async (words) => (await daysOf(words)).picture;
  */
 async function sortedSheet({ table, behind, ...words }) {
   const { days } = await daysOf(words), { module, delimiter } = await sheetOf(words), head = words.above + 1;
-  const own = table.slice(MARK_LENGTH), bytes = new Uint8Array(own.size), pieces = [];
-  await readPieces(own, (at, piece) => bytes.set(piece, at));
-  const begins = recordBegins(bytes, head + days.length), order = module.dayOrder(days);
-  putInOrder(bytes, begins, head, order, (piece) => pieces.push(new Blob([piece])));
-  const front = [];
-  putInOrder(bytes, begins, head, order.subarray(0, SHOWN), (piece) => front.push(piece.slice()));
-  const text = module.put(new Uint8Array(await new Blob(front).arrayBuffer()));
-  const first = firstJoined(module, text, delimiter, words.above, behind);
-  module.free(text);
-  return { table: new Blob([MARK, ...pieces], { type: 'text/csv' }), first };
+  const own = await partOf(module, table.slice(MARK_LENGTH)), indices = new Uint32Array(head + days.length);
+  indices.set(range(head));
+  indices.set(module.dayOrder(days).map((record) => head + record), head);
+  const sorted = module.sheetRecords(own, delimiter, indices);
+  // The same records have the same bytes in all.
+  if (sorted.length !== own.length) throw new Error(`sheet_records: ${sorted.length} bytes of ${own.length}`);
+  const first = firstJoined(module, sorted, delimiter, words.above, behind), made = await blobOf(module, sorted, MARK);
+  module.free(sorted, own);
+  return { table: made, first };
 }
 
 const TASKS = {

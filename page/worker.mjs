@@ -478,16 +478,16 @@ const sheetPicture = async (words) => (await daysOf(words)).picture;
  * @param {any} asked
  */
 async function sortedSheet({ table, behind, ...words }) {
-  const { days } = await daysOf(words), { module, delimiter } = await sheetOf(words), head = words.above + 1;
-  const own = await partOf(module, table.slice(MARK_LENGTH)), indices = new Uint32Array(head + days.length);
+  const { days } = await daysOf(words), { delimiter } = await sheetOf(words), head = words.above + 1;
+  const module = await instantiate(words.compiled), own = await partOf(module, table.slice(MARK_LENGTH));
+  const indices = new Uint32Array(head + days.length);
   indices.set(range(head));
   indices.set(module.dayOrder(days).map((record) => head + record), head);
   const sorted = module.sheetRecords(own, delimiter, indices);
   // The same records have the same bytes in all.
   if (sorted.length !== own.length) throw new Error(`sheet_records: ${sorted.length} bytes of ${own.length}`);
-  const first = firstJoined(module, sorted, delimiter, words.above, behind), made = await blobOf(module, sorted, MARK);
-  module.free(sorted, own);
-  return { table: made, first };
+  const first = firstJoined(module, sorted, delimiter, words.above, behind);
+  return { table: await blobOf(module, sorted, MARK), first };
 }
 
 const TASKS = {

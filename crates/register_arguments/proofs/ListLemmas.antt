@@ -1,5 +1,5 @@
 -- A list means one thing at most.
-use Rattle.std.proofs.Common.{rules, ◌≡◌, ◌∙◌, ◌⊎◌, ℕ, List, [], ◌∷◌, ◌++◌, length, sym, ap, ap₂, refl, subst, arith}
+use Rattle.std.proofs.Common.{rules, ◌≡◌, ◌∙◌, ℕ, List, [], ◌∷◌, ◌++◌, length, sym, ap, ap₂, refl, subst, arith}
 use Rattle.std.proofs.Common.{inl, inr, Option, Some, None, length-append, Result, Ok, Err, Contains, IfSome, slice_get}
 use Rattle.std.proofs.lemmas.Option.{slice_get_read}
 use Rattle.std.proofs.lemmas.List.{get_or_append_left}

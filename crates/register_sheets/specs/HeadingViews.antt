@@ -1,5 +1,5 @@
 -- What a clause sees of `NewNames`. No public contract cites this file.
-use Rattle.std.specs.Prelude.{◌≡◌, ◌++◌, ℕ, List, map}
+use Rattle.std.specs.Prelude.{◌≡◌, ◌++◌}
 use Rattle.csv.specs.Records.{fields_of}
 use Rattle.register_records.specs.Entries.{Fields}
 use Rattle.register_sheets.specs.Headings.{AreHeadings, items_of}

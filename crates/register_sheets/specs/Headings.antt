@@ -1,5 +1,5 @@
 -- What heads the columns that come behind a sheet.
-use Rattle.std.specs.Prelude.{◌≡◌, ◌<◌, ◌+◌, ◌==◌, ◌++◌, ⊤, ℕ, zero, suc, Bool, true, false, List, [], ◌∷◌, codes}
+use Rattle.std.specs.Prelude.{◌≡◌, ◌<◌, ◌+◌, ◌++◌, ⊤, ℕ, zero, suc, Bool, true, false, List, [], ◌∷◌, codes}
 use Rattle.std.specs.Prelude.{get_or, length, map, if◌then◌else◌, nat_lt, Vec}
 use Rattle.std.specs.declared.alloc.Global.{Global}
 use Rattle.std.specs.Fmt.{decimal}

@@ -1,8 +1,7 @@
-use Rattle.std.proofs.Common.{◌∙◌, [], ◌∷◌, rules}
+use Rattle.std.proofs.Common.{[], ◌∷◌}
 use Rattle.std.proofs.lemmas.Result.{IfErr-weaker, IfOk-weaker}
 use Rattle.register_records.proofs.StepLemmas.{passed_on}
-use Rattle.register_sheets.specs.Reading.{left_of}
-use Rattle.register_sheets.specs.Registers.{register_head, register_records}
+use Rattle.register_sheets.specs.Registers.{register_head}
 use Rattle.register_sheets.proofs.RegisterLemmas.{none_sent}
 use Rattle.register_sheets.proofs.SendingLemmas.{fields_made}
 use Rattle.register_sheets.proofs.registers.write_lines.Goals as goal

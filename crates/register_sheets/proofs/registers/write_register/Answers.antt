@@ -1,7 +1,7 @@
 use Rattle.std.proofs.Common.{◌≡◌, ◌<◌, ◌∙◌, ◌+◌, ◌∷◌, [], List, ap, drop, inl, inr, length, refl, rules, subst, true}
 use Rattle.std.specs.Prelude.{Ok}
 use Rattle.std.proofs.KnownBytes.{Appends-nil}
-use Rattle.register_records.specs.Entries.{Fields, text_records}
+use Rattle.register_records.specs.Entries.{Fields}
 use Rattle.register_records.proofs.StepLemmas.{passed_on}
 use Rattle.register_sheets.specs.Reading.{left_of}
 use Rattle.register_sheets.specs.Registers.{register_head}

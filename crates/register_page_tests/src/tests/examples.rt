@@ -42,21 +42,12 @@ fn fields_are_written(rt: HostRuntime) -> Result<(), Fail> {
 #[test]
 fn a_register_has_its_days(rt: HostRuntime) -> Result<(), Fail> {
     let setup = Setup::new(&[], 1, b',', 1, Form::Plain)?;
+    let text = b"id,calendar,date\na,iso,0001-W01-1\n";
     let mut days = Vec::new(rt.alloc());
-    register_days(
-        rt.alloc(),
-        b"id,calendar,date\na,iso,0001-W01-1\n",
-        &setup,
-        &mut days,
-    )?;
-    assert!(rt;
-        days.as_slice()
-            == [EntryDay {
-                day: 3652425,
-                calendar: 1
-            }]
-            .as_slice()
-    );
+    register_days(rt.alloc(), text, &setup, &mut days)?;
+    let (day, calendar) = (3_652_425, 1);
+    let found = [EntryDay { day, calendar }];
+    assert!(rt; days.as_slice() == found.as_slice());
     Ok(())
 }
 

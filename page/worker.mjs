@@ -100,10 +100,13 @@ function formulasOf(module, text, table, delimiter, width, records) {
 // A text's first line, as far as it is shown. What is no letter in it stands as the sign for that.
 const firstLineOf = (text) => text.split(/[\r\n]/, 1)[0].slice(0, LINE_SHOWN).replace(/[\0-\x08\x0e-\x1f]/g, '\ufffd');
 
-// How a register with this front is written, by its header, as the module reads it; or null where it has none.
+const isLineEnd = (byte) => byte === 10 || byte === 13;
+
+// How a register with this front is written, by its header, as the module reads it; or null where it has none. Empty lines
+// may stand above it.
 function formOf(module, bytes) {
-  const end = bytes.subarray(0, HEADER).findIndex((byte) => byte === 10 || byte === 13);
-  const header = module.put(end < 0 ? bytes.slice(0, HEADER) : bytes.slice(0, end + 1));
+  const own = bytes.subarray(Math.max(0, bytes.findIndex((byte) => !isLineEnd(byte)))).slice(0, HEADER);
+  const end = own.findIndex(isLineEnd), header = module.put(end < 0 ? own : own.slice(0, end + 1));
   const isIt = (form) => {
     const { ending, table } = module.convert(header, { columns: [], ...form }, HEADER);
     module.free(table);

@@ -1,9 +1,5 @@
 //! What calls cost. Without arguments each part is run for a moment and no times are printed. With arguments:
 //!
-//! - `calendars N`: for each calendar the nanoseconds of one `date_on` and one `day_of`, over N rounds of a sample of
-//!   days;
-//! - `texts N`: those of reading and writing a date, of finding a calendar's name, and of a cell of each target;
-//! - `lanes N`: those of an item on its way through a lane and through a plain ring, over N items;
 //! - `memory N`: registers of N records, over all calendars and of Gregorian dates alone, from memory to an output that
 //!   only counts, with every target and with none: records a second and nanoseconds a record, without a system call;
 //! - `stress SEED SECONDS`: registers at random by a run and on one thread, compared, until the seconds are over or the
@@ -14,16 +10,11 @@
 //!   that hands on each row.
 #![tactic(auto)]
 
-mod calendars;
-mod common;
-mod lanes;
 mod random;
 mod records;
 mod stress;
-mod texts;
+mod watch;
 
-use calendars::measure_calendars;
-use lanes::measure_lanes;
 use records::inputs::{Kind, register};
 use records::{FEW, by_lines, from_memory, over_files};
 use std::alloc::Global;
@@ -33,22 +24,13 @@ use std::thread::Threads;
 use std::time::{Clock, CpuClock};
 use std::{env, fs, io};
 use stress::stress;
-use texts::measure_texts;
 
 /// Runs every part for a moment.
 fn run_all<R: Threads + Wait + Sync + Clock + CpuClock + Print>(
     rt: &R,
     alloc: Global,
 ) -> io::Result<bool> {
-    measure_calendars(rt, alloc, None)?;
-    println!(rt; "every calendar measured")?;
-    measure_texts(rt, alloc, None)?;
-    println!(rt; "every date text measured")?;
-    let mut whole = measure_lanes(rt, alloc, None)?;
-    if whole {
-        println!(rt; "every item moved")?;
-    }
-    whole &= from_memory(rt, alloc, FEW, false)?;
+    let mut whole = from_memory(rt, alloc, FEW, false)?;
     if whole {
         println!(rt; "every register converted")?;
     }
@@ -79,15 +61,6 @@ fn run<R: Threads + Wait + Sync + Files + Clock + CpuClock + Print>(
 ) -> io::Result<bool> {
     match arguments {
         [] => run_all(rt, alloc),
-        ["calendars", count] => {
-            measure_calendars(rt, alloc, count.parse().ok())?;
-            Ok(true)
-        }
-        ["texts", count] => {
-            measure_texts(rt, alloc, count.parse().ok())?;
-            Ok(true)
-        }
-        ["lanes", count] => measure_lanes(rt, alloc, count.parse().ok()),
         ["memory", count] => from_memory(rt, alloc, count.parse().unwrap_or(FEW), true),
         ["stress", seed, seconds] => stress(
             rt,

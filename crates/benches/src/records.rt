@@ -3,7 +3,7 @@
 pub(crate) mod counter;
 pub(crate) mod inputs;
 
-use crate::common::Watch;
+use crate::watch::Watch;
 use counter::Counter;
 use date_texts::Target;
 use inputs::{Kind, register};

@@ -2,10 +2,12 @@
 --   ColumnLemmas, EndLemmas: what becomes of a sheet, for `answered`.
 --   LineLemmas: the lines on sheets, for `answered`.
 --   ListLemmas: the sheets of files, one after the other, for `answered`.
+--   NameLemmas: the names of outputs, for `answered`.
 --   RefusedLemmas: `refused` and `reported`.
 mod ColumnLemmas
 mod EndLemmas
 mod LineLemmas
 mod ListLemmas
+mod NameLemmas
 mod RefusedLemmas
 mod TaskLemmas

@@ -10,6 +10,7 @@ use Rattle.register_sheets.specs.declared.name_lists.NameLine.{NameLine}
 use Rattle.sheet_arguments.specs.Requests.{IsFaultOf, MeanJust, Task}
 use Rattle.sheet_arguments.specs.declared.help.TheConstants.{HELP, PRINT_FAULT}
 use Rattle.sheet_arguments.specs.declared.requests.TheConstants.{VERSION}
+use Rattle.sheet_app.specs.FileSheets.{AreApartOutputs}
 use Rattle.sheet_app.specs.EndedSheets.{AreReported, Gives, IsConverted, IsEndedSheet, ended_name, is_complete}
 use Rattle.sheet_app.specs.ProgramFaults.{fault_line, fault_status, request_fault_in}
 use Rattle.sheet_app.specs.Sheets.{AreBothLists}
@@ -82,17 +83,20 @@ pub record IsInputAnswered {R W E : Type 0} (r : reads.Ghosts R) (o : outputs.Gh
   pub no_sheets : sheets ≡ []
   pub converted : IsInputConverted r o e task lines status input given written before after
 
--- the arguments ask for the sheets of files: each has ended, with its lines, and the status is 0 exactly where all are
--- complete; standard output is as it was
+-- the arguments ask for the sheets of files: no output goes to an input or to the file of another output, as far as names
+-- were told apart; each sheet has ended, with its lines, and the status is 0 exactly where all are complete; standard output
+-- is as it was
 pub record AreFilesAnswered {R W E : Type 0} (r : reads.Ghosts R) (o : outputs.Ghosts W) (e : outputs.Ghosts E)
-    (IsOpened : Text → R → Type 0) (IsMade : Text → ℕ → W → Type 0) (arguments : List Text) (built : List ℕ)
-    (status : ℕ) (given written : W) (sheets : List (EndedSheet W)) (before after : E) : Type 0 where
+    (IsOpened : Text → R → Type 0) (IsMade : Text → ℕ → W → Type 0) (AreApart : Text → Text → Type 0)
+    (arguments : List Text) (built : List ℕ) (status : ℕ) (given written : W) (sheets : List (EndedSheet W))
+    (before after : E) : Type 0 where
   pub task : Task
   pub lines : List NameLine
   pub asked : MeanJust arguments (work task)
   pub some_files : task.files ≢ []
   pub named : AreNamesOf r IsOpened task built lines
   pub untouched : written ≡ given
+  pub outputs : AreApartOutputs AreApart task
   pub of_files : map ended_name sheets ≡ task.files
   pub ended : All (IsEndedSheet r o IsOpened IsMade task lines) sheets
   pub complete : (status ≡ 0) ↔ All (λ sheet. is_complete sheet ≡ true) sheets

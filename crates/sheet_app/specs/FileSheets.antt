@@ -1,5 +1,8 @@
 -- The sheets of a command line, as their files are opened.
-use Rattle.std.specs.Prelude.{◌++◌, ℕ, List, codes, if◌then◌else◌}
+use Rattle.std.specs.Prelude.{◌==◌, ◌&&◌, ◌++◌, ◌∷◌, [], ℕ, All, AllPairs, IfSome, List, codes, flat_map, if◌then◌else◌}
+use Rattle.std.specs.Prelude.{length, map, not}
+use Rattle.std.specs.Fmt.{decimal}
+use Rattle.std.specs.List.{range_with_len}
 use Rattle.clap.specs.Words.{Text}
 use Rattle.register_files.specs.Openings.{IsNewlyMade}
 use Rattle.register_records.specs.declared.outputs.Output as outputs
@@ -10,6 +13,34 @@ use Rattle.sheet_app.specs.declared.file_sheets.OpenedFile.{OpenedFile}
 -- what the name of a sheet's output ends with
 abbrev pub ending_of : Task → List ℕ
 ending_of task = if task.unknown then codes ".unknown.csv" else codes ".dates.csv"
+
+-- and that of the register of a column of dates, where there are several
+abbrev pub register_ending : ℕ → List ℕ
+register_ending number = codes ".register." ++ (decimal number ++ codes ".csv")
+
+-- the registers of a sheet: none unless they are asked for, and with a list of names that are not known none
+abbrev pub register_endings : Task → List (List ℕ)
+register_endings task =
+    if task.register && not task.unknown then (if length task.dates == 1 then codes ".register.csv" ∷ []
+    else map register_ending (range_with_len 1 (length task.dates))) else []
+
+-- the names of a sheet's outputs, which end so: its own, and those of its registers
+abbrev pub names_ending : {X : Type 0} → List ℕ → (X → List ℕ) → List X → Text → List Text
+names_ending own text others file = (file ++ own) ∷ map (λ ending. file ++ text ending) others
+
+-- the names of all outputs
+abbrev pub outputs_of : Task → List Text
+outputs_of task = flat_map (names_ending (ending_of task) (λ ending. ending) (register_endings task)) task.files
+
+-- the name was told apart from those of all inputs: of the sheets, and of the list of names
+pub record IsNoInput (AreApart : Text → Text → Type 0) (task : Task) (name : Text) : Type 0 where
+  pub sheets : All (λ file. AreApart file name) task.files
+  pub list : IfSome task.names (λ list. AreApart list name)
+
+-- the outputs were told apart from all inputs and from one another
+pub record AreApartOutputs (AreApart : Text → Text → Type 0) (task : Task) : Type 0 where
+  pub kept : All (IsNoInput AreApart task) (outputs_of task)
+  pub apart : AllPairs AreApart (outputs_of task)
 
 abbrev pub source_name : {R : Type 0} → OpenedFile R → Text
 source_name opened = opened.name.now

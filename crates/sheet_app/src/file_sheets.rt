@@ -1,10 +1,13 @@
 //! The sheets of a command line: opens the files, and makes the outputs of each.
 
-ghost use Rattle.std.specs.Prelude.{◌≡◌, ◌++◌, ℕ, All, IfOk, map};
+ghost use Rattle.std.specs.Prelude.{◌≡◌, ◌++◌, ◌∷◌, [], ℕ, All, AllPairs, IfOk, IfSome, OnOk, false, flat_map, map};
+ghost use Rattle.std.specs.Prelude.{option_map};
+ghost use Rattle.std.specs.List.{range_with_len};
 ghost use Rattle.std.specs.String.{string_bytes};
 ghost use Rattle.register_files.specs.Openings.{IsNewlyMade};
 ghost use Rattle.sheet_arguments.specs.Requests.{task_of};
-ghost use Rattle.sheet_app.specs.FileSheets.{IsNewSheet, ending_of, sheet_name, source_name};
+ghost use Rattle.sheet_app.specs.FileSheets.{AreApartOutputs, IsNewSheet, IsNoInput, ending_of, names_ending};
+ghost use Rattle.sheet_app.specs.FileSheets.{register_ending, register_endings, sheet_name, source_name};
 
 use itoa::Buffer;
 use register_files::FileStore;
@@ -66,27 +69,40 @@ fn ending(job: &Job) -> &'static str
 }
 
 /// What the name of the register of a column of dates ends with, where there are several.
-fn numbered_ending(alloc: Global, number: usize) -> Result<String, AllocError> {
+fn numbered_ending(alloc: Global, number: usize) -> Result<String, AllocError>
+    ensures { IfOk result (λ ending. string_bytes ending ≡ register_ending number) }
+{
     let mut ending = String::from_str(alloc, ".register.")?;
     ending.push_str(Buffer::new().format(number))?;
     ending.push_str(".csv")?;
     Ok(ending)
 }
 
-/// What the names of a sheet's registers end with.
-fn register_endings(alloc: Global, job: &Job) -> Result<Vec<String>, AllocError> {
+/// What the names of the registers of so many columns of dates end with.
+fn numbered_endings(alloc: Global, columns: usize) -> Result<Vec<String>, AllocError>
+    ensures { IfOk result (λ endings. map string_bytes endings.items
+        ≡ map register_ending (range_with_len 1 columns)) }
+{
     let mut endings = Vec::new(alloc);
-    if !job.register || job.unknown {
-        return Ok(endings);
-    }
-    if job.dates.len() == 1 {
-        endings.push(String::from_str(alloc, ".register.csv")?)?;
-        return Ok(endings);
-    }
-    'dates: for index in 0..job.dates.len() {
+    'columns: for index in 0..columns {
         endings.push(numbered_ending(alloc, index + 1)?)?;
     }
     Ok(endings)
+}
+
+/// What the names of a sheet's registers end with.
+fn register_endings(alloc: Global, job: &Job) -> Result<Vec<String>, AllocError>
+    ensures { IfOk result (λ endings. map string_bytes endings.items ≡ register_endings (task_of job.now)) }
+{
+    if !(job.register && !job.unknown) {
+        return Ok(Vec::new(alloc));
+    }
+    if job.dates.len() == 1 {
+        let mut endings = Vec::new(alloc);
+        endings.push(String::from_str(alloc, ".register.csv")?)?;
+        return Ok(endings);
+    }
+    numbered_endings(alloc, job.dates.len())
 }
 
 /// The name of a file that comes of a sheet.
@@ -120,19 +136,26 @@ fn open_sources<'a, R: Drop, W: Output, P: FileStore<R, W>>(
     Ok(sources)
 }
 
-/// Whether a name is that of an input.
-fn is_input<R, W: Output, P: FileStore<R, W>>(store: &P, job: &Job, name: &str) -> bool {
-    if let Some(list) = job.names {
-        if store.are_one_file(list, name) {
-            return true;
-        }
-    }
-    'files: for &file in &job.files {
+/// Whether a name is that of one of these files.
+fn is_among<R, W: Output, P: FileStore<R, W>>(store: &P, files: &[&str], name: &str) -> bool
+    ensures { result ≡ false → All (λ file. P.are_apart store.now file name.now) (map (λ file. file.now) files.now) }
+{
+    'files: for &file in files {
         if store.are_one_file(file, name) {
             return true;
         }
     }
     false
+}
+
+/// Whether a name is that of a list of names.
+fn is_list<R, W: Output, P: FileStore<R, W>>(store: &P, list: Option<&str>, name: &str) -> bool
+    ensures { result ≡ false → IfSome (option_map (λ file. file.now) list.entry) (λ file. P.are_apart store.now file name.now) }
+{
+    match list {
+        Some(file) => store.are_one_file(file, name),
+        None => false,
+    }
 }
 
 /// Refuses an output that would go to an input and empty it.
@@ -142,10 +165,33 @@ fn check_kept<'a, R, W: Output, P: FileStore<R, W>>(
     job: &Job<'a>,
     file: &str,
     ending: &str,
-) -> Result<(), FileFault<'a>> {
+) -> Result<(), FileFault<'a>>
+    ensures { OnOk result (IsNoInput (P.are_apart store.now) (task_of job.now) (file.now ++ ending.now)) }
+{
     let name = output_name(alloc, file, ending)?;
-    if is_input(store, job, name.as_str()) {
+    if is_list(store, job.names, name.as_str()) {
         return Err(FileFault::CannotMake(name));
+    }
+    if is_among(store, job.files.as_slice(), name.as_str()) {
+        return Err(FileFault::CannotMake(name));
+    }
+    Ok(())
+}
+
+/// Refuses the first output of a file that would go to an input and empty it.
+fn check_outputs_kept<'a, R, W: Output, P: FileStore<R, W>>(
+    alloc: Global,
+    store: &P,
+    job: &Job<'a>,
+    file: &str,
+    endings: &[String],
+) -> Result<(), FileFault<'a>>
+    ensures { OnOk result (All (IsNoInput (P.are_apart store.now) (task_of job.now))
+        (names_ending (ending_of (task_of job.now)) string_bytes endings.now file.now)) }
+{
+    check_kept(alloc, store, job, file, ending(job))?;
+    'endings: for ending in endings {
+        check_kept(alloc, store, job, file, ending.as_str())?;
     }
     Ok(())
 }
@@ -155,19 +201,22 @@ fn check_inputs_kept<'a, R, W: Output, P: FileStore<R, W>>(
     alloc: Global,
     store: &P,
     job: &Job<'a>,
+    files: &[&'a str],
     endings: &[String],
-) -> Result<(), FileFault<'a>> {
-    'files: for &file in &job.files {
-        check_kept(alloc, store, job, file, ending(job))?;
-        'endings: for ending in endings {
-            check_kept(alloc, store, job, file, ending.as_str())?;
-        }
+) -> Result<(), FileFault<'a>>
+    ensures { OnOk result (All (IsNoInput (P.are_apart store.now) (task_of job.now))
+        (flat_map (λ file. names_ending (ending_of (task_of job.now)) string_bytes endings.now file.now) files.now)) }
+{
+    'files: for &file in files {
+        check_outputs_kept(alloc, store, job, file, endings)?;
     }
     Ok(())
 }
 
 /// Whether an output's name is that of a file that another output goes to.
-fn is_taken<R, W: Output, P: FileStore<R, W>>(store: &P, names: &[String], name: &str) -> bool {
+fn is_taken<R, W: Output, P: FileStore<R, W>>(store: &P, names: &[String], name: &str) -> bool
+    ensures { result ≡ false → All (λ other. P.are_apart store.now other name.now) (map string_bytes names.now) }
+{
     'names: for other in names {
         if store.are_one_file(other.as_str(), name) {
             return true;
@@ -184,8 +233,12 @@ fn make_output<'a, R, W: Output + Drop, P: FileStore<R, W>>(
     file: &str,
     ending: &str,
 ) -> Result<W, FileFault<'a>>
-    ensures { IfOk result (λ output. (mark : ℕ)
+    ensures made { IfOk result (λ output. (mark : ℕ)
         × IsNewlyMade W.Output (P.is_made store.now) (file.now ++ ending.now) mark output) }
+    ensures noted { IfOk result (λ output. map string_bytes names.new.items
+        ≡ map string_bytes names.old.items ++ (file.now ++ ending.now) ∷ []) }
+    ensures apart { IfOk result (λ output. AllPairs (P.are_apart store.now) (map string_bytes names.old.items)
+        → AllPairs (P.are_apart store.now) (map string_bytes names.new.items)) }
 {
     let name = output_name(alloc, file, ending)?;
     let Ok(before) = u32::try_from(names.len()) else {
@@ -211,7 +264,12 @@ fn make_registers<'a, R, W: Output + Drop, P: FileStore<R, W>>(
     names: &mut Vec<String>,
     file: &str,
     endings: &[String],
-) -> Result<Vec<W>, FileFault<'a>> {
+) -> Result<Vec<W>, FileFault<'a>>
+    ensures noted { IfOk result (λ outputs. map string_bytes names.new.items
+        ≡ map string_bytes names.old.items ++ map (λ ending. file.now ++ string_bytes ending) endings.now) }
+    ensures apart { IfOk result (λ outputs. AllPairs (P.are_apart store.now) (map string_bytes names.old.items)
+        → AllPairs (P.are_apart store.now) (map string_bytes names.new.items)) }
+{
     let mut outputs = Vec::new(alloc);
     'endings: for ending in endings {
         let output = make_output(alloc, store, names, file, ending.as_str())?;
@@ -234,6 +292,10 @@ fn make_sheet<'a, R: Drop, W: Output + Drop, P: FileStore<R, W>>(
     ensures named { IfOk result (λ sheet. sheet_name sheet ≡ source_name opened.entry) }
     ensures made { P.is_opened store.now opened.entry.name.now opened.entry.source
         → IfOk result (IsNewSheet W.Output (P.is_opened store.now) (P.is_made store.now) (task_of job.now)) }
+    ensures noted { IfOk result (λ sheet. map string_bytes names.new.items ≡ map string_bytes names.old.items
+        ++ names_ending (ending_of (task_of job.now)) string_bytes endings.now (source_name opened.entry)) }
+    ensures apart { IfOk result (λ sheet. AllPairs (P.are_apart store.now) (map string_bytes names.old.items)
+        → AllPairs (P.are_apart store.now) (map string_bytes names.new.items)) }
 {
     let output = make_output(alloc, store, names, opened.name, ending(job))?;
     let registers = make_registers(alloc, store, names, opened.name, endings)?;
@@ -257,6 +319,9 @@ fn make_sheets<'a, R: Drop, W: Output + Drop, P: FileStore<R, W>>(
     ensures named { IfOk result (λ sheets. map sheet_name sheets.items ≡ map source_name sources.entry.items) }
     ensures made { IfOk result (λ sheets.
         All (IsNewSheet W.Output (P.is_opened store.now) (P.is_made store.now) (task_of job.now)) sheets.items) }
+    ensures apart { IfOk result (λ sheets. AllPairs (P.are_apart store.now)
+        (flat_map (λ opened. names_ending (ending_of (task_of job.now)) string_bytes endings.now (source_name opened))
+        sources.entry.items)) }
 {
     let mut sheets = Vec::new(alloc);
     let mut names = Vec::new(alloc);
@@ -284,9 +349,10 @@ pub fn open_sheets<'a, R: Drop, W: Output + Drop, P: FileStore<R, W>>(
     ensures named { IfOk result (λ sheets. map sheet_name sheets.items ≡ (task_of job.now).files) }
     ensures made { IfOk result (λ sheets.
         All (IsNewSheet W.Output (P.is_opened store.now) (P.is_made store.now) (task_of job.now)) sheets.items) }
+    ensures apart { OnOk result (AreApartOutputs (P.are_apart store.now) (task_of job.now)) }
 {
     let endings = register_endings(alloc, job)?;
     let sources = open_sources(alloc, store, job.files.as_slice())?;
-    check_inputs_kept(alloc, store, job, endings.as_slice())?;
+    check_inputs_kept(alloc, store, job, job.files.as_slice(), endings.as_slice())?;
     make_sheets(alloc, store, job, sources, endings.as_slice())
 }

@@ -1,6 +1,6 @@
 //! What the program does with its arguments: it prints a page, or converts, and returns how that ended.
 
-ghost use Rattle.std.specs.Prelude.{◌≡◌, ◌≢◌, ◌≤◌, ◌⊎◌, ◌↔◌, ℕ, List, [], All, IfErr, IfOk, IfSome, None, map, false, true};
+ghost use Rattle.std.specs.Prelude.{◌≡◌, ◌≢◌, ◌≤◌, ◌⊎◌, ◌↔◌, ℕ, List, [], All, IfErr, IfOk, IfSome, None, OnOk, map, false, true};
 ghost use Rattle.std.specs.Prelude.{vec_capacity, vec_len};
 ghost use Rattle.std.specs.Io.KnownBytes.{Appends};
 ghost use Rattle.std.specs.String.{string_bytes};
@@ -11,7 +11,7 @@ ghost use Rattle.sheet_arguments.specs.Requests.{AreWrong, IsFaultOf, task_of};
 ghost use Rattle.sheet_app.specs.Answers.{AreFilesAnswered, AreNamesOf, IsInputAnswered, IsInputConverted, IsPageAnswered};
 ghost use Rattle.sheet_app.specs.Answers.{IsPrinted, IsReported, version_line};
 ghost use Rattle.sheet_app.specs.EndedSheets.{AreReported, Gives, IsEndedSheet, ended_name, is_complete};
-ghost use Rattle.sheet_app.specs.FileSheets.{IsNewSheet, sheet_name};
+ghost use Rattle.sheet_app.specs.FileSheets.{AreApartOutputs, IsNewSheet, sheet_name};
 ghost use Rattle.sheet_app.specs.SheetViews.{IsTask};
 ghost use Rattle.sheet_app.specs.ProgramFaults.{fault_status, request_fault_in};
 
@@ -221,6 +221,7 @@ fn prepare<'a, R: Read + Drop, W: Output + Drop, P: FileStore<R, W>>(
     ensures named { IfOk result (λ prepared. map sheet_name prepared.sheets.items ≡ (task_of job.now).files) }
     ensures made { IfOk result (λ prepared. All (IsNewSheet W.Output (P.is_opened store.now) (P.is_made store.now)
         (task_of job.now)) prepared.sheets.items) }
+    ensures apart { OnOk result (AreApartOutputs (P.are_apart store.now) (task_of job.now)) }
     ensures room { IfOk result (λ prepared. (prepared.room.items ≡ [])
         × (vec_len prepared.sheets ≤ vec_capacity prepared.room)) }
     ensures status { IfErr result (λ why. fault_status why ≡ 3) }
@@ -280,6 +281,7 @@ fn run_job<'a, R: Read + Drop, W: Output + Drop, P: FileStore<R, W>, E: Output>(
     ensures files { result.status ≤ 1 → (task_of job.now).files ≢ [] → (lines : List NameLineValue)
         × AreNamesOf R.Read (P.is_opened store.now) (task_of job.now) built.now lines
         × (result.output ≡ output)
+        × AreApartOutputs (P.are_apart store.now) (task_of job.now)
         × (map ended_name result.sheets.items ≡ (task_of job.now).files)
         × All (IsEndedSheet R.Read W.Output (P.is_opened store.now) (P.is_made store.now) (task_of job.now) lines)
         result.sheets.items
@@ -341,7 +343,7 @@ pub fn answer<'a, R: Read + Drop, W: Output + Drop, P: FileStore<R, W>, E: Outpu
         output result.output result.sheets.items errors.old errors.new
         ⊎ IsInputAnswered R.Read W.Output E.Output (P.is_opened store.now) (map string_bytes arguments.entry.now)
         built.now result.status input output result.output result.sheets.items errors.old errors.new
-        ⊎ AreFilesAnswered R.Read W.Output E.Output (P.is_opened store.now) (P.is_made store.now)
+        ⊎ AreFilesAnswered R.Read W.Output E.Output (P.is_opened store.now) (P.is_made store.now) (P.are_apart store.now)
         (map string_bytes arguments.entry.now) built.now result.status output result.output result.sheets.items
         errors.old errors.new }
 

@@ -1,11 +1,13 @@
 -- Each turn makes the outputs of the next file.
-use Rattle.std.proofs.Common.{rules, ◌≡◌, ◌++◌, ◌∷◌, []}
+use Rattle.std.proofs.Common.{rules, ◌≡◌, ◌++◌, ◌∷◌, [], map}
+use Rattle.std.specs.String.{string_bytes}
 use Rattle.std.specs.Vec.Iter.{into_iter_items}
 use Rattle.sheet_arguments.specs.Requests.{task_of}
-use Rattle.sheet_app.specs.FileSheets.{IsNewSheet, sheet_name, source_name}
+use Rattle.sheet_app.specs.FileSheets.{IsNewSheet, ending_of, names_ending, sheet_name, source_name}
 use Rattle.sheet_app.specs.declared.file_sheets.FileSheet.{FileSheet}
 use Rattle.sheet_app.specs.declared.file_sheets.OpenedFile.{OpenedFile}
 use Rattle.sheet_app.proofs.ListLemmas.{each_more, first_of_left, made_more, others_left}
+use Rattle.sheet_app.proofs.NameLemmas.{listed_more}
 use Rattle.sheet_app.proofs.file_sheets.make_sheets.Goals as goal
 
 pub sources-preserved : goal.sources-preserved
@@ -28,4 +30,9 @@ sources-preserved g c =
           c.sources.invariant.opened;
       made = each_more IsMade c.sources.sheets.items c.push.new.self.items c.in_ok-sheet.sheet pushed
           c.sources.invariant.made (c.in_ok-sheet.ensures.made first);
+      noted = listed_more (λ (file : OpenedFile g.row.R.Denot). names_ending (ending_of (task_of c.args.job.now)) string_bytes
+          c.args.endings.now (source_name file)) _ (map string_bytes c.sources.names.items)
+          (map string_bytes c.make_sheet.new.names.items) (into_iter_items before) (into_iter_items c.next.new.self) opened
+          c.in_ok-sheet.ensures.noted left c.sources.invariant.noted;
+      apart = c.in_ok-sheet.ensures.apart c.sources.invariant.apart;
     }

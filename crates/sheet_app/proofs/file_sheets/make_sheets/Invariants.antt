@@ -1,10 +1,12 @@
 use Rattle.std.proofs.Common.{◌≡◌, ◌++◌, All, map}
+use Rattle.std.specs.Prelude.{AllPairs, flat_map}
+use Rattle.std.specs.String.{string_bytes}
 use Rattle.std.specs.Vec.Iter.{into_iter_items}
 use Rattle.sheet_arguments.specs.Requests.{task_of}
-use Rattle.sheet_app.specs.FileSheets.{IsNewSheet, sheet_name, source_name}
+use Rattle.sheet_app.specs.FileSheets.{IsNewSheet, ending_of, names_ending, sheet_name, source_name}
 use Rattle.sheet_app.proofs.file_sheets.make_sheets.Given as goal
 
--- the sheets so far are made, and all have their names in order
+-- the sheets so far are made, all have their names in order, and the names of outputs were told apart
 abbrev pub invariant-sources : goal.invariant-sources
 invariant-sources g l = record {
   named : map sheet_name l.sheets.items ++ map source_name (into_iter_items l.opened-iterator)
@@ -13,4 +15,10 @@ invariant-sources g l = record {
       (into_iter_items l.opened-iterator);
   made : All (IsNewSheet g.W.Output (g.P.FileStore.is_opened l.store) (g.P.FileStore.is_made l.store) (task_of l.job))
       l.sheets.items;
+  noted : map string_bytes l.names.items
+      ++ flat_map (λ opened. names_ending (ending_of (task_of l.job)) string_bytes l.endings (source_name opened))
+      (into_iter_items l.opened-iterator)
+      ≡ flat_map (λ opened. names_ending (ending_of (task_of l.job)) string_bytes l.endings (source_name opened))
+      l.fn.sources.items;
+  apart : AllPairs (g.P.FileStore.are_apart l.store) (map string_bytes l.names.items);
 }

@@ -62,7 +62,7 @@ returns-in-Ok-Convert-clause-answered g c = λ low.
             converted = converted;
           }))
       | inr some ↦
-          let (lines, named, untouched, of_files, ended, complete, reported) = c.run_job.ensures.files low some in
+          let (lines, named, untouched, outputs, of_files, ended, complete, reported) = c.run_job.ensures.files low some in
           inr (inr (record {
             task = task_of job;
             lines = lines;
@@ -70,6 +70,7 @@ returns-in-Ok-Convert-clause-answered g c = λ low.
             some_files = some;
             named = named;
             untouched = untouched;
+            outputs = outputs;
             of_files = of_files;
             ended = ended;
             complete = complete;

@@ -38,6 +38,7 @@ returns-clause-files g c = λ low some.
       list,
       c.in-Ok.ensures.lists,
       refl,
+      c.in-Ok.ensures.apart,
       ends_named g.R.Read g.W.Output task list sheets ended zip ∙ c.in-Ok.ensures.named,
       ends_all g.R.Read g.W.Output (g.P.FileStore.is_opened c.args.store.now) (g.P.FileStore.is_made c.args.store.now) task
           list sheets ended c.in-Ok.ensures.made zip,

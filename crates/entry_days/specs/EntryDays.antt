@@ -9,7 +9,7 @@ use Rattle.date_texts.specs.declared.refusal.Refusal.{Refusal}
 use Rattle.date_texts.specs.declared.target.Target.{Target}
 use Rattle.day_orders.specs.declared.TheConstants.{NO_DAY}
 use Rattle.register_records.specs.Entries.{HasFirstEntries, Numbered, Reading, Texts}
-use Rattle.register_records.specs.Outcomes.{AreRowsOf, TableRow}
+use Rattle.register_records.specs.Outcomes.{IsRowOf, TableRow}
 use Rattle.entry_days.specs.declared.numbers.EntryDay.{EntryDay}
 use Rattle.entry_days.specs.declared.numbers.TheConstants.{NO_CALENDAR}
 
@@ -36,7 +36,7 @@ pub record IsEntryDay (row : TableRow) (it : EntryDay) : Type 0 where
 -- those of the rows of these entries, one for each in order
 pub record AreDaysOf (targets : List Target) (entries : List Numbered) (days : List EntryDay) : Type 0 where
   pub rows : List TableRow
-  pub converted : AreRowsOf targets entries rows
+  pub converted : AllZip (IsRowOf targets) entries rows
   pub told : AllZip IsEntryDay rows days
 
 -- those of entries that are as said

@@ -23,7 +23,6 @@ use Rattle.register_records.specs.Entries.{are_utf8, body_of, body_of_texts}
 use Rattle.register_records.specs.LineRoom.{writing}
 use Rattle.register_records.specs.Records.{Fields, Texts, texts_of}
 use Rattle.register_records.specs.SetupRules.{is_delimiter}
-use Rattle.register_records.specs.Columns.{shown}
 use Rattle.register_records.specs.declared.entries.TheConstants.{CHUNK}
 use Rattle.register_records.specs.declared.setups.Form.{Form}
 
@@ -148,10 +147,10 @@ plain_by_chunks text chunks long is h k =
 
 -- the texts of a body none of whose bytes calls for quotes need none in a table
 pub unquoted : (d : ℕ) → is_delimiter d ≡ true → (body : Result Texts Refusal) → has_special body ≡ false
-    → (needs_quotes (writing d) (shown (λ (t : Texts). t.id) (result_ok body)) ≡ false)
-    × (needs_quotes (writing d) (shown (λ (t : Texts). t.calendar) (result_ok body)) ≡ false)
-    × (needs_quotes (writing d) (shown (λ (t : Texts). t.date) (result_ok body)) ≡ false)
-    × (needs_quotes (writing d) (shown (λ (t : Texts). t.note) (result_ok body)) ≡ false)
+    → (needs_quotes (writing d) (option_map_or (λ (t : Texts). t.id) (result_ok body) []) ≡ false)
+    × (needs_quotes (writing d) (option_map_or (λ (t : Texts). t.calendar) (result_ok body) []) ≡ false)
+    × (needs_quotes (writing d) (option_map_or (λ (t : Texts). t.date) (result_ok body) []) ≡ false)
+    × (needs_quotes (writing d) (option_map_or (λ (t : Texts). t.note) (result_ok body) []) ≡ false)
 unquoted d h body bare = search (rules, or_parts, bare_text)
 
 -- the steps of looking at a text chunk by chunk

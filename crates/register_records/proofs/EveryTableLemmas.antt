@@ -88,17 +88,14 @@ every_text_has_table reading layout text entries is =
       _,
       _,
       _,
-      record {
-        entries = entries;
-        rows = rows.0;
-        table = record {
+      (
+        entries,
+        rows.0,
+        record {
           numbered = subst (λ es. AreInOrder 1 es) (sym are) (numbered reading.form 0 _);
           converted = rows.1;
           written = refl;
-        };
-        counted = refl;
-        noted = refl;
-        refused_counted = refl;
-        accepted = is;
-      },
+        },
+        (is, refl, refl, refl),
+      ),
     )

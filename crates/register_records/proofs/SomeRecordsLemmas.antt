@@ -6,6 +6,7 @@ use Rattle.register_records.proofs.EveryTableLemmas.{AreInOrder, numbered as in_
 use Rattle.std.proofs.Common.{length, map, refl, sym}
 use Rattle.std.proofs.lemmas.List.{append-nil, length-map}
 use Rattle.std.proofs.lemmas.Bool.Decides.{nat_tests}
+use Rattle.std.specs.List.{AllZip}
 use Rattle.std.specs.Str.{chars, is_utf8}
 use Rattle.std.specs.Prelude.{ℤ, ⊤, Err, None, Ok, Result, replicate}
 use Rattle.date_texts.specs.declared.target.Target.{Target}
@@ -13,7 +14,7 @@ use Rattle.date_texts.specs.declared.refusal.Refusal.{Refusal}
 use Rattle.date_texts.specs.declared.refusal.Refusal.TheVariants as refusal
 use Rattle.register_records.specs.Entries.{AreNumberedFrom, HasFirstEntries, Numbered, Reading, are_fit}
 use Rattle.register_records.specs.Entries.{body_of, entries_from, record_limit}
-use Rattle.register_records.specs.Outcomes.{AreRowsOf, IsOutcome, TableRow}
+use Rattle.register_records.specs.Outcomes.{IsOutcome, IsRowOf, TableRow}
 use Rattle.register_records.specs.Records.{Fields, Texts, has_notes}
 use Rattle.register_records.specs.Seals.{before_seal, entry_records, is_seal}
 use Rattle.register_records.specs.Seen.{entry_seen}
@@ -118,8 +119,8 @@ of_form Plain (Ok t) outcome is = outcome_of_same (Ok t) _ outcome (refl, refl) 
 of_form form body outcome is = is
 
 rows_placed : (form : Form) (targets : List Target) (entries : List Numbered) (rows : List TableRow)
-    → AreRowsOf targets entries rows
-    → AreRowsOf targets (map (placed_entry form) entries) (map (placed_row form) rows)
+    → AllZip (IsRowOf targets) entries rows
+    → AllZip (IsRowOf targets) (map (placed_entry form) entries) (map (placed_row form) rows)
 rows_placed form targets (entry ∷ entries) (row ∷ rows) are = (
   record {
     number = are.0.number;
@@ -159,21 +160,19 @@ lines_placed form layout notes (row ∷ rows) =
 -- rows are the first rows of some records, by what an entry may hold
 pub front_of_some : (reading : Reading) (layout : Layout) → layout.writing.has_notes ≡ has_notes reading.form
     → (rows : List Row) → AreNumberedFrom 1 (map (λ (row : Row). entry_seen row.entry) rows)
-    → AreRowsOf layout.targets (map (λ (row : Row). entry_seen row.entry) rows) (map row_seen rows)
+    → AllZip (IsRowOf layout.targets) (map (λ (row : Row). entry_seen row.entry) rows) (map row_seen rows)
     → IsFrontOfTable reading layout None (length (map row_seen rows)) (table_text layout (map row_seen rows))
 front_of_some reading layout notes rows numbered are =
     let form = reading.form in
-    let entries = map (λ (row : Row). entry_seen row.entry) rows in
-    record {
-      entries = map (placed_entry form) entries;
-      rows = map (placed_row form) (map row_seen rows);
-      table = record {
+    let entries = map (λ (row : Row). entry_seen row.entry) rows in (
+      map (placed_entry form) entries,
+      map (placed_row form) (map row_seen rows),
+      record {
         numbered = subst (AreInOrder 1) (entries_made form 0 entries numbered (rows_fit rows)) (in_order form 0 _);
         converted = rows_placed form layout.targets entries (map row_seen rows) are;
         written =
             ap (λ (lines : List ℕ). heading_line layout ++ lines)
             (sym (lines_placed form layout notes (map row_seen rows)));
-      };
-      counted = sym (length-map (map row_seen rows) (placed_row form));
-      first = some_records reading entries numbered (rows_fit rows);
-    }
+      },
+      (some_records reading entries numbered (rows_fit rows), sym (length-map (map row_seen rows) (placed_row form))),
+    )

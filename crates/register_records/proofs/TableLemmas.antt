@@ -3,7 +3,7 @@ use Rattle.std.proofs.Common.{◌≡◌, ◌+◌, ◌++◌, ℕ, Bool, List, [],
 use Rattle.std.proofs.Common.{◌≢◌, ◌⊎◌, IfSome, append_assoc, append-nil, arith, false, inl, inr, length-append, rules}
 use Rattle.std.proofs.Common.{subst, true}
 use Rattle.std.specs.Io.KnownBytes.{Appends, append_known}
-use Rattle.std.specs.List.{Contains, range_with_len}
+use Rattle.std.specs.List.{AllZip, Contains, range_with_len}
 use Rattle.std.specs.Option.{is_some}
 use Rattle.std.proofs.lemmas.List.{length-map, map-append}
 use Rattle.std.proofs.lemmas.List.Elements.{Contains-append_right, Contains-push_cases}
@@ -14,7 +14,7 @@ use Rattle.register_records.specs.Causes.{entry_fault_cause}
 use Rattle.register_records.specs.Entries.{AreNumberedFrom, HasAllEntries, HasEntries, HasFirstEntries, Reading}
 use Rattle.register_records.specs.Entries.{Numbered}
 use Rattle.register_records.specs.Laws.{TablesGrow}
-use Rattle.register_records.specs.Outcomes.{AreRowsOf, IsRowOf, TableRow}
+use Rattle.register_records.specs.Outcomes.{IsRowOf, TableRow}
 use Rattle.register_records.specs.Seen.{entry_seen}
 use Rattle.register_records.specs.Sources.{ArePartOfTable, Gains, IfWhole, IsFrontOfTable, IsTableOf, IsTableOfAll, IsWholeTable}
 use Rattle.register_records.specs.TableStates.{fault_of, is_of_table, lines_waiting, lost_output}
@@ -146,7 +146,7 @@ holds_more o old new output w more rows row h next is now state same line by not
 
 -- rows that were made for these targets are the rows of their entries
 rows_are : (targets : List Target) (rows : List Row) → ((row : Row) → Contains rows row → row_targets row ≡ targets)
-    → ∥ AreRowsOf targets (entries_seen rows) (rows_seen rows) ∥₁
+    → ∥ AllZip (IsRowOf targets) (entries_seen rows) (rows_seen rows) ∥₁
 rows_are targets [] all = ∣ tt ∣₁
 rows_are targets (row ∷ rest) all =
     ∥∥₁_elim row.is_row ∥∥₁_prop (λ is.
@@ -243,7 +243,7 @@ module _ {W : Type 0} (o : outputs.Ghosts W) (table : Table W) (output : W) (row
   Gained AreSo = Gains (o.contents (made_for table)) (o.contents output) AreSo
 
   abbrev AreRows : Type 0
-  AreRows = AreRowsOf layout.targets (entries_seen rows) (rows_seen rows)
+  AreRows = AllZip (IsRowOf layout.targets) (entries_seen rows) (rows_seen rows)
 
   pub are_rows : ∥ AreRows ∥₁
   are_rows = rows_are layout.targets rows holds.targets
@@ -277,38 +277,26 @@ module _ {W : Type 0} (o : outputs.Ghosts W) (table : Table W) (output : W) (row
   module _ (text : Option (List ℕ)) (are : AreRows) (good : has_lost_output table ≡ false) where
     pub front_so : (count : ℕ) → count ≡ length rows → HasFirstEntries reading text (entries_seen rows)
         → IsFrontOfTable reading layout text count bytes
-    front_so count counted first = record {
-      entries = entries_seen rows;
-      rows = rows_seen rows;
-      table = table_is are;
-      counted = counted ∙ sym (length-map rows row_seen);
-      first = first;
-    }
+    front_so count counted first =
+        (entries_seen rows, rows_seen rows, table_is are, (first, counted ∙ sym (length-map rows row_seen)))
 
     pub whole_so : (count : ℕ) → count ≡ length rows → is_headed table ≡ true
         → HasEntries reading text (entries_seen rows)
         → Gained (IsWholeTable reading layout text count (length table.journal.items) table.journal.items)
     whole_so count counted some accepted = (
       bytes,
-      record {
-        entries = entries_seen rows;
-        rows = rows_seen rows;
-        table = table_is are;
-        counted = counted ∙ sym (length-map rows row_seen);
-        noted = holds.noted;
-        refused_counted = refl;
-        accepted = accepted;
-      },
+      (
+        entries_seen rows,
+        rows_seen rows,
+        table_is are,
+        (accepted, counted ∙ sym (length-map rows row_seen), refl, holds.noted),
+      ),
       (written good some).0,
     )
 
     pub all_so : is_headed table ≡ true → HasAllEntries reading text (entries_seen rows)
         → Gained (IsTableOfAll reading layout text)
-    all_so some all = (
-      bytes,
-      record { entries = entries_seen rows; rows = rows_seen rows; table = table_is are; all = all },
-      (written good some).0,
-    )
+    all_so some all = (bytes, (entries_seen rows, rows_seen rows, table_is are, all), (written good some).0)
 
 -- a table for this output and by this setup, in which no line waits and to which these entries of the text were added,
 -- but for the last one where that halted it

@@ -31,13 +31,6 @@ pub record Column : Type 0 where
   pub name : List ℕ
   pub field : TableRow → List ℕ
 
-abbrev pub column : List ℕ → (TableRow → List ℕ) → Column
-column name field = record { name = name; field = field }
-
--- a value as a text; where there is none, nothing stands
-abbrev pub shown : {A : Type 0} → (A → List ℕ) → Option A → List ℕ
-shown text value = option_map_or text value []
-
 -- the columns in order: those of an entry, without notes or with them, and those of a tail
 abbrev pub entry_order : Bool → List ColumnKind
 entry_order false = Number ∷ Id ∷ Calendar ∷ Date ∷ []
@@ -50,28 +43,26 @@ tail_order = DayNumber ∷ Weekday ∷ Cells ∷ RefusalColumn ∷ []
 abbrev pub cell_columns : ℕ → List Target → List Column
 cell_columns place [] = []
 cell_columns place (target ∷ targets) =
-    column (target_name target) (λ row. get_or row.cells place []) ∷ cell_columns (place + 1) targets
+    record { name = target_name target; field = λ row. get_or row.cells place [] } ∷ cell_columns (place + 1) targets
 
--- one with a text of the record, which one that was refused before has not, and one with a text of the day, which a
--- refused row has not
-abbrev pub text_column : List ℕ → (Texts → List ℕ) → List Column
-text_column name text = column name (λ row. shown text (result_ok row.body)) ∷ []
-
-abbrev pub day_column : List ℕ → (ℤ → List ℕ) → List Column
-day_column name text = column name (λ row. shown text (result_ok row.outcome)) ∷ []
+-- the column of a value, as a text. Nothing stands where a row has no such value: no text of the record, where that was
+-- refused before; no day, where it is refused; no refusal, where it is not
+abbrev pub value_column : {A : Type 0} → List ℕ → (TableRow → Option A) → (A → List ℕ) → List Column
+value_column name value text = record { name = name; field = λ row. option_map_or text (value row) [] } ∷ []
 
 -- the columns of each kind
 abbrev pub kind_columns : List Target → ColumnKind → List Column
-kind_columns targets Number = column (codes "row") (λ row. decimal row.number) ∷ []
-kind_columns targets Id = text_column (codes "id") (λ t. t.id)
-kind_columns targets Calendar = text_column (codes "calendar") (λ t. t.calendar)
-kind_columns targets Date = text_column (codes "date") (λ t. t.date)
-kind_columns targets Note = text_column (codes "note") (λ t. t.note)
-kind_columns targets DayNumber = day_column (codes "rd") signed_decimal
-kind_columns targets Weekday = day_column (codes "weekday") (λ n. get_or weekday_names (weekday_number n) [])
+kind_columns targets Number = record { name = codes "row"; field = λ row. decimal row.number } ∷ []
+kind_columns targets Id = value_column (codes "id") (λ row. result_ok row.body) (λ t. t.id)
+kind_columns targets Calendar = value_column (codes "calendar") (λ row. result_ok row.body) (λ t. t.calendar)
+kind_columns targets Date = value_column (codes "date") (λ row. result_ok row.body) (λ t. t.date)
+kind_columns targets Note = value_column (codes "note") (λ row. result_ok row.body) (λ t. t.note)
+kind_columns targets DayNumber = value_column (codes "rd") (λ row. result_ok row.outcome) signed_decimal
+kind_columns targets Weekday =
+    value_column (codes "weekday") (λ row. result_ok row.outcome) (λ n. get_or weekday_names (weekday_number n) [])
 kind_columns targets Cells = cell_columns 0 targets
 kind_columns targets RefusalColumn =
-    column (codes "refusal") (λ row. shown (λ (r : Refusal). decimal (refusal_number r)) (result_err row.outcome)) ∷ []
+    value_column (codes "refusal") (λ row. result_err row.outcome) (λ r. decimal (refusal_number r))
 
 -- the columns of a table, in order
 abbrev pub columns : Layout → List Column

@@ -1,5 +1,6 @@
 -- Laws of tables.
 use Rattle.std.specs.Prelude.{◌≡◌, ◌≢◌, ◌<◌, ◌++◌, ◌∷◌, ℕ, ℤ, List, [], length, Ok, Some}
+use Rattle.std.specs.List.{AllZip}
 use Rattle.day_numbers.specs.Days.{IsDayNumber}
 use Rattle.date_texts.specs.Calendars.{calendar_name}
 use Rattle.date_texts.specs.Cells.{IsCell}
@@ -9,7 +10,7 @@ use Rattle.date_texts.specs.declared.target.Target.{Target}
 use Rattle.date_texts.specs.declared.target.Target.TheVariants.{Date as DateTarget}
 use Rattle.register_records.specs.Entries.{AreAccepted, Fields, HasEntries, HasNoHeader, HasTooMany}
 use Rattle.register_records.specs.Entries.{IsNotSealed, Numbered, Reading, Texts}
-use Rattle.register_records.specs.Outcomes.{AreRowsOf, IsOutcome, TableRow}
+use Rattle.register_records.specs.Outcomes.{IsOutcome, IsRowOf, TableRow}
 use Rattle.register_records.specs.Sources.{IsWholeTable}
 use Rattle.register_records.specs.Tables.{Layout, journal_of, refusal_notes, row_line, table_text}
 use Rattle.register_records.specs.declared.setups.Form.TheVariants.{Sealed}
@@ -22,7 +23,7 @@ OneTable =
     (reading : Reading) (targets : List Target) (text : List ℕ) (entries others : List Numbered)
     (rows more : List TableRow)
     → HasEntries reading (Some text) entries → HasEntries reading (Some text) others
-    → AreRowsOf targets entries rows → AreRowsOf targets others more → (entries ≡ others) × (rows ≡ more)
+    → AllZip (IsRowOf targets) entries rows → AllZip (IsRowOf targets) others more → (entries ≡ others) × (rows ≡ more)
 
 -- an accepted text has a whole table
 abbrev pub EveryTextHasTable : Type 0

@@ -51,7 +51,3 @@ pub record IsRowOf (targets : List Target) (entry : Numbered) (row : TableRow) :
   pub body : row.body ≡ entry.body
   pub outcome : IsOutcome entry.body row.outcome
   pub cells : AreCells targets row.outcome row.cells
-
--- the rows of these entries, one for each in order
-abbrev pub AreRowsOf : List Target → List Numbered → List TableRow → Type 0
-AreRowsOf targets entries rows = AllZip (IsRowOf targets) entries rows

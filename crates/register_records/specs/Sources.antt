@@ -1,9 +1,9 @@
 -- How a source ends, and what its output has gained.
 use Rattle.std.specs.Prelude.{◌≡◌, ◌⊎◌, ℕ, List, [], length, map, Option, ⊤, Bool, true, false}
 use Rattle.std.specs.Io.KnownBytes.{Appends}
-use Rattle.std.specs.List.{range_with_len}
+use Rattle.std.specs.List.{AllZip, range_with_len}
 use Rattle.register_records.specs.Entries.{HasAllEntries, HasEntries, HasFirstEntries, Numbered, Reading}
-use Rattle.register_records.specs.Outcomes.{AreRowsOf, TableRow}
+use Rattle.register_records.specs.Outcomes.{IsRowOf, TableRow}
 use Rattle.register_records.specs.Tables.{Layout, journal_of, table_text}
 use Rattle.register_records.specs.declared.ends.Cause.{Cause}
 use Rattle.register_records.specs.declared.ends.Cause.TheVariants as cause
@@ -18,35 +18,27 @@ Gains old new AreAsSaid = (bytes : List ℕ) × AreAsSaid bytes × Appends old n
 -- these bytes are the table of these entries, numbered from 1: the heading's line, and the line of each one's row
 pub record IsTableOf (layout : Layout) (entries : List Numbered) (rows : List TableRow) (bytes : List ℕ) : Type 0 where
   pub numbered : map (λ (entry : Numbered). entry.number) entries ≡ range_with_len 1 (length entries)
-  pub converted : AreRowsOf layout.targets entries rows
+  pub converted : AllZip (IsRowOf layout.targets) entries rows
   pub written : bytes ≡ table_text layout rows
 
+-- these bytes are the table of some entries and rows, which are as said
+abbrev pub IsTableWith : Layout → (List Numbered → List TableRow → Type 0) → List ℕ → Type 0
+IsTableWith layout AreAsSaid bytes =
+    (entries : List Numbered) × (rows : List TableRow) × IsTableOf layout entries rows bytes × AreAsSaid entries rows
+
 -- these bytes are the whole table of the text, which is accepted, with so many rows and refused rows, and this journal
-pub record IsWholeTable (reading : Reading) (layout : Layout) (text : Option (List ℕ)) (count refused : ℕ)
-    (journal : List Note) (bytes : List ℕ) : Type 0 where
-  pub entries : List Numbered
-  pub rows : List TableRow
-  pub table : IsTableOf layout entries rows bytes
-  pub counted : count ≡ length rows
-  pub noted : journal ≡ journal_of rows
-  pub refused_counted : refused ≡ length journal
-  pub accepted : HasEntries reading text entries
+abbrev pub IsWholeTable : Reading → Layout → Option (List ℕ) → ℕ → ℕ → List Note → List ℕ → Type 0
+IsWholeTable reading layout text count refused journal = IsTableWith layout (λ entries rows. HasEntries reading text entries
+    × (count ≡ length rows) × (refused ≡ length journal) × (journal ≡ journal_of rows))
 
 -- these bytes are a front of the table: its heading and its first rows, so many
-pub record IsFrontOfTable (reading : Reading) (layout : Layout) (text : Option (List ℕ)) (count : ℕ) (bytes : List ℕ)
-    : Type 0 where
-  pub entries : List Numbered
-  pub rows : List TableRow
-  pub table : IsTableOf layout entries rows bytes
-  pub counted : count ≡ length rows
-  pub first : HasFirstEntries reading text entries
+abbrev pub IsFrontOfTable : Reading → Layout → Option (List ℕ) → ℕ → List ℕ → Type 0
+IsFrontOfTable reading layout text count =
+    IsTableWith layout (λ entries rows. HasFirstEntries reading text entries × (count ≡ length rows))
 
 -- these bytes are the heading and the rows of all entries of the text, which need not be accepted
-pub record IsTableOfAll (reading : Reading) (layout : Layout) (text : Option (List ℕ)) (bytes : List ℕ) : Type 0 where
-  pub entries : List Numbered
-  pub rows : List TableRow
-  pub table : IsTableOf layout entries rows bytes
-  pub all : HasAllEntries reading text entries
+abbrev pub IsTableOfAll : Reading → Layout → Option (List ℕ) → List ℕ → Type 0
+IsTableOfAll reading layout text = IsTableWith layout (λ entries rows. HasAllEntries reading text entries)
 
 -- these bytes are none, or a front of the table
 abbrev pub ArePartOfTable : Reading → Layout → Option (List ℕ) → List ℕ → Type 0

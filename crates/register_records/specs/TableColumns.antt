@@ -1,12 +1,13 @@
 -- The columns of a table as the code goes through them. No public contract cites this file.
 use Rattle.std.specs.Prelude.{◌≡◌, Bool, ℕ, ℤ, List, [], get_or, map, Result, Ok, Err}
+use Rattle.std.specs.Option.{option_map_or}
 use Rattle.std.specs.Result.{result_ok}
 use Rattle.std.specs.List.{flat_map}
 use Rattle.date_texts.specs.Cells.{IsCell}
 use Rattle.date_texts.specs.declared.target.Target.{Target}
 use Rattle.date_texts.specs.declared.refusal.Refusal.{Refusal}
 use Rattle.date_texts.specs.declared.refusal.Refusal.TheVariants.{FieldCount}
-use Rattle.register_records.specs.Columns.{Column, Layout, columns, kind_columns, shown, tail_order}
+use Rattle.register_records.specs.Columns.{Column, Layout, columns, kind_columns, tail_order}
 use Rattle.register_records.specs.Outcomes.{TableRow}
 use Rattle.register_records.specs.Records.{Texts}
 use Rattle.register_records.specs.declared.table_columns.ColumnKind.{ColumnKind}
@@ -38,10 +39,10 @@ entry_field row kind = get_or (kind_fields [] row kind) 0 []
 
 -- the same of a text, by the body
 abbrev pub text_shown : Result Texts Refusal → ColumnKind → List ℕ
-text_shown body Id = shown (λ (t : Texts). t.id) (result_ok body)
-text_shown body Calendar = shown (λ (t : Texts). t.calendar) (result_ok body)
-text_shown body Date = shown (λ (t : Texts). t.date) (result_ok body)
-text_shown body Note = shown (λ (t : Texts). t.note) (result_ok body)
+text_shown body Id = option_map_or (λ (t : Texts). t.id) (result_ok body) []
+text_shown body Calendar = option_map_or (λ (t : Texts). t.calendar) (result_ok body) []
+text_shown body Date = option_map_or (λ (t : Texts). t.date) (result_ok body) []
+text_shown body Note = option_map_or (λ (t : Texts). t.note) (result_ok body) []
 text_shown body kind = []
 
 -- a row that has this outcome and these cells

@@ -9,7 +9,7 @@ pub use Rattle.lane_rings.specs.declared.sender.Closed.{Closed}
 pub use Rattle.lane_rings.specs.declared.sender.Sender.{Sender}
 pub use Rattle.register_records.specs.Entries.{AreNumberedFrom, HasAllEntries, HasEntries, HasFirstEntries, Reading}
 pub use Rattle.register_records.specs.Entries.{Numbered, record_limit}
-pub use Rattle.register_records.specs.Outcomes.{AreRowsOf}
+pub use Rattle.register_records.specs.Outcomes.{IsRowOf}
 pub use Rattle.register_records.specs.Seen.{entry_seen}
 pub use Rattle.register_records.specs.Sources.{IfBroken, IfWhole, cause_number}
 pub use Rattle.register_records.specs.TableStates.{is_of_table}

@@ -1,13 +1,13 @@
 -- What is known of a source that has ended.
 use Rattle.std.proofs.Common.{rules, ◌≡◌, ◌≢◌, ◌∙◌, ap, refl, sym, subst, ℕ, List, [], ◌++◌, length, Option, None}
 use Rattle.std.proofs.Common.{Some, ◌≤◌, inl, inr, arith, length-append, true, false, Bool, Err, Ok, IfOk, IfSome}
-use Rattle.std.specs.List.{Contains}
+use Rattle.std.specs.List.{AllZip, Contains}
 use Rattle.std.proofs.lemmas.Bool.{cases_eq, false_from_ne_true}
 use Rattle.std.proofs.lemmas.List.{length-map}
 use Rattle.std.proofs.Props.{props}
 use Rattle.std.proofs.Math.Logic.{∥∥₁_elim, ∥∥₁_map, ∥∥₁_prop}
 use Rattle.register_run.proofs.Common.{Row, Cause, SourceEnd, HasAllEntries, HasEntries, HasFirstEntries, Numbered}
-use Rattle.register_run.proofs.Common.{record_limit, AreRowsOf, entry_seen, IfBroken, IfWhole, cause_number, Layout}
+use Rattle.register_run.proofs.Common.{record_limit, IsRowOf, entry_seen, IfBroken, IfWhole, cause_number, Layout}
 use Rattle.register_run.proofs.Common.{Reading, layout_of, reading_of, Stripe, Sent, Findings, Table, HasMetNone, IsLowest, IsMet}
 use Rattle.register_run.proofs.Common.{is_of_table, IsSourceEnd, Carries, IsMachineWithTable, HasPassed, IsGiven}
 use Rattle.register_run.proofs.Common.{IsOfGiven, Holds, entries_seen, rows_seen}
@@ -113,7 +113,7 @@ module _ {W : Type 0} (o : outputs.Ghosts W) (text : Option (List ℕ)) (table :
   layout = layout_of table.setup
 
   abbrev AreRows : Type 0
-  AreRows = AreRowsOf layout.targets (entries_seen rows) (rows_seen rows)
+  AreRows = AllZip (IsRowOf layout.targets) (entries_seen rows) (rows_seen rows)
 
   -- what the output has gained is so, and the source has ended so
   abbrev Gained : (List ℕ → Type 0) → Type 0
@@ -172,12 +172,7 @@ module _ {W : Type 0} (o : outputs.Ghosts W) (text : Option (List ℕ)) (table :
   all_so good all are =
       gained_so o table output rows holds sent (IsAllOfTable by layout text) (is_headed table) refl good
       (λ none. inl (refl, subst (λ rs. HasAllEntries by text (entries_seen rs)) none all))
-      (λ some. inr (record {
-        entries = entries_seen rows;
-        rows = rows_seen rows;
-        table = table_is o table output rows holds sent are;
-        all = all;
-      }))
+      (λ some. inr (entries_seen rows, rows_seen rows, table_is o table output rows holds sent are, all))
 
   reading_so : (c : Cause) → is_of_reading c ≡ true → IsReadingMet met c → EndsSo (end.Broken c)
   reading_so c reading fact =

@@ -1,8 +1,9 @@
 -- The law of the machine, for the worlds of texts: their entries are numbered from 1, and their rows as their entries.
 use Rattle.std.proofs.Common.{◌≡◌, ◌+◌, ◌*◌, ◌≤◌, ℕ, List, [], ◌∷◌, Bool, true, false, length, map, refl}
 use Rattle.std.proofs.Common.{Option, if◌then◌else◌, nat_lt}
+use Rattle.std.specs.List.{AllZip}
 use Rattle.register_run.proofs.Common.{Target, Actor, start, run, HasFirstEntries, Numbered, Reading, record_limit}
-use Rattle.register_run.proofs.Common.{AreRowsOf, World}
+use Rattle.register_run.proofs.Common.{IsRowOf, World}
 use Rattle.striped_lanes.specs.Places.{HaveNumbersFrom, ArePoppedInOrder, KeepNumbers}
 use Rattle.striped_lanes.specs.Schedules.{AtMostChange, standing}
 use Rattle.striped_lanes.proofs.NumberLemmas.{numbered_front}
@@ -35,7 +36,7 @@ first_entries_numbered reading text entries (rest, (records, has, are)) =
     (rw (← are) at (entries_numbered reading.form 0 (entry_records reading.form records)))
 
 rows_keep_numbers : (targets : List Target) (w : World) (entries : List Numbered)
-    → AreRowsOf targets entries (map w.row_of entries) → KeepNumbers numbers w entries
+    → AllZip (IsRowOf targets) entries (map w.row_of entries) → KeepNumbers numbers w entries
 rows_keep_numbers targets w [] h = tt
 rows_keep_numbers targets w (x ∷ entries) h = (h.0.number, rows_keep_numbers targets w entries h.1)
 

@@ -1,12 +1,13 @@
 -- The law of every schedule: what holds of the machine's state after any schedule.
 use Rattle.std.specs.Prelude.{◌≡◌, ◌*◌, ℕ, ◌≤◌, List, Option, length}
+use Rattle.std.specs.List.{AllZip}
 use Rattle.striped_lanes.specs.Machine.{Actor, start}
 use Rattle.striped_lanes.specs.Places as places
 use Rattle.striped_lanes.specs.Places.{table_rows}
 use Rattle.striped_lanes.specs.Schedules.{HasRounds, run}
 use Rattle.date_texts.specs.declared.target.Target.{Target}
 use Rattle.register_records.specs.Entries.{HasFirstEntries, Reading}
-use Rattle.register_records.specs.Outcomes.{AreRowsOf}
+use Rattle.register_records.specs.Outcomes.{IsRowOf}
 use Rattle.register_run.specs.Worlds.{State, World, numbers}
 
 -- each entry that is pushed stands at one of the places that it passes, and at no other
@@ -21,7 +22,7 @@ GoesOn w s = places.GoesOn numbers w s
 -- converter at least, and a lane holds an item at least
 pub record IsWorldOf (reading : Reading) (targets : List Target) (text : Option (List ℕ)) (w : World) : Type 0 where
   pub entries : HasFirstEntries reading text w.entries
-  pub rows : AreRowsOf targets w.entries (table_rows w)
+  pub rows : AllZip (IsRowOf targets) w.entries (table_rows w)
   pub some_converters : 1 ≤ w.converters
   pub some_room : 1 ≤ w.ring
 

@@ -2,8 +2,9 @@
 use Rattle.std.specs.Prelude.{◌≡◌, ◌⊎◌, ◌+◌, ◌++◌, ◌<◌, ◌≤◌, ⊤, ℕ, codes, Bool, List, [], ◌∷◌}
 use Rattle.std.specs.Prelude.{drop, is_err, get_or, length, map, option_to_list, slice_get, take, count_by}
 use Rattle.std.specs.List.{AllZip, find, flat_map}
+use Rattle.std.specs.Option.{option_map_or}
 use Rattle.std.specs.Str.{bytes_eq}
-use Rattle.register_records.specs.Columns.{Column, shown, kind_columns, tail_order}
+use Rattle.register_records.specs.Columns.{Column, kind_columns, tail_order}
 use Rattle.register_records.specs.Entries.{Fields, record_limit}
 use Rattle.register_records.specs.Outcomes.{IsRowOf, TableRow}
 use Rattle.register_sheets.specs.Choices.{asked_targets, register_entry}
@@ -18,7 +19,8 @@ use Rattle.register_sheets.specs.declared.sheet_ends.SheetEnd.TheVariants as end
 -- what a table without targets shows of a row in the column of this name
 abbrev pub shown_in : List ℕ → TableRow → List ℕ
 shown_in name row =
-    shown (λ (c : Column). c.field row) (find (λ (c : Column). bytes_eq c.name name) (flat_map (kind_columns []) tail_order))
+    option_map_or (λ (c : Column). c.field row)
+    (find (λ (c : Column). bytes_eq c.name name) (flat_map (kind_columns []) tail_order)) []
 
 -- what stands in a column asked of a row of which these cells are left, and how many of them it takes
 abbrev pub asked_text : AskedColumn → TableRow → List (List ℕ) → List ℕ

@@ -1,4 +1,5 @@
 pub mod TokenLemmas
+pub mod KindLemmas
 pub mod RomanLemmas
 pub mod PartLemmas
 pub mod ItemLemmas

@@ -2,12 +2,17 @@
 use Rattle.std.proofs.Common.{◌≡◌, ℕ, zero, suc, ◌+◌, ◌≤◌, Bool, true, false, List, [], ◌∷◌, ◌++◌, cond, length, refl, sym, ap}
 use Rattle.std.proofs.Common.{◌∙◌, arith, take, drop, append_assoc, append-nil, map, Some}
 use Rattle.std.specs.List.{list_any}
+use Rattle.std.proofs.lemmas.Bool.{or_parts}
 use Rattle.std.proofs.lemmas.List.{take-append-drop}
 use Rattle.std.proofs.Math.Seq.{drop-append_seam}
+use Rattle.written_dates.specs.Signs.{bare}
 use Rattle.written_dates.specs.Tokens.{Piece, first, joins, in_front, tokens}
+use Rattle.written_dates.specs.SignViews.{may_be_blank}
+use Rattle.written_dates.proofs.FrontLemmas.{first_blank, not_behind}
+use Rattle.written_dates.proofs.KindLemmas.{has_kind, none_of_kind}
 use Rattle.written_dates.proofs.KeyLemmas.{drop_drop}
 use Rattle.written_dates.specs.declared.fields.CalendarName.{CalendarName}
-use Rattle.written_dates.specs.Fields.{is_blank, kept_end, spelling, entry, is_other, first_twofold}
+use Rattle.written_dates.specs.Fields.{bare_end, is_blank, kept_end, spelling, entry, is_other, first_twofold, without_blanks}
 
 spelled_front : (a : Piece) (ts : List Piece) → spelling (in_front a ts) ≡ a.text ++ spelling ts
 unfolding in_front
@@ -90,3 +95,26 @@ pub twofold_later : (names : List CalendarName) (at : ℕ) (name : CalendarName)
     → list_any (is_other (entry name)) (map entry (drop (at + 1) names)) ≡ false
     → first_twofold (at + 1) (map entry (drop (at + 1) names)) ≡ first_twofold at (map entry (drop at names))
 twofold_later names at name there has = rw (there, has) refl
+
+-- ---- a text without a byte that may be of a blank
+bare_whole : (ts : List Piece) → has_kind is_blank ts ≡ false → bare ts ≡ ts
+bare_whole [] h = refl
+bare_whole (p ∷ ts) h =
+    not_behind p.kind (bare ts) (p ∷ ts) (or_parts (is_blank p.kind) (has_kind is_blank ts) h).0
+
+kept_whole : (p : Piece) (ts : List Piece) → is_blank p.kind ≡ false → kept_end p ts ≡ p ∷ ts
+kept_whole p [] h = rw h refl
+kept_whole p (q ∷ ts) h = refl
+
+end_whole : (ts : List Piece) → has_kind is_blank ts ≡ false → bare_end ts ≡ ts
+end_whole [] h = refl
+end_whole (p ∷ ts) h =
+    let both = or_parts (is_blank p.kind) (has_kind is_blank ts) h in
+    ap (kept_end p) (end_whole ts both.1) ∙ kept_whole p ts both.0
+
+pub without_none : (text : List ℕ) → list_any may_be_blank text ≡ false → without_blanks text ≡ text
+unfolding without_blanks
+without_none text h =
+    let none = none_of_kind is_blank may_be_blank first_blank 0 text h in
+    ap (λ ts. spelling (bare_end ts)) (bare_whole (tokens 0 text) none)
+    ∙ ap spelling (end_whole (tokens 0 text) none) ∙ spelled 0 text

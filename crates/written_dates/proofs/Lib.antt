@@ -1,4 +1,6 @@
 pub mod TokenLemmas
+pub mod KindLemmas
+pub mod FrontLemmas
 pub mod RomanLemmas
 pub mod PartLemmas
 pub mod ItemLemmas

@@ -55,3 +55,23 @@ no_reading choice calendar names text h =
     let dashes = has_two_dashes (tokens 0 text) in
     either_none _ _ (many_none (items (names_in calendar names) 0 (parts text)) (reading_by (form calendar) choice dashes) h
     (many (form calendar) choice dashes))
+
+none_read : {A B : Type 0} (found : Option A) (read : A → Option B) → ((x : A) → read x ≡ None)
+    → (found >>= read) ≡ None
+none_read None read h = refl
+none_read (Some x) read h = h x
+
+other_none : (f : Form) (choice : Choice) (dashes : Bool) → f ≡ forms.Other
+    → (found : List Item) → reading_by f choice dashes found ≡ None
+other_none forms.Other choice dashes h found = refl
+other_none forms.Civil choice dashes h found = cc
+other_none forms.Roman choice dashes h found = cc
+
+-- a date that is written otherwise says nothing
+pub never_read : (choice : Choice) (calendar : Calendar) (names : List Name) (text : List ℕ)
+    → form calendar ≡ forms.Other → reading choice calendar names text ≡ None
+unfolding reading
+never_read choice calendar names text other =
+    let dashes = has_two_dashes (tokens 0 text) in
+    sym (either_none _ _ (none_read (items (names_in calendar names) 0 (parts text)) (reading_by (form calendar) choice dashes)
+    (other_none (form calendar) choice dashes other)))

@@ -3,15 +3,16 @@
 ghost use Rattle.std.specs.Prelude.{◌≡◌, ℕ, map, Some, None, Err, IfOk};
 ghost use Rattle.std.specs.List.{list_any};
 ghost use Rattle.std.specs.Str.{str_eq_ignore_ascii_case};
-ghost use Rattle.written_dates.specs.Fields.{is_blank as blank_spec, without_blanks as without_spec, bare_name, entry};
+ghost use Rattle.written_dates.specs.Fields.{without_blanks as without_spec, bare_name, entry};
 ghost use Rattle.written_dates.specs.Fields.{entries, calendar_meant, is_other as other_spec, first_twofold};
 ghost use Rattle.written_dates.specs.Fields.{meant_by as meant_spec, written_calendar};
+ghost use Rattle.written_dates.specs.SignViews.{may_be_blank as may_be_blank_spec};
 
 use crate::calendars::place_of;
 use crate::keyed_names::KeyedNames;
 use crate::names::key_of_word;
-use crate::signs::bare;
-use crate::tokens::{Kind, next_token};
+use crate::signs::{bare, is_blank, may_be_blank};
+use crate::tokens::next_token;
 use date_texts::Calendar;
 use std::alloc::{AllocError, Global};
 
@@ -39,19 +40,20 @@ pub enum CalendarNamesError {
     Memory,
 }
 
-fn is_blank(kind: Kind) -> bool
-    ensures { result ≡ blank_spec kind }
+/// Whether a byte stands in a text that may be of a blank.
+fn may_have_blank(text: &[u8]) -> bool
+    ensures { result ≡ list_any may_be_blank_spec text.now }
 {
-    match kind {
-        Kind::Blank => true,
-        _ => false,
-    }
+    text.iter().any(|byte| may_be_blank(*byte))
 }
 
 /// A text without the blanks at its ends.
 pub fn without_blanks(text: &[u8]) -> &[u8]
     ensures { result.now ≡ without_spec text.now }
 {
+    if !may_have_blank(text) {
+        return text;
+    }
     let front = bare(text);
     let mut rest = front;
     let mut place = 0;

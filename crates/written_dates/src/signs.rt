@@ -8,9 +8,10 @@ ghost use Rattle.written_dates.specs.Signs.{has_other, has_two_dashes, bare as b
 ghost use Rattle.written_dates.specs.Signs.{digits_first as digits_spec, behind_hyphen as hyphen_spec};
 ghost use Rattle.written_dates.specs.Signs.{runs_in_front as front_spec, three_runs as runs_spec};
 ghost use Rattle.written_dates.specs.Signs.{runs_behind_minus as minus_spec};
-ghost use Rattle.written_dates.specs.SignViews.{seen_digits, seen_rest, seen_runs};
+ghost use Rattle.written_dates.specs.Fields.{is_blank as blank_spec};
+ghost use Rattle.written_dates.specs.SignViews.{may_be_blank as may_be_blank_spec, seen_digits, seen_rest, seen_runs};
 
-use crate::tokens::{Kind, next_token};
+use crate::tokens::{Kind, byte_at, kind_of_byte, next_token, run_end};
 
 fn is_sign(kind: Kind) -> bool
     ensures { result ≡ sign_spec kind }
@@ -39,6 +40,22 @@ fn is_other(kind: Kind) -> bool
     }
 }
 
+pub(crate) fn is_blank(kind: Kind) -> bool
+    ensures { result ≡ blank_spec kind }
+{
+    match kind {
+        Kind::Blank => true,
+        _ => false,
+    }
+}
+
+/// Whether a byte is a blank, or may be of one beyond ASCII.
+pub(crate) fn may_be_blank(byte: u8) -> bool
+    ensures { result ≡ may_be_blank_spec byte }
+{
+    is_blank(kind_of_byte(byte)) || byte >= 128
+}
+
 /// Whether a character stands in a text that no date has, and whether two dashes are its only signs.
 pub(crate) fn signs_of(text: &[u8]) -> (bool, bool)
     ensures other { result.0 ≡ has_other (tokens 0 text.now) }
@@ -62,9 +79,13 @@ pub(crate) fn signs_of(text: &[u8]) -> (bool, bool)
 }
 
 /// The text from the first token on that is no blank.
+#[tactic(auto, using(crate::proofs::FrontLemmas::bare_already))]
 pub(crate) fn bare(text: &[u8]) -> &[u8]
     ensures { tokens 0 result.now ≡ bare_spec (tokens 0 text.now) }
 {
+    if !may_be_blank(byte_at(text, 0)) {
+        return text;
+    }
     let mut rest = text;
     'blanks: while let Some((token, after)) = next_token(rest) {
         let Kind::Blank = token.kind else {
@@ -86,27 +107,27 @@ pub(crate) fn begins_with_dash(text: &[u8]) -> bool
 }
 
 /// The digits in front, and what follows.
-#[tactic(auto, unfolding(crate::specs::Signs::digits_first))]
+#[tactic(auto, unfolding(crate::specs::Signs::digits_first), using(crate::proofs::FrontLemmas::no_digits))]
 fn digits_first(text: &[u8]) -> Option<(&[u8], &[u8])>
     ensures { seen_digits result ≡ digits_spec (tokens 0 text.now) }
 {
-    let (token, rest) = next_token(text)?;
-    match token.kind {
-        Kind::Digit => Some((token.text, rest)),
-        _ => None,
+    if !byte_at(text, 0).is_ascii_digit() {
+        return None;
     }
+    let (digits, rest) = text.split_at(run_end(Kind::Digit, text));
+    Some((digits, rest))
 }
 
 /// What follows the dash of registers.
-#[tactic(auto, unfolding(crate::specs::Signs::behind_hyphen))]
+#[tactic(auto, using(crate::proofs::FrontLemmas::no_hyphen, crate::proofs::FrontLemmas::hyphen))]
 fn behind_hyphen(text: &[u8]) -> Option<&[u8]>
     ensures { seen_rest result ≡ hyphen_spec (tokens 0 text.now) }
 {
-    let (token, rest) = next_token(text)?;
-    match token.kind {
-        Kind::Hyphen => Some(rest),
-        _ => None,
+    if byte_at(text, 0) != b'-' {
+        return None;
     }
+    let (_, rest) = text.split_at(1);
+    Some(rest)
 }
 
 /// Three runs of digits with the dash of registers between them, and blanks at most behind them.

@@ -1,7 +1,9 @@
 //! The word for which a date stays as it is written.
 
 ghost use Rattle.std.specs.Prelude.{◌≡◌};
-ghost use Rattle.written_dates.specs.Tokens.{piece};
+ghost use Rattle.std.specs.List.{list_any};
+ghost use Rattle.written_dates.specs.SignViews.{is_letter as is_letter_spec};
+ghost use Rattle.written_dates.specs.Tokens.{kind_of, piece};
 ghost use Rattle.written_dates.specs.Names.{names_in};
 ghost use Rattle.written_dates.specs.Parts.{parts};
 ghost use Rattle.written_dates.specs.Unknown.{first_unknown, if_letters, is_never_read as never_spec, seen_text};
@@ -12,7 +14,7 @@ use crate::items::item_in_front;
 use crate::names::Names;
 use crate::parts::next_part;
 use crate::signs::{begins_with_dash, signs_of};
-use crate::tokens::{Kind, Token};
+use crate::tokens::{Kind, Token, kind_of_byte};
 use date_texts::Calendar;
 
 /// Whether dates of this form are never read.
@@ -23,6 +25,22 @@ fn is_never_read(form: Form) -> bool
         Form::Other => true,
         _ => false,
     }
+}
+
+fn is_letter(kind: Kind) -> bool
+    ensures { result ≡ is_letter_spec kind }
+{
+    match kind {
+        Kind::Letter => true,
+        _ => false,
+    }
+}
+
+/// Whether a byte stands in a text that may be of a word. Most dates have none.
+fn has_letter(text: &[u8]) -> bool
+    ensures { result ≡ list_any (λ byte. is_letter_spec (kind_of byte)) text.now }
+{
+    text.iter().any(|byte| is_letter(kind_of_byte(*byte)))
 }
 
 /// The bytes of a word; nothing for digits.
@@ -56,6 +74,9 @@ fn stopping_word<'a>(text: &'a [u8], names: &Names, calendar: Calendar) -> Optio
 pub fn unknown_word<'a>(text: &'a [u8], names: &Names, calendar: Calendar) -> Option<&'a [u8]>
     ensures { seen_text result ≡ unknown_word calendar names.now.listed.now text.now }
 {
+    if !has_letter(text) {
+        return None;
+    }
     let (other, _) = signs_of(text);
     if is_never_read(form_of(calendar)) || other || begins_with_dash(text) {
         return None;

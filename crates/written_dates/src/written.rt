@@ -254,6 +254,7 @@ fn push_civil(
 /// # Errors
 ///
 /// `AllocError` where `out` could not grow; then it may have gained a part.
+#[tactic(auto, using(crate::proofs::RuleLemmas::never_read))]
 pub fn write_date(
     out: &mut Vec<u8>,
     text: &[u8],
@@ -270,12 +271,17 @@ pub fn write_date(
     };
     match form_of(calendar) {
         Form::Civil => push_civil(out, choice, calendar, names, text),
-        _ => push_said(
+        Form::Roman => push_said(
             out,
             choice,
             calendar,
             text,
             reading_of(choice, calendar, names, text),
         ),
+        // Such dates are never read.
+        Form::Other => {
+            out.extend_from_slice(text)?;
+            Ok(())
+        }
     }
 }

@@ -2,6 +2,7 @@ use Rattle.std.proofs.Common.{◌≡◌, ◌+◌, ◌∙◌, ◌++◌, rules, sy
 use Rattle.written_dates.specs.Tokens.{tokens, piece}
 use Rattle.written_dates.specs.Fields.{bare_end, spelling, without_blanks}
 use Rattle.written_dates.proofs.FieldLemmas.{token_stands, ending, ending_blank, ending_other, takes_more, drops_more}
+use Rattle.written_dates.proofs.FieldLemmas.{without_none}
 use Rattle.written_dates.proofs.fields.without_blanks.Goals as goal
 
 pub tokens-preserved-then-not-is_blank : goal.tokens-preserved-then-not-is_blank
@@ -50,3 +51,7 @@ returns c =
     let none : tokens 0 c.tokens.rest.now ≡ [] = search rules in
     c.split_at.ensures.front ∙ (rw none at c.tokens.invariant.same)
     ∙ ap (λ ts. spelling (bare_end ts)) c.bare-front.ensures
+
+pub returns-then-not-may_have_blank : goal.returns-then-not-may_have_blank
+returns-then-not-may_have_blank c =
+    sym (without_none c.args.text.now (sym c.may_have_blank.ensures ∙ c.if-not-may_have_blank.true))

@@ -100,6 +100,17 @@ function formulasOf(module, text, table, delimiter, width, records) {
 // A text's first line, as far as it is shown. What is no letter in it stands as the sign for that.
 const firstLineOf = (text) => text.split(/[\r\n]/, 1)[0].slice(0, LINE_SHOWN).replace(/[\0-\x08\x0e-\x1f]/g, '\ufffd');
 
+// How the text of bytes begins: what is neither UTF-8 nor marked is taken as a sheet would be.
+function beginningOf(bytes) {
+  const front = bytes.subarray(0, FRONT), marked = markedEncoding(front);
+  try {
+    return new TextDecoder(marked || 'utf-8', { fatal: marked === null }).decode(front, { stream: true });
+  } catch (fault) {
+    if (!(fault instanceof TypeError)) throw fault;
+    return new TextDecoder('windows-1252').decode(front);
+  }
+}
+
 const isLineEnd = (byte) => byte === 10 || byte === 13;
 
 // How a register with this front is written, by its header, as the module reads it; or null where it has none. Empty lines
@@ -123,7 +134,7 @@ async function lookOf(module, file) {
   if (bytes === null) return { kind: 'noReading' };
   const kind = kindOf(bytes), marked = markedEncoding(bytes);
   if (kind !== null) return { kind };
-  const text = new TextDecoder(marked || 'utf-8').decode(bytes);
+  const text = beginningOf(bytes);
   if (isTree(text)) return { kind: 'tree' };
   if (isJson(file.name) || isObject(text)) {
     if (file.size <= MOST_CHOICES && choicesOf(await file.text()) !== null) return { kind: 'choices' };
@@ -159,7 +170,7 @@ async function register({ compiled, file, columns, isTold }, tell) {
   const converted = module.convert(text, setup, expectedLength(text.length, lines, columns.length));
   await checkUnchanged(file, bytesAt);
   const answer = { ...converted, delimiter, sealed };
-  if (answer.ending === NO_HEADER) return { ...answer, table: null, firstLine: firstLineOf(frontOf(module, text)) };
+  if (answer.ending === NO_HEADER) return { ...answer, table: null, firstLine: firstLineOf(beginningOf(bytesAt(0, text.length))) };
   if (answer.table.length === 0) return { ...answer, table: null };
   const table = new Table(module, answer.table, delimiter);
   const first = table.firstRows(), refused = answer.ending === 0 && answer.refused === 0 ? null : table.refusedRows();

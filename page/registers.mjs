@@ -13,25 +13,31 @@ const SMALL = 2 ** 20, SHARE = 64;
 /**
  * A job is a register, by its number among those that were chosen; `slot` is its place among those that run, and `tries`
  * says how often it was converted before. `picture` holds what a picture of its entries shows, once it was wanted; for a
- * register alone that is found before, and `ready` has it. Of a run,
+ * register alone that is found before, and `ready` has it. `told` is its text where that is known before its table. Of a run,
  * `opened` is the number of the register whose details are shown, and `archive` holds the archive of all whole tables,
  * once it was wanted.
  * @typedef {{ files: File[], columns: string[] }} RegistersChoice
  * @typedef {{ number: number, file: File, tries: number, slot: number, status: 'waits' | 'runs' | 'ended' | 'stopped',
- *   begun: number, reply: any, isSaved: boolean, picture: { reply: any } | null, ready: any }} Job
+ *   begun: number, reply: any, told: any, isSaved: boolean, picture: { reply: any } | null, ready: any }} Job
  * @typedef {{ number: number, choice: RegistersChoice, begun: number, jobs: Job[], opened: number | null,
  *   archive: { reply: any } | null }} Run
- * @typedef {{ choice: RegistersChoice, atOnce: number, runs: number, run: Run | null,
+ * @typedef {{ choice: RegistersChoice, atOnce: number, isEarly: boolean, runs: number, run: Run | null,
  *   notice: string }} RegistersState
  */
+
+/**
+ * Whether the days of what is converted are found at the same time, where so many workers can be busy: the page has one
+ * processor, and the conversion another.
+ */
+export const isEarlyBy = (processors) => processors > 2;
 
 /**
  * `processors` says how many workers can be busy at the same time.
  * @returns {RegistersState}
  */
 export function initial(processors) {
-  const choice = { files: [], columns: [...DEFAULT_TARGETS] };
-  return { choice, atOnce: Math.max(1, Math.min(4, processors - 1)), runs: 0, run: null, notice: '' };
+  const choice = { files: [], columns: [...DEFAULT_TARGETS] }, atOnce = Math.max(1, Math.min(4, processors - 1));
+  return { choice, atOnce, isEarly: isEarlyBy(processors), runs: 0, run: null, notice: '' };
 }
 
 /** The run that is shown: none whose choices are others than those of now. */
@@ -50,14 +56,14 @@ export function chosen(state, change) {
 }
 
 /** @returns {Job} */
-const endedJob = (job, reply) => ({ ...job, status: 'ended', reply });
+const endedJob = (job, reply) => ({ ...job, status: 'ended', reply, told: null });
 
 /** @returns {Job} */
-const stoppedJob = (job) => ({ ...job, status: 'stopped' });
+const stoppedJob = (job) => ({ ...job, status: 'stopped', told: null });
 
 /** @returns {Job} */
 const waitingJob = (file, number, tries = 0) =>
-  ({ number, file, tries, slot: 0, status: 'waits', begun: 0, reply: null, isSaved: false, picture: null,
+  ({ number, file, tries, slot: 0, status: 'waits', begun: 0, reply: null, told: null, isSaved: false, picture: null,
     ready: null });
 
 // Starts what can be started now. A file that is too large has its answer at once.
@@ -154,15 +160,18 @@ export function pictureWanted(state, number) {
 
 const pictureKey = (run, job) => `picture ${keyOf(run, job)}`;
 
+// The text of a register and how it is written, once that is known.
+const textOf = (job) => (hasTable(job) ? job.reply.answer : job.told);
+
 // Whether what a picture shows is to be found: where it is wanted, or for a register alone.
 function isToBeDrawn({ jobs }, job) {
   const { picture, ready } = job;
-  return picture === null ? jobs.length === 1 && hasTable(job) && ready === null : picture.reply === null;
+  return picture === null ? jobs.length === 1 && textOf(job) !== null && ready === null : picture.reply === null;
 }
 
 function pictureTasks(run) {
   return run.jobs.filter((job) => isToBeDrawn(run, job)).map((job) => {
-    const { text, delimiter, sealed } = job.reply.answer, key = pictureKey(run, job);
+    const { text, delimiter, sealed } = textOf(job), key = pictureKey(run, job);
     return { key, worker: key, name: 'picture', words: { text, delimiter, sealed } };
   });
 }
@@ -178,14 +187,14 @@ function archiveTasks(run) {
   return [{ key, worker: key, name: 'archive', words: { files, comment } }];
 }
 
-/** What workers are to be asked now: one for each register that runs, and one for the archive. */
-export function tasks({ run }) {
+/** What workers are to be asked now: one for each register that runs, for the archive, and for each picture. */
+export function tasks({ run, isEarly }) {
   if (run === null) return [];
-  const { columns } = run.choice;
+  const { columns } = run.choice, isTold = isEarly && run.jobs.length === 1;
   return [...run.jobs.filter(({ status }) => status === 'runs').map((job) => {
     const { file, number, slot, tries } = job, key = keyOf(run, job), share = Math.floor(number / SHARE);
     const worker = file.size > SMALL ? key : `registers ${run.number} ${slot} ${share} ${tries}`;
-    return { key, worker, name: 'register', words: { file, columns } };
+    return { key, worker, name: 'register', words: { file, columns, isTold } };
   }), ...archiveTasks(run), ...pictureTasks(run)];
 }
 
@@ -202,6 +211,7 @@ export function replied(state, key, reply, now) {
   if (drawn) return jobsWith(state, (it) => it === drawn, drawn.picture === null ? { ready: reply } : { picture: { reply } });
   const job = run.jobs.find((it) => it.status === 'runs' && keyOf(run, it) === key);
   if (!job) return state;
+  if (reply.news) return jobsWith(state, (it) => it === job, { told: reply.news });
   const jobs = run.jobs.map((it) => (it === job ? endedJob(job, reply) : it));
   return scheduled({ ...state, run: { ...run, jobs }, notice: '' }, now);
 }

@@ -409,7 +409,7 @@ function sheetFault(reply, encoding) {
 }
 
 function brokenSheet(reply, encoding) {
-  if (isUnread(reply)) return endingReport(reply, sheet.MOST_BYTES, encoding);
+  if (isUnread(reply)) return brokenReport(WORDS.notDone(WORDS.sheetUnread), WORDS.causeAdvice[READ_FAULT]);
   const isTooMany = reply.answer && reply.answer.ending === TOO_MANY;
   return brokenReport(sheetFault(reply, encoding), isTooMany ? WORDS.splitSheet : '');
 }
@@ -470,9 +470,7 @@ export function keptChoices(state) {
 function readingWords(state) {
   const { reply } = state.begins;
   if (reply.fault) {
-    if (isUnread(reply)) {
-      return [WORDS.brokeOff(READ_FAULT, WORDS.causes[READ_FAULT]), ' ', WORDS.causeAdvice[READ_FAULT]];
-    }
+    if (isUnread(reply)) return [WORDS.notDone(WORDS.sheetUnread), ' ', WORDS.causeAdvice[READ_FAULT]];
     return WORDS.notDone(faultWords(reply, sheet.MOST_BYTES, encodingOf(state)));
   }
   const { records, widest, above, heading } = reply.answer;

@@ -1,7 +1,8 @@
 // Workers, and what each is asked: the page says which tasks it wants now, and gets each answer once.
 
 /**
- * `key` names a task and `worker` the one that does it; `name` and `words` are what that is asked.
+ * `key` names a task and `worker` the one that does it; `name` and `words` are what that is asked. A reply has the answer, or
+ * a fault; before it may come one with news, of which more can be done at the same time.
  * @typedef {{ key: string, worker: string, name: string, words: any }} Task
  */
 
@@ -14,29 +15,31 @@ class TaskWorker {
     this.asked = 0;
     this.fault = null;
     worker.onmessage = ({ data }) => {
-      const answered = this.waiting.get(data.number);
-      this.waiting.delete(data.number);
-      if (answered) answered(data.fault ? { fault: data.fault, why: data.why } : { answer: data.answer });
+      const took = this.waiting.get(data.number);
+      if (!took) return;
+      if (data.news) took({ news: data.news });
+      else {
+        this.waiting.delete(data.number);
+        took(data.fault ? { fault: data.fault, why: data.why } : { answer: data.answer });
+      }
     };
     worker.onerror = (event) => this.fail(event.message || 'no worker');
   }
 
   fail(why) {
     this.fault = { fault: 'fault', why };
-    for (const answered of this.waiting.values()) answered(this.fault);
+    for (const took of this.waiting.values()) took(this.fault);
     this.waiting.clear();
   }
 
-  /** The answer of a task, or what failed. */
-  ask(name, words) {
+  /** Asks a task, whose replies `took` takes. */
+  ask(name, words, took) {
     const number = this.asked += 1;
-    return new Promise((answered) => {
-      this.waiting.set(number, answered);
-      this.compiled.then((compiled) => {
-        if (this.fault) answered(this.fault);
-        else this.worker.postMessage({ number, task: name, words: { ...words, compiled } });
-      }).catch((fault) => this.fail(fault.message));
-    });
+    this.waiting.set(number, took);
+    this.compiled.then((compiled) => {
+      if (this.fault) this.fail(this.fault.why);
+      else this.worker.postMessage({ number, task: name, words: { ...words, compiled } });
+    }).catch((fault) => this.fail(fault.message));
   }
 
   stop() {
@@ -48,7 +51,7 @@ class TaskWorker {
 
 export class Runner {
   /**
-   * `newWorker` starts a worker, `compiled` promises the module, and `replied` takes the key of a task and its answer.
+   * `newWorker` starts a worker, `compiled` promises the module, and `replied` takes the key of a task and each reply.
    */
   constructor(newWorker, compiled, replied) {
     this.newWorker = newWorker;
@@ -80,7 +83,7 @@ export class Runner {
     this.asked.set(task.key, task.worker);
     const worker = this.workers.get(task.worker) || new TaskWorker(this.newWorker(), this.compiled);
     this.workers.set(task.worker, worker);
-    worker.ask(task.name, task.words).then((reply) => {
+    worker.ask(task.name, task.words, (reply) => {
       if (this.workers.get(task.worker) === worker) this.replied(task.key, reply);
     });
   }

@@ -4,6 +4,7 @@
 import { MOST_DATES, fitted, isColumn, namesText, noPicks, numbersOf } from './choices.mjs';
 import { likelyPicks } from './heads.mjs';
 import { WORDS } from './language.mjs';
+import { isEarlyBy } from './registers.mjs';
 
 // A file that is larger is not read.
 export const MOST_BYTES = 2 ** 28;
@@ -14,29 +15,34 @@ export const MOST_BYTES = 2 ** 28;
  * `proposed` has what was for this file. `kept` has choices of an earlier sheet, and null in them until their file is
  * read, and `isFilled` once they were filled in; `fit` says what of them did not fit. `listed` has the names that are not
  * known, and those that have a meaning of the user's own; a count is null while it is not known. A result of `picks`,
- * `columns` or `source` holds what it came from. `gathered` counts the columns of dates whose days were gathered behind a
- * conversion, which a picture takes long for.
+ * `columns` or `source` holds what it came from. `gathered` counts the columns of dates whose days were gathered, which a
+ * picture takes long for: at the same time as the conversion where the state `isEarly`, once its text is `told`.
  * @typedef {import('./choices.mjs').Picks} Picks
  * @typedef {{ encoding: string | null, delimiter: number | null, above: number | null }} Proposed
  * @typedef {{ file: File | null, isTree: boolean | null } & Proposed} Source
  * @typedef {{ source: Source, picks: Picks, columns: string[], status: 'runs' | 'ended' | 'stopped', key: string,
- *   reply: any, isSaved: boolean, gathered: number, sorted: { place: number, reply: any } | null,
+ *   reply: any, told: any, isSaved: boolean, gathered: number, sorted: { place: number, reply: any } | null,
  *   registers: Record<number, { reply: any }>, pictures: Record<number, { reply: any }> }} Run
  * @typedef {{ name: string, where: string, count: number | null }} Listed
  * @typedef {{ source: Source, proposed: Proposed, kept: { file: File, choices: any, isFilled: boolean } | null,
  *   fit: { absent: string[], other: string[] } | null, reading: number, begins: any, picks: Picks, columns: string[],
- *   unknown: any, listed: Listed[], preview: any, run: Run | null, runs: number, worker: number, notice: string }} SheetState
+ *   unknown: any, listed: Listed[], preview: any, run: Run | null, runs: number, worker: number, notice: string,
+ *   isEarly: boolean }} SheetState
  */
 
 /** @type {Proposed} */
 const NOTHING = { encoding: null, delimiter: null, above: null };
 
-/** @returns {SheetState} */
-export function initial() {
+/**
+ * `processors` says how many workers can be busy at the same time.
+ * @returns {SheetState}
+ */
+export function initial(processors) {
   return {
     source: { file: null, isTree: null, encoding: 'utf-8', delimiter: 44, above: 0 }, proposed: NOTHING, kept: null, fit: null,
     reading: 0, begins: null, picks: noPicks(), columns: ['weekday', 'gregorian'], unknown: null, listed: [],
     preview: null, run: null, runs: 0, worker: 0, notice: '',
+    isEarly: isEarlyBy(processors),
   };
 }
 
@@ -203,8 +209,8 @@ export function started(state) {
   if (missing(state)) return { ...state, notice: 'chooseDates' };
   const { source, picks, columns } = state, runs = state.runs + 1;
   const run = {
-    source, picks, columns, status: /** @type {'runs'} */ ('runs'), key: `sheet ${runs}`, reply: null, isSaved: false,
-    gathered: 0, sorted: null, registers: {}, pictures: {},
+    source, picks, columns, status: /** @type {'runs'} */ ('runs'), key: `sheet ${runs}`, reply: null, told: null,
+    isSaved: false, gathered: 0, sorted: null, registers: {}, pictures: {},
   };
   return { ...state, runs, run, notice: '' };
 }
@@ -216,7 +222,7 @@ export function started(state) {
  */
 export function stopped(state) {
   if (!isRunning(state)) return state;
-  const run = { ...state.run, status: /** @type {'stopped'} */ ('stopped') };
+  const run = { ...state.run, status: /** @type {'stopped'} */ ('stopped'), told: null };
   return { ...state, run, worker: state.worker + 1, notice: '' };
 }
 
@@ -261,11 +267,23 @@ const wordsOf = ({ source, reading, picks }) =>
   ({ ...source, number: reading, kept: null, choice: numbersOf(source, picks), names: namesText(picks.names) });
 
 const workerOf = ({ worker }) => `sheet ${worker}`;
+// The worker that finds days has the text of a conversion.
+const daysWorkerOf = (run) => `days of ${run.key}`;
 const choicesKey = ({ reading }) => `sheet choices ${reading}`;
 const readingKey = ({ reading, source }) => `sheet reading ${reading} ${source.above}`;
 const picksKey = (state) => `${readingKey(state)} ${JSON.stringify(state.picks)}`;
 const unknownKey = (state) => `names ${picksKey(state)}`;
 const previewKey = (state) => `preview ${picksKey(state)} ${state.columns}`;
+
+// The text that is or was converted, once it is known.
+const textOf = (run) => (run.status === 'runs' ? run.told : isWhole(run) && run.reply.answer);
+
+// A task about the days of a column of dates of what was converted.
+function daysTask({ source, picks }, run, key, name, place, more = {}) {
+  const words = { conversion: run.key, text: textOf(run).text, choice: numbersOf(source, picks), names: namesText(picks.names),
+    delimiter: source.delimiter, above: source.above, place, ...more };
+  return { key, worker: daysWorkerOf(run), name, words };
+}
 
 // What is wanted of columns of dates, and was not made yet, each with its key.
 function wantedParts(state) {
@@ -275,26 +293,30 @@ function wantedParts(state) {
     .map(([place]) => ({ part, place, key: `${run.key} ${part} ${place}` })));
 }
 
-const partTasks = (state, task) => wantedParts(state).map(({ part, place, key }) =>
-  task(key, PARTS[part], { ...wordsOf(state), place: Number(place) }));
+function partTasks(state, task) {
+  return wantedParts(state).map(({ part, place, key }) => {
+    if (part === 'pictures') return daysTask(state, state.run, key, PARTS[part], Number(place));
+    return task(key, PARTS[part], { ...wordsOf(state), place: Number(place) });
+  });
+}
 
 const sortKey = (run) => `${run.key} sorted by ${run.sorted.place}`;
 const isSorting = (run) => run !== null && run.sorted !== null && run.sorted.reply === null;
 
-function sortTasks(state, task) {
+function sortTasks(state) {
   const run = shownRun(state);
   if (!isSorting(run)) return [];
   const { table } = run.reply.answer, behind = run.picks.dates.length * (run.columns.length + 1);
-  return [task(sortKey(run), 'sortedSheet', { ...wordsOf(state), table, behind, place: run.sorted.place })];
+  return [daysTask(state, run, sortKey(run), 'sortedSheet', run.sorted.place, { table, behind })];
 }
 
 const gatherKey = (run) => `${run.key} gathers ${run.gathered}`;
 
-// The days of the next column of dates are gathered while nothing else is wanted.
-function gatherTasks(state, task) {
+// The days of the next column of dates are gathered while nothing else is wanted of its worker.
+function gatherTasks(state) {
   const run = shownRun(state);
-  if (!isWhole(run) || run.gathered === run.picks.dates.length) return [];
-  return [task(gatherKey(run), 'sheetPicture', { ...wordsOf(state), place: run.gathered })];
+  if (run === null || !textOf(run) || run.gathered === run.picks.dates.length) return [];
+  return [daysTask(state, run, gatherKey(run), 'sheetPicture', run.gathered)];
 }
 
 /** What the worker of the sheet is to be asked now. */
@@ -312,23 +334,28 @@ export function tasks(state) {
   if (isRunning(state)) {
     const { heading, records } = first;
     const places = dates.map(({ date, calendar }) => [Number(date), isColumn(calendar) ? Number(calendar) : null]);
-    return [task(run.key, 'convertSheet', { ...wordsOf(state), columns, places, heading, records })];
+    const words = { ...wordsOf(state), columns, places, heading, records, isTold: state.isEarly };
+    return [task(run.key, 'convertSheet', words), ...gatherTasks(state)];
   }
   if (missing(state)) return [];
-  const wanted = [...partTasks(state, task), ...sortTasks(state, task)];
+  const wanted = [...partTasks(state, task), ...sortTasks(state)];
   if (shownPreview(state) === null) {
     wanted.push(task(previewKey(state), 'preview', { ...wordsOf(state), dates: dates.length, columns }));
   }
   if (shownUnknown(state) === null) wanted.push(task(unknownKey(state), 'unknownNames', wordsOf(state)));
-  return wanted.length ? wanted : gatherTasks(state, task);
+  return wanted.length ? wanted : gatherTasks(state);
 }
 
-/** The worker that stays: it has read the sheet. */
-export const keptWorkers = (state) => [workerOf(state)];
+/** The workers that stay: one has read the sheet, and one has the days of what is shown. */
+export function keptWorkers(state) {
+  const run = shownRun(state);
+  return [workerOf(state), ...(run !== null && textOf(run) ? [daysWorkerOf(run)] : [])];
+}
 
 // The conversion ended. Where the file was read anew, what is shown of the sheet is what was converted.
 function runReplied(state, reply) {
-  const ended = { ...state, run: { ...state.run, status: /** @type {'ended'} */ ('ended'), reply }, notice: '' };
+  const run = { ...state.run, status: /** @type {'ended'} */ ('ended'), reply, told: null };
+  const ended = { ...state, run, notice: '' };
   if (reply.fault === 'otherColumns') return { ...readAnew({ ...state, run: null }, state.source), notice: 'otherColumns' };
   if (reply.fault || !reply.answer.sheetBegins) return ended;
   const { sheetBegins } = reply.answer;
@@ -381,10 +408,19 @@ function unknownReplied(state, reply) {
   return { ...state, unknown, listed: [...stays, ...found.filter((it) => !isIn(stays, it))] };
 }
 
+const gatherReplied = ({ run, ...state }) => ({ ...state, run: { ...run, gathered: run.gathered + 1 } });
+
+// While a sheet is converted, its text may be told, and days be gathered.
+function replyWhileRuns(state, key, reply) {
+  const { run } = state;
+  if (key === run.key) return reply.news ? { ...state, run: { ...run, told: reply.news } } : runReplied(state, reply);
+  return run.told && key === gatherKey(run) ? gatherReplied(state) : state;
+}
+
 function partReplied(state, key, reply) {
   const found = wantedParts(state).find((it) => it.key === key), run = shownRun(state);
   if (isSorting(run) && key === sortKey(run)) return { ...state, run: { ...run, sorted: { ...run.sorted, reply } } };
-  if (run !== null && key === gatherKey(run)) return { ...state, run: { ...run, gathered: run.gathered + 1 } };
+  if (run !== null && key === gatherKey(run)) return gatherReplied(state);
   if (!found) return state;
   return { ...state, run: { ...run, [found.part]: { ...run[found.part], [found.place]: { reply } } } };
 }
@@ -396,7 +432,7 @@ function partReplied(state, key, reply) {
  */
 export function replied(state, key, reply) {
   const { begins, picks, columns, kept } = state;
-  if (isRunning(state)) return key === state.run.key ? runReplied(state, reply) : state;
+  if (isRunning(state)) return replyWhileRuns(state, key, reply);
   if (kept !== null && kept.choices === null) return key === choicesKey(state) ? choicesReplied(state, reply) : state;
   if (begins === null) return key === readingKey(state) ? readingReplied(state, reply) : state;
   if (key === unknownKey(state)) return unknownReplied(state, reply);

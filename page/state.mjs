@@ -32,7 +32,8 @@ export class Page {
    */
   constructor({ newWorker, compiled, processors, now, draw }) {
     this.state = {
-      date: date.initial(), door: door.initial(), registers: registers.initial(processors), sheet: sheet.initial(),
+      date: date.initial(), door: door.initial(), registers: registers.initial(processors),
+      sheet: sheet.initial(processors),
     };
     this.now = now;
     this.draw = draw;

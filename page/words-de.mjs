@@ -396,6 +396,7 @@ export const WORDS = {
   sheetHas: (n, width) => `${WORDS.records(n)} mit ${width} ${width === 1 ? 'Spalte' : 'Spalten'} unter den Namen.`,
   oneColumn: 'Steht ein anderes Zeichen zwischen den Feldern? Wählen Sie es oben.',
   emptySheet: 'es ist leer',
+  sheetUnread: 'das Tabellenblatt konnte nicht gelesen werden',
   noNames: 'für die Namen der Spalten bleibt keine Zeile: Lassen Sie weniger darüber stehen',
   onlyFirst: (n) => `Nur die ersten ${n} Spalten können gewählt werden.`,
   dates: 'Spalten mit Daten',
@@ -415,7 +416,8 @@ export const WORDS = {
   yearFirst: 'das Jahr zuerst, wie `1699-11-30` oder `1699/11/30`',
   dayFirst: 'der Tag zuerst, wie `30.11.1699` oder `30/11/1699`',
   monthFirst: 'der Monat zuerst, wie `11/30/1699`',
-  dayOrderIs: 'Ein Monat mit Namen wird in jeder Folge gelesen: `30. November 1699`, `Nov. 30, 1699`.',
+  dayOrderIs: 'Ein Monat mit Namen wird in jeder Folge gelesen, `30. November 1699`, `Nov. 30, 1699`, wenn das Jahr mehr als ' +
+    'zwei Ziffern hat. Sonst sagt diese Wahl, welche Zahl das Jahr ist: bei `15 Ventôse an VI` steht der Tag zuerst.',
   short: 'Jahre mit ein oder zwei Ziffern',
   shortIs: 'In gregorianischen und julianischen Daten, wie `12.5.82`.',
   shortRules: { refuse: 'solche Daten weglassen', keep: 'wie geschrieben: 82 ist das Jahr 82' },

@@ -369,6 +369,7 @@ export const WORDS = {
   sheetHas: (n, width) => `${WORDS.records(n)} of ${width} ${width === 1 ? 'column' : 'columns'} under the names.`,
   oneColumn: 'Does another sign stand between its fields? Choose it above.',
   emptySheet: 'it is empty',
+  sheetUnread: 'the sheet could not be read',
   noNames: 'no line is left for the names of the columns: let fewer stand above them',
   onlyFirst: (n) => `Only the first ${n} columns can be chosen.`,
   dates: 'Columns with dates',
@@ -388,7 +389,8 @@ export const WORDS = {
   yearFirst: 'year first, as `1699-11-30` or `1699/11/30`',
   dayFirst: 'day first, as `30.11.1699` or `30/11/1699`',
   monthFirst: 'month first, as `11/30/1699`',
-  dayOrderIs: 'A month by its name is read in any order: `30. November 1699`, `Nov. 30, 1699`.',
+  dayOrderIs: 'A month by its name is read in any order, `30. November 1699`, `Nov. 30, 1699`, where the year has more than ' +
+    'two digits. Else this choice says which number is the year: for `15 Ventôse an VI` the day stands first.',
   short: 'Years of one or two digits',
   shortIs: 'Of Gregorian and Julian dates, as `12.5.82`.',
   shortRules: { refuse: 'leave such dates out', keep: 'as written: 82 is the year 82' },

@@ -1,4 +1,4 @@
-// What a worker does: a task for each message, one after the other.
+// What a worker does: a task for each message, one after the other. Each is given its words, and how to tell news meanwhile.
 
 import { TooLarge, archiveOf } from './archive.mjs';
 import { CALENDARS, TARGETS } from './calendars.mjs';
@@ -100,6 +100,17 @@ function formulasOf(module, text, table, delimiter, width, records) {
 // A text's first line, as far as it is shown. What is no letter in it stands as the sign for that.
 const firstLineOf = (text) => text.split(/[\r\n]/, 1)[0].slice(0, LINE_SHOWN).replace(/[\0-\x08\x0e-\x1f]/g, '\ufffd');
 
+// How the text of bytes begins: what is neither UTF-8 nor marked is taken as a sheet would be.
+function beginningOf(bytes) {
+  const front = bytes.subarray(0, FRONT), marked = markedEncoding(front);
+  try {
+    return new TextDecoder(marked || 'utf-8', { fatal: marked === null }).decode(front, { stream: true });
+  } catch (fault) {
+    if (!(fault instanceof TypeError)) throw fault;
+    return new TextDecoder('windows-1252').decode(front);
+  }
+}
+
 const isLineEnd = (byte) => byte === 10 || byte === 13;
 
 // How a register with this front is written, by its header, as the module reads it; or null where it has none. Empty lines
@@ -123,7 +134,7 @@ async function lookOf(module, file) {
   if (bytes === null) return { kind: 'noReading' };
   const kind = kindOf(bytes), marked = markedEncoding(bytes);
   if (kind !== null) return { kind };
-  const text = new TextDecoder(marked || 'utf-8').decode(bytes);
+  const text = beginningOf(bytes);
   if (isTree(text)) return { kind: 'tree' };
   if (isJson(file.name) || isObject(text)) {
     if (file.size <= MOST_CHOICES && choicesOf(await file.text()) !== null) return { kind: 'choices' };
@@ -140,7 +151,8 @@ async function looks({ compiled, files }) {
   return { looks: found };
 }
 
-async function register({ compiled, file, columns }) {
+// A register. Its text is told when it is read where `isTold`, so that its days are found at the same time.
+async function register({ compiled, file, columns, isTold }, tell) {
   const module = await instantiate(compiled);
   const text = module.malloc(file.size);
   const bytesAt = (at, length) => module.bytes({ pointer: text.pointer + at, length });
@@ -153,15 +165,17 @@ async function register({ compiled, file, columns }) {
   if (isTree(frontOf(module, text))) throw new OtherKind('tree');
   const { delimiter, sealed } = formOf(module, bytesAt(0, text.length)) || FORMS[0];
   const setup = { columns: numbersOf(columns), delimiter, sealed };
+  const told = isTold ? await blobOf(module, text) : null;
+  if (told) tell({ text: told, delimiter, sealed });
   const converted = module.convert(text, setup, expectedLength(text.length, lines, columns.length));
   await checkUnchanged(file, bytesAt);
   const answer = { ...converted, delimiter, sealed };
-  if (answer.ending === NO_HEADER) return { ...answer, table: null, firstLine: firstLineOf(frontOf(module, text)) };
+  if (answer.ending === NO_HEADER) return { ...answer, table: null, firstLine: firstLineOf(beginningOf(bytesAt(0, text.length))) };
   if (answer.table.length === 0) return { ...answer, table: null };
   const table = new Table(module, answer.table, delimiter);
   const first = table.firstRows(), refused = answer.ending === 0 && answer.refused === 0 ? null : table.refusedRows();
   const formulas = formulasOf(module, text, answer.table, delimiter, first.from, answer.rows);
-  const own = await blobOf(module, text), made = await blobOf(module, answer.table, MARK);
+  const own = told || await blobOf(module, text), made = await blobOf(module, answer.table, MARK);
   return { ...answer, first, refusedRows: refused, formulas, text: own, table: made };
 }
 
@@ -269,7 +283,7 @@ async function readSheet({ compiled, number, file, encoding: chosen, ...source }
   const text = isOfTree ? module.treeDates(own) : own, front = isOfTree ? frontOf(module, text) : beginning;
   const delimiter = isOfTree ? COMMA : delimiterOf(front, source);
   const { bytesAt } = read, how = { number, file, bytesAt, module, text, front, encoding, delimiter, isOfTree };
-  sheet = { ...how, counted: null, gathered: new Map() };
+  sheet = { ...how, counted: null };
   return sheet;
 }
 
@@ -412,22 +426,24 @@ function hasOtherColumns({ module, text, delimiter }, above, heading) {
 /**
  * The sheet with columns of the tables of its dates behind its own. The file is read anew, and what was chosen has to fit
  * to it still: `heading` is that of the reading that it was chosen from, and `records` so many it had. `places` has the
- * column of each date and that of its calendar, or null.
+ * column of each date and that of its calendar, or null. Its text is told when it is read where `isTold`.
  */
-async function convertSheet({ choice, places, columns, names, heading, records, ...source }) {
+async function convertSheet({ choice, places, columns, names, heading, records, isTold, ...source }, tell) {
   const read = await readSheet(/** @type {Source} */ (source)), { module, text, delimiter } = read, { above } = source;
   if (hasOtherColumns(read, above, heading)) throw new OtherColumns();
+  const told = isTold ? await blobOf(module, text) : null;
+  if (told) tell({ text: told });
   const dates = places.length, behind = behindOf(dates, columns), guess = expectedLength(text.length, records, behind);
   const { ending, rows, refused, table } =
     module.convertSheet(text, choice, columnNumbers(columns), namesWith(names), guess);
   await checkUnchanged(read.file, read.bytesAt);
   const whole = { ending, rows, refused: refused.slice(0, dates), first: null, refusedDates: [], counts: [], table: null };
   if (ending !== 0) return whole;
-  const first = firstJoined(module, table, delimiter, above, behind), { own } = first;
-  const found = foundOf(read, table, { above, dates, places, own, rows }, refused, columns.length + 1);
-  const blob = await blobOf(module, table, MARK);
+  const first = firstJoined(module, table, delimiter, above, behind), { own: width } = first;
+  const found = foundOf(read, table, { above, dates, places, own: width, rows }, refused, columns.length + 1);
+  const own = told || await blobOf(module, text), made = await blobOf(module, table, MARK);
   module.free(table);
-  return { ...whole, ...found, first, table: blob, sheetBegins: begins(read, above, rows + 1, own) };
+  return { ...whole, ...found, first, text: own, table: made, sheetBegins: begins(read, above, rows + 1, width) };
 }
 
 // What is found in a sheet that came back: the dates that were refused, and what is like a formula.
@@ -438,50 +454,60 @@ function foundOf({ module, text, delimiter }, table, made, refused, width) {
   return { formulas, counts, refusedDates: refusedDates(module, table, delimiter, made, width) };
 }
 
-// The register of one column of dates of the sheet that was read last.
-async function registerOf({ choice, place, names, ...source }) {
-  const { module, text, delimiter } = await sheetOf(source);
-  return { module, delimiter, ...module.sheetRegister(text, choice, place, namesWith(names)) };
+// What is made of a register of dates that cannot be made.
+function checkEnding(name, ending) {
+  if (ending === 1) throw new NoMemory();
+  if (ending !== 0) throw new Error(`${name}: ${ending}`);
 }
 
 /** The register of one column of dates of the sheet that was converted last. */
-async function sheetRegister(words) {
-  const { module, ending, table } = await registerOf(words);
+async function sheetRegister({ choice, place, names, ...source }) {
+  const { module, text } = await sheetOf(source), { ending, table } = module.sheetRegister(text, choice, place, namesWith(names));
   if (ending !== 0) return { ending, register: null };
   const made = await blobOf(module, table);
   module.free(table);
   return { ending, register: made };
 }
 
+// The text of a conversion of a sheet, in the module's memory, and what was found of each column of dates.
+let dated = null;
+
+async function datedOf({ compiled, conversion, text }) {
+  if (dated === null || dated.conversion !== conversion) {
+    dated = null;
+    const module = await instantiate(compiled);
+    dated = { conversion, module, text: await partOf(module, text), found: new Map() };
+  }
+  return dated;
+}
+
 // The days of one column of dates, and what a picture of them shows, by its register.
-async function gathered(words) {
-  const { module, delimiter, ending, table: register } = await registerOf(words);
-  if (ending !== 0) throw new Error(`sheet_register: ${ending}`);
+function gathered({ module, text }, { choice, place, names, delimiter }) {
+  const { ending, table: register } = module.sheetRegister(text, choice, place, namesWith(names));
+  checkEnding('sheet_register', ending);
   const entries = module.registerDays(register, delimiter, false);
-  if (entries.ending === 1) throw new NoMemory();
-  if (entries.ending !== 0) throw new Error(`register_days: ${entries.ending}`);
+  checkEnding('register_days', entries.ending);
   const picture = timelineOf(module, register, delimiter, entries);
   module.free(register);
   return { days: entries.days, picture };
 }
 
-// What was gathered of a sheet stays with it, for each column of dates as it is chosen.
-async function daysOf({ choice, place, names, ...source }) {
-  const key = JSON.stringify([choice, place, names]), { gathered: known } = await sheetOf(source);
-  if (!known.has(key)) known.set(key, await gathered({ choice, place, names, ...source }));
-  return known.get(key);
+// What was found of a column of dates stays, for a picture and for an order.
+async function daysOf(words) {
+  const own = await datedOf(words), { place } = words;
+  if (!own.found.has(place)) own.found.set(place, gathered(own, words));
+  return own.found.get(place);
 }
 
-/** What a picture of one column of dates shows. */
+/** What a picture of one column of dates shows, by the text that was converted. */
 const sheetPicture = async (words) => (await daysOf(words)).picture;
 
 /**
  * The sheet that came back, with its records by the days of one column of dates, and how it begins. `behind` columns were put
  * behind its own.
- * @param {any} asked
  */
-async function sortedSheet({ table, behind, ...words }) {
-  const { days } = await daysOf(words), { delimiter } = await sheetOf(words), head = words.above + 1;
+async function sortedSheet({ table, behind, delimiter, above, ...words }) {
+  const { days } = await daysOf({ ...words, delimiter }), head = above + 1;
   const module = await instantiate(words.compiled), own = await partOf(module, table.slice(MARK_LENGTH));
   const indices = new Uint32Array(head + days.length);
   indices.set(range(head));
@@ -489,7 +515,7 @@ async function sortedSheet({ table, behind, ...words }) {
   const sorted = module.sheetRecords(own, delimiter, indices);
   // The same records have the same bytes in all.
   if (sorted.length !== own.length) throw new Error(`sheet_records: ${sorted.length} bytes of ${own.length}`);
-  const first = firstJoined(module, sorted, delimiter, words.above, behind);
+  const first = firstJoined(module, sorted, delimiter, above, behind);
   return { table: await blobOf(module, sorted, MARK), first };
 }
 
@@ -511,12 +537,13 @@ function faultOf(fault) {
 
 /**
  * Answers each message to `port`, in turn: `task` is its name, `number` comes back with the answer, or with the kind of
- * fault.
+ * fault, and with news before it.
  */
 export function serve(port) {
   let last = Promise.resolve();
   port.onmessage = ({ data }) => {
-    last = last.then(() => TASKS[data.task](data.words)).then(
+    const tell = (news) => port.postMessage({ number: data.number, news });
+    last = last.then(() => TASKS[data.task](data.words, tell)).then(
       (answer) => port.postMessage({ number: data.number, answer }),
       (fault) => port.postMessage({ number: data.number, fault: faultOf(fault), why: String(fault) }),
     );

@@ -56,6 +56,22 @@ function changing(size, ...texts) {
   return { name: 'changing.csv', size, stream: () => new Blob([texts[Math.min(times++, texts.length - 1)]]).stream() };
 }
 
+// A file that is read so often, and the next time waits for `goOn`; then it has another text.
+function waiting(times, text, other) {
+  let goOn, left = times;
+  const gone = new Promise((done) => { goOn = done; });
+  const later = async (it) => {
+    await gone;
+    it.enqueue(new TextEncoder().encode(other));
+    it.close();
+  };
+  const stream = () => {
+    left -= 1;
+    return left < 0 ? new ReadableStream({ start: later }) : new Blob([text]).stream();
+  };
+  return { name: 'waiting.csv', size: text.length, stream, goOn };
+}
+
 const broken = () => new ReadableStream({ pull: (it) => it.error(new Error('no')) });
 const unreadable = { name: 'folder', size: 10, stream: broken };
 
@@ -91,5 +107,5 @@ async function page(processors = 4) {
 }
 
 module.exports = {
-  COMMA, NONE, SEMICOLON, asker, changing, choiceOf, file, linesOf, load, page, source, unreadable, useModule,
+  COMMA, NONE, SEMICOLON, asker, changing, choiceOf, file, linesOf, load, page, source, unreadable, useModule, waiting,
 };

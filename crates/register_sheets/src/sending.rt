@@ -11,7 +11,7 @@ use std::alloc::Global;
 use std::mem;
 
 /// How many bytes of lines are gathered before they are sent, or a few more.
-const BLOCK: usize = 16 * 1024;
+const BLOCK: usize = 64 * 1024;
 
 /// Lines that are sent in blocks.
 #[derive(Drop)]

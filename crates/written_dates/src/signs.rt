@@ -11,7 +11,7 @@ ghost use Rattle.written_dates.specs.Signs.{runs_behind_minus as minus_spec};
 ghost use Rattle.written_dates.specs.Fields.{is_blank as blank_spec};
 ghost use Rattle.written_dates.specs.SignViews.{may_be_blank as may_be_blank_spec, seen_digits, seen_rest, seen_runs};
 
-use crate::tokens::{Kind, byte_at, kind_of_byte, next_token, run_end};
+use crate::tokens::{Kind, byte_at, next_token, run_end};
 
 fn is_sign(kind: Kind) -> bool
     ensures { result ≡ sign_spec kind }
@@ -53,7 +53,7 @@ pub(crate) fn is_blank(kind: Kind) -> bool
 pub(crate) fn may_be_blank(byte: u8) -> bool
     ensures { result ≡ may_be_blank_spec byte }
 {
-    is_blank(kind_of_byte(byte)) || byte >= 128
+    byte == b' ' || byte == b'\t' || byte == b'\n' || byte == b'\r' || byte >= 128
 }
 
 /// Whether a character stands in a text that no date has, and whether two dashes are its only signs.

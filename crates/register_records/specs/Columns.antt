@@ -1,5 +1,5 @@
 -- The columns of a table: their order, their names, and what stands in them.
-use Rattle.std.specs.Prelude.{◌+◌, Bool, true, false, ℕ, ℤ, List, [], ◌∷◌, ◌++◌, codes, get_or, Option}
+use Rattle.std.specs.Prelude.{◌+◌, Bool, true, false, ℕ, List, [], ◌∷◌, ◌++◌, codes, get_or, Option}
 use Rattle.std.specs.Fmt.{decimal, signed_decimal}
 use Rattle.std.specs.List.{flat_map}
 use Rattle.std.specs.Option.{option_map_or}
@@ -8,9 +8,7 @@ use Rattle.day_numbers.specs.Days.{weekday_names, weekday_number}
 use Rattle.date_texts.specs.Calendars.{target_name}
 use Rattle.date_texts.specs.Refusals.{refusal_number}
 use Rattle.date_texts.specs.declared.target.Target.{Target}
-use Rattle.date_texts.specs.declared.refusal.Refusal.{Refusal}
 use Rattle.register_records.specs.Outcomes.{TableRow}
-use Rattle.register_records.specs.Records.{Texts}
 use Rattle.register_records.specs.declared.table_columns.ColumnKind.{ColumnKind}
 use Rattle.register_records.specs.declared.table_columns.ColumnKind.TheVariants.{Calendar, Cells, Date, DayNumber, Id}
 use Rattle.register_records.specs.declared.table_columns.ColumnKind.TheVariants.{Note, Number, Weekday}

@@ -10,7 +10,7 @@ ghost use Rattle.register_records.specs.Entries.{HasDate, HaveOneDate, are_fit, 
 use crate::record_fields::RecordFields;
 use crate::setups::Form;
 use arrayvec::ArrayString;
-use byte_buffers::are_equal;
+use byte_buffers::{WORD_LEN, are_equal};
 use csv::ByteRecord;
 use date_texts::Refusal;
 use std::str;
@@ -218,12 +218,34 @@ fn is_allowed(body: &Body) -> bool
     }
 }
 
-/// Whether a text is that of a field.
+/// Whether two texts of one length are one, byte by byte. An entry whose texts are lent to a call, as `==` does, is copied
+/// twice into its lane, since LLVM does not know then that the lane is elsewhere.
+#[inline(always)]
+fn have_same_bytes(text: &[u8], other: &[u8]) -> bool
+    requires { length text.now ≡ length other.now }
+    ensures { (result ≡ true) ↔ (text.now ≡ other.now) }
+{
+    'bytes: for i in 0..text.len() {
+        if text[i] != other[i] {
+            return false;
+        }
+    }
+    true
+}
+
+/// Whether a text is that of a field. Texts of one word or two are compared by words.
 #[inline(always)]
 fn is_same<const N: usize>(text: &ArrayString<N>, field: &[u8]) -> bool
     ensures { (result ≡ true) ↔ (text.now.bytes ≡ field.now) }
 {
-    are_equal(text.as_str().as_bytes(), field)
+    let bytes = text.as_str().as_bytes();
+    if bytes.len() != field.len() {
+        return false;
+    }
+    if bytes.len() < WORD_LEN || bytes.len() > 2 * WORD_LEN {
+        return have_same_bytes(bytes, field);
+    }
+    are_equal(bytes, field)
 }
 
 /// Whether a calendar's name and a date are these. The length of the name is compared first: it differs in most registers

@@ -105,6 +105,8 @@ impl<W: Output> Table<W> {
     /// Writes the heading and flushes it, unless it was written or a fault was met before.
     ///
     /// The fault may be `NoMemory`, with the output as it was, and `SinkFault` where the output has failed.
+    // Inlined, since a table asks for it before each row.
+    #[inline(always)]
     pub fn write_heading(&mut self, output: &mut W)
         ensures same { IsSameTable self.old self.new }
         ensures rows { (rows : List Row) → Holds W.Output self.old output.old rows

@@ -44,6 +44,16 @@ for (const it of all('table')) {
   if ([...it.querySelectorAll('thead th')].some((head) => head.scope !== 'col')) tell('a heading without a scope', it);
   if (!it.querySelector('th')) tell('a table without headings', it);
 }
+const isBroken = (node, { index, 0: word }) => {
+  const range = document.createRange();
+  range.setStart(node, index);
+  range.setEnd(node, index + word.length);
+  return new Set([...range.getClientRects()].map(({ top }) => top)).size > 1;
+};
+for (const it of all('thead th')) {
+  const texts = [...it.childNodes].filter((part) => part.nodeType === 3);
+  if (texts.some((node) => [...node.data.matchAll(/\S+/g)].some((found) => isBroken(node, found)))) tell('a word is broken', it);
+}
 for (const it of all('ul, ol')) if ([...it.children].some(({ tagName }) => tagName !== 'LI')) tell('a list of other parts', it);
 
 // ---- Keys ----

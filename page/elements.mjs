@@ -127,13 +127,13 @@ export function saveBlob(blob, name) {
 
 // A link that saves, which looks like a button; the second and further ones are grey. What is not made yet is a button.
 export function downloadLink({ words, blob, name, isTable, place, isMade = true }, isSecond, saved, make) {
-  const className = isSecond ? 'save second' : 'save', id = place === undefined ? '' : `make-${place}`;
+  const className = isSecond ? 'save second' : 'save', own = place === undefined ? {} : { id: `make-${place}` };
   if (!isMade) {
-    const button = element('button', words, { type: 'button', className: 'second', id });
+    const button = element('button', words, { type: 'button', className: 'second', ...own });
     button.addEventListener('click', () => make(place));
     return button;
   }
-  const link = element('a', words, { href: URL.createObjectURL(blob), download: name, className, id });
+  const link = element('a', words, { href: URL.createObjectURL(blob), download: name, className, ...own });
   if (isTable) link.addEventListener('click', saved);
   return link;
 }

@@ -454,7 +454,7 @@ function foundOf({ module, text, delimiter }, table, made, refused, width) {
   return { formulas, counts, refusedDates: refusedDates(module, table, delimiter, made, width) };
 }
 
-// What is made of a register of dates that cannot be made.
+// Throws where a call of the module was not ended as it should.
 function checkEnding(name, ending) {
   if (ending === 1) throw new NoMemory();
   if (ending !== 0) throw new Error(`${name}: ${ending}`);

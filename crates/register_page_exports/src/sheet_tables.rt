@@ -143,7 +143,7 @@ fn converted_by(
     let end = convert_sheet(alloc, sheet, &setup, &mut output);
     let text = output.into_inner();
     match end {
-        SheetEnd::Whole { rows, refused } => Ok(SheetMade {
+        SheetEnd::Whole { rows, refused, .. } => Ok(SheetMade {
             text,
             rows,
             refused,

@@ -1,7 +1,7 @@
 -- The fields of a line, while they are appended.
 use Rattle.std.proofs.Common.{◌≡◌, ◌<◌, ◌≤◌, ◌+◌, ◌^◌, ◌%◌, ◌++◌, ℕ, List, [], ◌∷◌, true, false, refl, sym, ap, ◌∙◌}
 use Rattle.std.proofs.Common.{rules, arith, append_assoc, append-nil, length, length-append, length-set, map, set, take}
-use Rattle.std.proofs.Common.{Bool, Result, drop, get_or, ℤ, length-take-le}
+use Rattle.std.proofs.Common.{◌==◌, if◌then◌else◌, Bool, Result, drop, get_or, ℤ, length-take-le}
 use Rattle.std.specs.Fmt.{decimal, signed_decimal}
 use Rattle.std.proofs.lemmas.Int.{ints}
 use Rattle.std.proofs.lemmas.Bool.{and_parts}
@@ -53,6 +53,40 @@ pub only_field : (d : ℕ) (before field bytes : List ℕ) → needs_quotes (wri
 unfolding fields_text
 only_field d before field bytes h e =
     e ∙ ap (λ (t : List ℕ). before ++ t) (rw (plain_text d field h) (sym (append-nil field)))
+
+-- a line that one field begins
+pub first_text : (d : ℕ) (before field bytes : List ℕ) → bytes ≡ before ++ field_text (writing d) field
+    → bytes ≡ before ++ body d (field ∷ [])
+unfolding fields_text
+first_text d before field bytes e =
+    e ∙ ap (λ (t : List ℕ). before ++ t) (sym (append-nil (field_text (writing d) field)))
+
+-- a line is blank where it shows no byte
+blank_shows_none : (d : ℕ) (fields : List (List ℕ)) → is_blank (writing d) fields ≡ (length (body d fields) == 0)
+unfolding is_blank fields_text
+blank_shows_none d [] = refl
+blank_shows_none d (field ∷ []) =
+    ap (λ (t : List ℕ). length t == 0) (sym (append-nil (field_text (writing d) field)))
+blank_shows_none d (field ∷ next ∷ rest) = grind (arith, nat_tests, length-append)
+
+-- such a line gets two quotes, and each a line feed
+same_test : (n begun shown : ℕ) → n ≡ begun + shown → (n == begun) ≡ (shown == 0)
+same_test n begun shown e = grind (arith, nat_tests)
+
+pub ended_from : (d : ℕ) (before : List ℕ) (fields : List (List ℕ)) (n begun : ℕ) (old mid new : List ℕ)
+    → n ≡ length old → length before ≡ begun → old ≡ before ++ body d fields
+    → mid ≡ old ++ (if n == begun then 34 ∷ 34 ∷ [] else []) → new ≡ mid ++ 10 ∷ []
+    → new ≡ before ++ line_text d fields
+ended_from d before fields n begun old mid new long at is m e =
+    let test : (n == begun) ≡ is_blank (writing d) fields =
+    same_test n begun (length (body d fields))
+    (long ∙ ap length is ∙ length-append before (body d fields) ∙ ap (λ k. k + length (body d fields)) at)
+    ∙ sym (blank_shows_none d fields) in
+    e ∙ ap (λ (t : List ℕ). t ++ 10 ∷ []) (m ∙ ap (λ b. old ++ (if b then 34 ∷ 34 ∷ [] else [])) test
+    ∙ ap (λ (t : List ℕ). t ++ (if is_blank (writing d) fields then 34 ∷ 34 ∷ [] else [])) is)
+    ∙ ap (λ (t : List ℕ). t ++ 10 ∷ []) (append_assoc before (body d fields) _)
+    ∙ append_assoc before _ (10 ∷ [])
+    ∙ ap (λ (t : List ℕ). before ++ t) (append_assoc (body d fields) _ (10 ∷ []))
 
 -- a line of two fields or more is never blank
 pub ended : (d : ℕ) (before : List ℕ) (fields : List (List ℕ)) (old new : List ℕ) → 2 ≤ length fields
@@ -241,6 +275,10 @@ cell_fields row place (t ∷ ts) =
 tail_same : (row : TableRow) (ts : List Target)
     → flat_map (kind_fields ts row) tail_order ≡ tail_texts ts row.outcome row.cells
 tail_same row ts = rw (cell_fields row 0 ts) refl
+
+pub tail_alike : (row : TableRow) (ts : List Target)
+    → map (λ (c : Column). c.field row) (flat_map (kind_columns ts) tail_order) ≡ tail_texts ts row.outcome row.cells
+tail_alike row ts = map_of_all (λ (c : Column). c.field row) (kind_columns ts) tail_order ∙ tail_same row ts
 
 entry_fields : (notes : Bool) (ts : List Target) (row : TableRow)
     → flat_map (kind_fields ts row) (entry_order notes) ≡ map (entry_field row) (entry_order notes)

@@ -2,7 +2,7 @@
 use Rattle.std.proofs.Common.{◌≡◌, ◌<◌, ◌≤◌, ◌+◌, ◌++◌, ℕ, List, [], ◌∷◌, true, false, refl, sym, ap, ◌∙◌, rules, arith}
 use Rattle.std.proofs.Common.{add-one, append_assoc, append-nil, drop, drop-cons, get_or, length, length-drop, map, set}
 use Rattle.std.proofs.Common.{subst, take, ◌==◌, ℤ, pos, negsuc, Bool, IsTrue, nat_le, Ok, Err, Result, take_all}
-use Rattle.std.proofs.Common.{take_at}
+use Rattle.std.proofs.Common.{◌-◌, min, suc, take_at, zero}
 use Rattle.std.proofs.lemmas.Slice.Zip.{AllZip-long, all_zipped_more}
 use Rattle.std.specs.Fmt.{decimal, signed_decimal}
 use Rattle.std.specs.List.{AllZip, flat_map, list_all, onto_first, position_or_len, slice_split}
@@ -15,7 +15,7 @@ use Rattle.std.proofs.Math.Logic.{∥∥₁_elim}
 use Rattle.std.proofs.Props.{props}
 use borrow.Rule.Slice.PartMut.{put_mid}
 use Rattle.csv.specs.Writing.{fields_text, needs_byte, needs_quotes}
-use Rattle.day_numbers.specs.Days.{IsDayNumber, weekday_names}
+use Rattle.day_numbers.specs.Days.{IsDayNumber, weekday_names, weekday_number}
 use Rattle.day_numbers.specs.Numbered.{words}
 use Rattle.day_numbers.proofs.NameLemmas.{each_name}
 use Rattle.day_numbers.specs.declared.day.Day.{Day}
@@ -147,6 +147,55 @@ weekday_fits d h number = record {
   plain = plain_bytes d h _ (each_name (list_all is_plain) weekday_names number refl refl);
   short = short_length _ (each_name is_short weekday_names number refl refl);
 }
+
+-- so what stands in the first two columns of a tail needs no quotes
+first_two : (d : ℕ) → is_delimiter d ≡ true → (o : Result Day Refusal) (ts : List Target) (cells : List (List ℕ)) (k : ℕ)
+    → k < 2 → needs_quotes (writing d) (get_or (tail_texts ts (outcome_seen o) cells) k []) ≡ false
+first_two d h (Ok day) ts cells zero lt = plain_day d h day.number day.in_range
+first_two d h (Ok day) ts cells (suc zero) lt = (weekday_fits d h (weekday_number day.number)).plain
+first_two d h (Err r) ts cells zero lt = refl
+first_two d h (Err r) ts cells (suc zero) lt = refl
+first_two d h o ts cells (suc (suc k)) lt = absurd (omega arith)
+
+-- the first delimiter behind a field that needs no quotes ends it
+ends_at : (d : ℕ) (field : List ℕ) (more : List (List ℕ)) → needs_quotes (writing d) field ≡ false
+    → position_or_len (cuts d) (field ++ text d more) ≡ length field
+unfolding fields_text
+ends_at d [] [] h = refl
+ends_at d [] (next ∷ more) h = rw (same_byte_cuts d) refl
+ends_at d (b ∷ field) more h =
+    let both = or_parts (needs_byte (writing d) b) (needs_quotes (writing d) field) h in
+    rw (plain_byte_stays d b both.0, ends_at d field more both.1) (omega arith)
+
+drop_front : (front rest : List ℕ) → drop (length front) (front ++ rest) ≡ rest
+drop_front [] rest = refl
+drop_front (b ∷ front) rest = drop_front front rest
+
+pub behind_first : (d : ℕ) (bytes rest : List ℕ) (start place : ℕ) (field : List ℕ) (more : List (List ℕ))
+    → start ≡ min (length bytes) 1 → rest ≡ take (length bytes - start) (drop start bytes)
+    → place ≡ position_or_len (cuts d) rest → needs_quotes (writing d) field ≡ false → bytes ≡ text d (field ∷ more)
+    → take (length rest - place) (drop place rest) ≡ text d more
+unfolding fields_text
+behind_first d bytes rest start place field more from is at h whole =
+    let one : start ≡ 1 = omega (arith, ap length whole) in
+    let parts : rest ≡ field ++ text d more =
+    is ∙ take_all (length bytes - start) (drop start bytes) (omega (arith, length-drop start bytes))
+    ∙ ap (λ k. drop k bytes) one ∙ ap (drop 1) whole ∙ ap (λ (t : List ℕ). t ++ text d more) (plain_text d field h) in
+    take_all (length rest - place) (drop place rest) (omega (arith, length-drop place rest))
+    ∙ ap (λ k. drop k rest) (at ∙ ap (position_or_len (cuts d)) parts ∙ ends_at d field more h)
+    ∙ ap (drop (length field)) parts ∙ drop_front field (text d more)
+
+-- what is left behind one more of the first two fields
+pub one_passed : (d : ℕ) → is_delimiter d ≡ true → (o : Result Day Refusal) (ts : List Target) (cells : List (List ℕ))
+    (k : ℕ) (bytes rest : List ℕ) → k < 2 → bytes ≡ text d (drop k (tail_texts ts (outcome_seen o) cells))
+    → ((field : List ℕ) (more : List (List ℕ)) → needs_quotes (writing d) field ≡ false
+    → bytes ≡ text d (field ∷ more) → rest ≡ text d more)
+    → rest ≡ text d (drop (k + 1) (tail_texts ts (outcome_seen o) cells))
+one_passed d h o ts cells k bytes rest lt is behind =
+    let fields = tail_texts ts (outcome_seen o) cells in
+    let split : drop k fields ≡ get_or fields k [] ∷ drop (k + 1) fields =
+    rw (add-one, drop-cons fields k [] (omega arith)) refl in
+    behind (get_or fields k []) (drop (k + 1) fields) (first_two d h o ts cells k lt) (is ∙ ap (text d) split)
 
 -- the number of a refusal has one digit
 pub refusal_fits : (d : ℕ) → is_delimiter d ≡ true → (r : Refusal) → Fits d 1 (decimal (refusal_number r))

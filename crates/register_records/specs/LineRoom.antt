@@ -1,4 +1,4 @@
--- How a line is written, and how many bytes its fields take at most. No public contract cites this file.
+-- How a line is written, and how many bytes its fields take at most. The public contracts of lines cite it.
 use Rattle.std.specs.Prelude.{◌≡◌, ◌≤◌, ◌+◌, ◌*◌, ◌++◌, true, ℕ, List, [], ◌∷◌, drop, length}
 use Rattle.csv.specs.Writing.{default_writer, row_body, with_delimiter}
 use Rattle.csv.specs.declared.writer.WriterBuilder.{WriterBuilder}

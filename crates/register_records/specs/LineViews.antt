@@ -1,6 +1,10 @@
--- What a clause sees of a `LineBuffer`. No public contract cites this file.
+-- What a clause sees of a `LineBuffer`.
 use Rattle.std.specs.Prelude.{◌≡◌, ◌≤◌, ◌+◌, ℕ, List, take, vec_len}
 use Rattle.register_records.specs.declared.lines.LineBuffer.{LineBuffer}
+
+-- the byte between two fields
+abbrev pub line_delimiter : LineBuffer → ℕ
+line_delimiter lines = lines.delimiter
 
 -- the bytes of the lines so far
 abbrev pub line_bytes : LineBuffer → List ℕ

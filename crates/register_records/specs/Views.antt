@@ -1,7 +1,9 @@
 -- What a clause sees of the types of this crate.
-use Rattle.std.specs.Prelude.{Bool, ℕ, List, Option, take}
+use Rattle.std.specs.Prelude.{Bool, ℕ, List, Option, map, take}
+use Rattle.std.specs.List.{flat_map}
 use Rattle.std.specs.declared.io.traits.Read.{Ghosts}
 use Rattle.date_texts.specs.declared.target.Target.{Target}
+use Rattle.register_records.specs.Columns.{Column, kind_columns, tail_order}
 use Rattle.register_records.specs.RowTails.{cells_of}
 use Rattle.register_records.specs.Entries.{Numbered, Reading}
 use Rattle.register_records.specs.Outcomes.{TableRow}
@@ -57,6 +59,14 @@ row_seen row = row_made row.entry row.outcome (cells_of (row_targets row) row.ou
 -- the fields of its tail
 abbrev pub tail_fields : Row → List (List ℕ)
 tail_fields row = tail_texts (row_targets row) (row_seen row).outcome (row_seen row).cells
+
+-- what a table shows of a row behind its entry, and the byte before each of these fields in a table that the row was made
+-- for
+abbrev pub tail_shown : Row → List (List ℕ)
+tail_shown row = map (λ (c : Column). c.field (row_seen row)) (flat_map (kind_columns (row_targets row)) tail_order)
+
+abbrev pub row_delimiter : Row → ℕ
+row_delimiter row = row.tail.delimiter
 
 -- how a writer writes lines
 abbrev pub writes_by : RowWriter → Writing

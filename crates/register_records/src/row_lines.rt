@@ -9,6 +9,7 @@ ghost use Rattle.register_records.specs.LineRoom.{Begins, GainsFields, entry_nam
 ghost use Rattle.register_records.specs.LineRoom.{quoted_room};
 ghost use Rattle.register_records.specs.LineViews.{GrowsBy, line_bytes, line_capacity};
 ghost use Rattle.register_records.specs.Lines.{line_text};
+ghost use Rattle.register_records.specs.SetupRules.{is_delimiter};
 ghost use Rattle.register_records.specs.TableColumns.{entry_field, text_shown, heading, kind_name, kind_names};
 ghost use Rattle.register_records.specs.TableColumns.{row_fields};
 ghost use Rattle.register_records.specs.Views.{row_seen, row_targets, tail_fields};
@@ -26,7 +27,8 @@ pub const LINE_ROOM: usize = 1024;
 
 /// Begins the line of the heading: the names of the columns that show an entry.
 fn put_entry_names(lines: &mut LineBuffer, has_notes: bool)
-    requires { lines.old.len + entry_name_room ≤ line_capacity lines.old }
+    requires separated { is_delimiter lines.old.delimiter ≡ true }
+    requires room { lines.old.len + entry_name_room ≤ line_capacity lines.old }
     ensures value { Begins lines.old.delimiter (line_bytes lines.old) (map kind_name (entry_order has_notes))
         (line_bytes lines.new) }
     ensures grows { GrowsBy entry_name_room lines.old lines.new }
@@ -68,6 +70,7 @@ fn put_names(lines: &mut LineBuffer, column: ColumnKind, targets: &[Target])
 
 /// Appends the line of the heading. There must be memory for `LINE_ROOM` bytes more.
 pub(crate) fn make_heading(lines: &mut LineBuffer, has_notes: bool, targets: &[Target])
+    requires separated { is_delimiter lines.old.delimiter ≡ true }
     requires few { length targets.now ≤ MAX_TARGETS }
     requires room { lines.old.len + LINE_ROOM ≤ line_capacity lines.old }
     ensures value { line_bytes lines.new
@@ -85,6 +88,7 @@ pub(crate) fn make_heading(lines: &mut LineBuffer, has_notes: bool, targets: &[T
 #[inline(always)]
 #[tactic(auto, using(crate::proofs::LineLemmas::plain_column))]
 fn put_column(lines: &mut LineBuffer, column: ColumnKind, body: &Body, bare: bool)
+    requires separated { is_delimiter lines.old.delimiter ≡ true }
     requires room { lines.old.len + quoted_room column ≤ line_capacity lines.old }
     requires bare { bare ≡ true → has_special (body_seen body.now) ≡ false }
     ensures value { GainsFields lines.old.delimiter (text_shown (body_seen body.now) column ∷ [])
@@ -102,7 +106,8 @@ fn put_column(lines: &mut LineBuffer, column: ColumnKind, body: &Body, bare: boo
 /// Begins the line of a row: its number and its texts.
 #[inline(always)]
 fn put_entry(lines: &mut LineBuffer, has_notes: bool, row: &Row)
-    requires { lines.old.len + entry_room ≤ line_capacity lines.old }
+    requires separated { is_delimiter lines.old.delimiter ≡ true }
+    requires room { lines.old.len + entry_room ≤ line_capacity lines.old }
     ensures value { Begins lines.old.delimiter (line_bytes lines.old)
         (map (entry_field (row_seen row.now)) (entry_order has_notes)) (line_bytes lines.new) }
     ensures grows { GrowsBy entry_room lines.old lines.new }
@@ -124,7 +129,8 @@ fn put_entry(lines: &mut LineBuffer, has_notes: bool, row: &Row)
 /// delimiter, and written anew for another.
 #[inline(always)]
 fn put_tail(lines: &mut LineBuffer, row: &Row)
-    requires { lines.old.len + TAIL_ROOM ≤ line_capacity lines.old }
+    requires separated { is_delimiter lines.old.delimiter ≡ true }
+    requires room { lines.old.len + TAIL_ROOM ≤ line_capacity lines.old }
     ensures value { GainsFields lines.old.delimiter (tail_fields row.now) (line_bytes lines.old) (line_bytes lines.new) }
     ensures grows { GrowsBy TAIL_ROOM lines.old lines.new }
 {
@@ -137,7 +143,8 @@ fn put_tail(lines: &mut LineBuffer, row: &Row)
 
 /// Appends the line of a row. There must be memory for `LINE_ROOM` bytes more.
 pub(crate) fn make_row(lines: &mut LineBuffer, has_notes: bool, row: &Row)
-    requires { lines.old.len + LINE_ROOM ≤ line_capacity lines.old }
+    requires separated { is_delimiter lines.old.delimiter ≡ true }
+    requires room { lines.old.len + LINE_ROOM ≤ line_capacity lines.old }
     ensures value { line_bytes lines.new ≡ line_bytes lines.old ++ line_text (lines.old.delimiter)
         (row_fields has_notes (row_targets row.now) (row_seen row.now)) }
     ensures grows { GrowsBy LINE_ROOM lines.old lines.new }

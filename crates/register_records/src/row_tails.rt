@@ -2,11 +2,13 @@
 //!
 //! It is written once, where the row is converted, so that the thread that writes tables copies it as it is.
 
-ghost use Rattle.std.specs.Fmt.{signed_decimal};
-ghost use Rattle.std.specs.Prelude.{◌≡◌, ◌≤◌, ◌+◌, ◌*◌, ◌++◌, ◌∷◌, [], List, ℕ, true, false, length, take};
+ghost use Rattle.std.specs.Fmt.{decimal, signed_decimal};
+ghost use Rattle.std.specs.Prelude.{◌≡◌, ◌==◌, ◌≤◌, ◌+◌, ◌*◌, ◌++◌, ◌∷◌, [], List, ℕ, true, false, length, take};
+ghost use Rattle.std.specs.List.{position_or_len};
 ghost use Rattle.csv.specs.Writing.{fields_text, needs_quotes};
 ghost use Rattle.day_numbers.specs.Days.{IsDayNumber};
 ghost use Rattle.date_texts.specs.Calendars.{default_targets};
+ghost use Rattle.date_texts.specs.Refusals.{refusal_number};
 ghost use Rattle.date_texts.specs.declared.target.TheConstants.{MAX_TARGETS};
 ghost use Rattle.date_texts.specs.declared.cells.TheConstants.{MAX_CELL};
 ghost use Rattle.register_records.specs.LineRoom.{plain_room, writing};
@@ -32,8 +34,8 @@ use itoa::Buffer;
 /// Room for a cell behind its delimiter.
 const CELL_ROOM: usize = 1 + MAX_CELL;
 
-/// Room for the longest tail: what stands in each column of a tail, behind a delimiter.
-pub(crate) const TAIL_ROOM: usize = (1 + DAY_NUMBER_LIMIT)
+/// Room in bytes for the longest tail: what stands in each column of a tail, behind a delimiter.
+pub const TAIL_ROOM: usize = (1 + DAY_NUMBER_LIMIT)
     + (1 + WEEKDAY_LIMIT)
     + MAX_TARGETS * CELL_ROOM
     + (1 + REFUSAL_LIMIT);
@@ -95,6 +97,33 @@ macro_rules! put_default_cells {
     };
 }
 
+/// Where a delimiter stands first, or how many bytes there are.
+fn place_of(bytes: &[u8], delimiter: u8) -> usize
+    ensures value { result ≡ position_or_len (λ (b : ℕ). b == delimiter) bytes.now }
+    ensures within { result ≤ length bytes.now }
+{
+    'bytes: for i in 0..bytes.len() {
+        if bytes[i] == delimiter {
+            return i;
+        }
+    }
+    bytes.len()
+}
+
+/// What stands behind the first of some fields, each of which stands behind a delimiter. It needs no quotes, so the next
+/// delimiter ends it.
+#[inline(always)]
+pub(crate) fn behind_field(bytes: &[u8], delimiter: u8) -> &[u8]
+    ensures value { (field : List ℕ) (more : List (List ℕ)) → needs_quotes (writing delimiter) field ≡ false
+        → bytes.now ≡ fields_text (writing delimiter) (field ∷ more)
+        → result.now ≡ fields_text (writing delimiter) more }
+    ensures short { length result.now ≤ length bytes.now }
+{
+    let start = bytes.len().min(1);
+    let rest = &bytes[start..];
+    &rest[place_of(rest, delimiter)..]
+}
+
 /// Whether two outcomes are one.
 fn is_same_outcome(outcome: Result<Day, Refusal>, other: Result<Day, Refusal>) -> bool
     ensures { result ≡ true → outcome_seen outcome ≡ outcome_seen other }
@@ -108,7 +137,6 @@ fn is_same_outcome(outcome: Result<Day, Refusal>, other: Result<Day, Refusal>) -
 
 impl RowTail {
     ghost use Rattle.std.specs.Prelude.{drop, map};
-    ghost use Rattle.std.specs.List.{position_or_len};
     ghost use Rattle.register_records.specs.Columns.{tail_order};
     ghost use Rattle.register_records.specs.RowTails.{cells_of, fields_of, is_cells, is_of_entry};
     ghost use Rattle.register_records.specs.ShortLists.{items_in};
@@ -197,6 +225,9 @@ impl RowTail {
     }
 
     /// Appends the cells of the default targets. Each is known when the code is built: none is chosen by a loop.
+    // A call, as those of listed targets and of a refusal: so LLVM sees in `set` that nothing keeps a tail, and need not
+    // copy a row twice.
+    #[inline(never)]
     fn push_default_cells(&mut self, outcome: Result<Day, Refusal>)
         requires room { self.old.len + plain_room ColumnKind.Cells ≤ TAIL_ROOM }
         ensures value { (cells : List (List ℕ)) → AreCells default_targets (outcome_seen outcome) cells
@@ -217,6 +248,7 @@ impl RowTail {
     }
 
     /// Appends the cells of a list of targets.
+    #[inline(never)]
     fn push_listed_cells(&mut self, targets: &[Target], outcome: Result<Day, Refusal>)
         requires few { length targets.now ≤ MAX_TARGETS }
         requires room { self.old.len + plain_room ColumnKind.Cells ≤ TAIL_ROOM }
@@ -253,6 +285,17 @@ impl RowTail {
         }
     }
 
+    /// Appends the number of a refusal.
+    #[inline(never)]
+    fn push_refusal(&mut self, refusal: Refusal)
+        requires room { self.old.len + plain_room ColumnKind.Refusal ≤ TAIL_ROOM }
+        ensures value { fields_of self.new ≡ fields_of self.old ++ decimal (refusal_number refusal) ∷ [] }
+        ensures grows { self.new.len ≤ self.old.len + plain_room ColumnKind.Refusal }
+        ensures delimiter { self.new.delimiter ≡ self.old.delimiter }
+    {
+        self.push(Buffer::new().format(refusal.number()).as_bytes());
+    }
+
     /// Appends what stands in a column of a tail. A refused row has no day, and an accepted one no refusal.
     // Inlined, so that each call has the arm of its own column alone.
     #[inline(always)]
@@ -274,9 +317,7 @@ impl RowTail {
             (ColumnKind::DayNumber, Ok(day)) => self.push_day_number(day.number()),
             (ColumnKind::Weekday, Ok(day)) => self.push(day.weekday().name().as_bytes()),
             (ColumnKind::Cells, _) => self.push_cells(targets, outcome),
-            (ColumnKind::Refusal, Err(refusal)) => {
-                self.push(Buffer::new().format(refusal.number()).as_bytes());
-            }
+            (ColumnKind::Refusal, Err(refusal)) => self.push_refusal(refusal),
             (ColumnKind::DayNumber | ColumnKind::Weekday, Err(_)) | (ColumnKind::Refusal, Ok(_)) =>
                 self.push(b""),
             _ => unreachable!(),

@@ -11,8 +11,9 @@ ghost use Rattle.register_records.specs.TableColumns.{tail_texts};
 
 use crate::ends::Note;
 use crate::entries::{Body, Entry};
+use crate::lines::LineBuffer;
 use crate::reading::{EntryFault, EntryReader};
-use crate::row_tails::RowTail;
+use crate::row_tails::{RowTail, behind_field};
 use crate::setups::Setup;
 use crate::short_lists::ShortList;
 use crate::target_lists::TargetList;
@@ -125,11 +126,16 @@ fn reconvert(
 }
 
 impl Row {
-    ghost use Rattle.std.specs.Prelude.{◌↔◌, ◌∷◌, [], true, Ok, MatchOption};
+    ghost use Rattle.std.specs.Prelude.{◌+◌, ◌↔◌, ◌∷◌, [], drop, true, Ok, MatchOption};
+    ghost use Rattle.register_records.specs.LineRoom.{GainsFields};
+    ghost use Rattle.register_records.specs.LineViews.{GrowsBy, line_bytes, line_capacity};
     ghost use Rattle.register_records.specs.NextEntries.{ReadsNext};
     ghost use Rattle.register_records.specs.SetupRules.{is_delimiter};
     ghost use Rattle.register_records.specs.Tables.{refusal_notes};
-    ghost use Rattle.register_records.specs.Views.{row_seen, row_targets, tail_fields, targets_of};
+    ghost use Rattle.register_records.specs.Views.{row_delimiter, row_seen, row_targets, tail_fields, tail_shown};
+    ghost use Rattle.register_records.specs.Views.{targets_of};
+    ghost use Rattle.register_records.specs.declared.row_tails.TheConstants.{TAIL_ROOM};
+    ghost use Rattle.register_records.specs.declared.table_columns.TheConstants.{CELLS_PLACE};
 
     /// A row before any entry was converted: that of an entry without texts, for no target.
     pub fn blank() -> Row
@@ -258,6 +264,30 @@ impl Row {
         let mut tail = RowTail::new(delimiter);
         tail.set(&self.targets, self.outcome, delimiter);
         tail
+    }
+
+    /// The byte before each field of a table that the row was made for.
+    pub fn delimiter(&self) -> u8
+        ensures { result ≡ row_delimiter self.now }
+    {
+        self.tail.delimiter()
+    }
+
+    /// Appends to a line what a table with the same delimiter shows of the row behind its entry, without the first
+    /// columns, so many: the first is the day's number, the second its weekday, and then come the cells and the refusal.
+    pub fn put_tail_from(&self, lines: &mut LineBuffer, passed: usize)
+        requires same { lines.old.delimiter ≡ row_delimiter self.now }
+        requires few { passed ≤ CELLS_PLACE }
+        requires room { lines.old.len + TAIL_ROOM ≤ line_capacity lines.old }
+        ensures value { GainsFields lines.old.delimiter (drop passed (tail_shown self.now)) (line_bytes lines.old)
+            (line_bytes lines.new) }
+        ensures grows { GrowsBy TAIL_ROOM lines.old lines.new }
+    {
+        let mut bytes = self.tail.as_slice();
+        'passed: for _ in 0..passed {
+            bytes = behind_field(bytes, self.tail.delimiter());
+        }
+        lines.written(bytes);
     }
 
     /// Whether the row was made for the setup's targets.

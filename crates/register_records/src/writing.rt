@@ -4,6 +4,7 @@ ghost use Rattle.std.specs.Prelude.{◌≡◌, ◌≢◌, ◌≤◌, ◌+◌, �
 ghost use Rattle.std.specs.Prelude.{Ok, Err, IsOk, if◌then◌else◌, is_err};
 ghost use Rattle.std.specs.Io.KnownBytes.{Appends};
 ghost use Rattle.register_records.specs.LineViews.{line_capacity};
+ghost use Rattle.register_records.specs.SetupRules.{is_delimiter};
 ghost use Rattle.register_records.specs.declared.writing.TheConstants.{ROOM};
 
 use crate::lines::LineBuffer;
@@ -63,6 +64,7 @@ pub struct RowWriter {
     has_notes: bool,
     state: WriterState,
     ghost roomy: { ROOM ≤ line_capacity lines },
+    ghost separated: { is_delimiter lines.delimiter ≡ true },
 }
 
 impl RowWriter {

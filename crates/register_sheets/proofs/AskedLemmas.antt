@@ -1,17 +1,21 @@
 -- The columns asked, one after the other.
 use Rattle.std.proofs.Common.{◌≡◌, ◌≤◌, ◌<◌, ◌∙◌, ◌++◌, ◌+◌, ℕ, List, [], ◌∷◌, Option, Some, None, add-one, ap}
 use Rattle.std.proofs.Common.{append-nil, append_assoc, arith, drop, drop-cons, get_or, length, refl, set, sym, take}
+use Rattle.std.proofs.Common.{map, suc, true, zero}
+use Rattle.std.specs.List.{flat_map, list_all}
 use Rattle.std.specs.Prelude.{option_to_list}
 use Rattle.std.proofs.lemmas.List.{take_more, take_more_set}
 use Rattle.std.proofs.lemmas.List.Concat.{flat_map-append}
+use Rattle.register_records.specs.Columns.{Column, cell_columns, kind_columns, tail_order}
 use Rattle.register_records.specs.Entries.{Fields}
 use Rattle.register_records.specs.Outcomes.{TableRow}
 use Rattle.date_texts.specs.declared.target.Target.{Target}
+use Rattle.register_sheets.specs.AskedViews.{day_columns, has_cells}
 use Rattle.register_sheets.specs.Choices.{asked_targets, target_in}
-use Rattle.register_sheets.specs.Converted.{asked_text, asked_texts, cells_taken}
+use Rattle.register_sheets.specs.Converted.{asked_fields, asked_text, asked_texts, cells_taken}
 use Rattle.register_sheets.specs.declared.choices.AskedColumn.{AskedColumn}
-use Rattle.register_sheets.specs.declared.choices.AskedColumn.TheVariants.{DayNumber}
-use Rattle.register_sheets.proofs.RowLemmas.{drop_both}
+use Rattle.register_sheets.specs.declared.choices.AskedColumn.TheVariants.{Cells, DayNumber, Weekday}
+use Rattle.register_sheets.proofs.RowLemmas.{drop_both, same_head}
 
 pub asked_step : (columns : List AskedColumn) (i : ℕ) (d : AskedColumn) (row : TableRow) (cells : List (List ℕ))
     (taken more : ℕ) (made all : Fields) → i < length columns → more ≡ cells_taken (get_or columns i d)
@@ -55,3 +59,39 @@ none_taken columns i d o ts count lt is none e =
 pub few_taken : (column : AskedColumn) → cells_taken column ≤ 1
 few_taken DayNumber = omega arith
 few_taken column = omega arith
+
+-- what a table has behind the cells
+abbrev behind_cells : List Column
+behind_cells = flat_map (kind_columns []) (drop 3 tail_order)
+
+-- where so many columns of cells are asked, they and the refusal show what a table shows behind the day
+cells_shown : (columns : List AskedColumn) (ts : List Target) (row : TableRow) (place : ℕ)
+    → list_all has_cells columns ≡ true → length columns ≡ length ts
+    → asked_texts columns row (drop place row.cells)
+    ≡ map (λ (c : Column). c.field row) (cell_columns place ts ++ behind_cells)
+cells_shown [] [] row place all same = refl
+cells_shown (Cells t ∷ columns) (u ∷ ts) row place all same =
+    ap (λ (rest : Fields). get_or (drop place row.cells) 0 [] ∷ rest)
+    (ap (asked_texts columns row) (drop_both place 1 (place + 1) row.cells refl)
+    ∙ cells_shown columns ts row (place + 1) all (omega arith))
+    ∙ ap (λ (text : List ℕ). text ∷ map (λ (c : Column). c.field row) (cell_columns (place + 1) ts ++ behind_cells))
+    (same_head place row.cells [])
+cells_shown (column ∷ columns) [] row place all same = absurd (omega arith)
+cells_shown [] (u ∷ ts) row place all same = absurd (omega arith)
+cells_shown (DayNumber ∷ columns) (u ∷ ts) row place all same = absurd (cc)
+cells_shown (Weekday ∷ columns) (u ∷ ts) row place all same = absurd (cc)
+
+pub asked_of_tail : (columns others : List AskedColumn) (passed targets : ℕ) → passed ≤ 2
+    → columns ≡ drop passed day_columns ++ others → length others ≡ targets → list_all has_cells others ≡ true
+    → (row : TableRow) (ts : List Target) → length ts ≡ targets
+    → asked_fields columns row ≡ drop passed (map (λ (c : Column). c.field row) (flat_map (kind_columns ts) tail_order))
+asked_of_tail columns others zero targets few is many all row ts same =
+    ap (λ (asked : List AskedColumn). asked_fields asked row) is
+    ∙ ap (λ (rest : Fields). asked_text DayNumber row [] ∷ asked_text Weekday row [] ∷ rest)
+    (cells_shown others ts row 0 all (many ∙ sym same))
+asked_of_tail columns others (suc zero) targets few is many all row ts same =
+    ap (λ (asked : List AskedColumn). asked_fields asked row) is
+    ∙ ap (λ (rest : Fields). asked_text Weekday row [] ∷ rest) (cells_shown others ts row 0 all (many ∙ sym same))
+asked_of_tail columns others (suc (suc zero)) targets few is many all row ts same =
+    ap (λ (asked : List AskedColumn). asked_fields asked row) is ∙ cells_shown others ts row 0 all (many ∙ sym same)
+asked_of_tail columns others (suc (suc (suc n))) targets few is many all row ts same = absurd (omega arith)

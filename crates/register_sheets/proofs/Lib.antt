@@ -19,4 +19,5 @@ pub mod HeadingLemmas
 pub mod RegisterLemmas
 pub mod StopLemmas
 pub mod FoundLemmas
+pub mod UnreadLemmas
 pub mod TreeSheetLemmas

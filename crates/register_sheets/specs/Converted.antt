@@ -15,6 +15,7 @@ use Rattle.register_sheets.specs.declared.choices.SheetChoice.{SheetChoice}
 use Rattle.register_sheets.specs.declared.sheet_ends.SheetCause.{SheetCause}
 use Rattle.register_sheets.specs.declared.sheet_ends.SheetEnd.{SheetEnd}
 use Rattle.register_sheets.specs.declared.sheet_ends.SheetEnd.TheVariants as end
+use Rattle.register_sheets.specs.declared.unread_dates.UnreadDates.{UnreadDates}
 
 -- what a table without targets shows of a row in the column of this name
 abbrev pub shown_in : List ℕ → TableRow → List ℕ
@@ -128,10 +129,10 @@ pub record IsFullSheet (choice : SheetChoice) (records : List Fields) (bytes : L
   pub more : record_limit < length (below choice records)
   pub written : bytes ≡ records_text choice.delimiter (sheet_records choice records rows)
 
-abbrev pub IfWhole : SheetEnd → (ℕ → List ℕ → Type 0) → Type 0
-IfWhole (end.Whole rows refused) P = P rows refused
+abbrev pub IfWhole : SheetEnd → (ℕ → List ℕ → UnreadDates → Type 0) → Type 0
+IfWhole (end.Whole rows refused unread) P = P rows refused unread
 IfWhole (end.Broken cause) P = ⊤
 
 abbrev pub IfBroken : SheetEnd → (SheetCause → Type 0) → Type 0
-IfBroken (end.Whole rows refused) P = ⊤
+IfBroken (end.Whole rows refused unread) P = ⊤
 IfBroken (end.Broken cause) P = P cause

@@ -1,23 +1,19 @@
 -- What a clause sees of `SheetLines`. No public contract cites this file.
-use Rattle.std.specs.Prelude.{◌≡◌, ◌==◌, ◌&&◌, ◌||◌, ◌++◌, ◌-◌, ◌^◌, ℕ, true, List, [], Some, not, min, length}
-use Rattle.csv.specs.Writing.{default_writer, fields_written, has_written, is_blank, row_body, text_written}
-use Rattle.csv.specs.Writing.{with_delimiter, with_flexible, writer_setup}
-use Rattle.csv.specs.declared.writer.WriterBuilder.{WriterBuilder}
+use Rattle.std.specs.Prelude.{◌≡◌, ◌≤◌, ◌++◌, ℕ, true, false, List, [], length}
+use Rattle.register_records.specs.LineRoom as buffer
+use Rattle.register_records.specs.LineViews.{line_bytes, line_delimiter}
 use Rattle.register_records.specs.Lines.{line_text}
+use Rattle.register_records.specs.Views.{row_delimiter}
+use Rattle.register_records.specs.declared.rows.Row.{Row}
 use Rattle.register_sheets.specs.declared.lines.SheetLines.{SheetLines}
-
--- as csv writes by its defaults, with this delimiter and with records of any length
-abbrev pub writing : ℕ → WriterBuilder
-writing delimiter = with_flexible (with_delimiter default_writer delimiter) true
 
 -- the bytes so far are those that stood before, and then these fields with the delimiter between two of them
 pub record Begins (delimiter : ℕ) (before : List ℕ) (fields : List (List ℕ)) (lines : SheetLines) : Type 0 where
-  pub setup : writer_setup lines.writer ≡ writing delimiter
-  pub bytes : text_written (λ v. Some v.items) lines.writer ≡ Some (before ++ row_body (writing delimiter) fields)
-  -- csv's writer counts no further than this
-  pub counted : fields_written lines.writer ≡ min (length fields) (2 ^ 64 - 1)
-  pub blank : is_blank (writing delimiter) fields
-      ≡ (not (has_written lines.writer) && ((length fields == 0) || (length fields == 1)))
+  pub separated : line_delimiter lines.buffer ≡ delimiter
+  pub bytes : buffer.Begins delimiter before fields (line_bytes lines.buffer)
+  pub begun : lines.begun ≡ length before
+  pub some : lines.has_field ≡ true → 1 ≤ length fields
+  pub none : lines.has_field ≡ false → fields ≡ []
 
 -- the line that is begun gained these fields
 abbrev pub GainsFields : List (List ℕ) → SheetLines → SheetLines → Type 0
@@ -30,3 +26,8 @@ abbrev pub EndsLine : SheetLines → SheetLines → Type 0
 EndsLine old new =
     (delimiter : ℕ) (before : List ℕ) (fields : List (List ℕ)) → Begins delimiter before fields old
     → Begins delimiter (before ++ line_text delimiter fields) [] new
+
+-- a line is begun, and a row was made for a table with its delimiter
+pub record TakesTail (lines : SheetLines) (row : Row) : Type 0 where
+  pub begun : lines.has_field ≡ true
+  pub same : line_delimiter lines.buffer ≡ row_delimiter row

@@ -1,9 +1,12 @@
 -- What a clause sees of `SheetRows`. No public contract cites this file.
-use Rattle.std.specs.Prelude.{◌≡◌, ◌+◌, ℕ, List, get_or, map, option_to_list, slice_get, count_by, take}
+use Rattle.std.specs.Prelude.{◌≡◌, ◌+◌, ◌<◌, ◌^◌, ℕ, List, get_or, length, map, option_to_list, slice_get, count_by, take}
 use Rattle.register_records.specs.Outcomes.{TableRow}
 use Rattle.register_records.specs.Views.{row_seen}
 use Rattle.register_sheets.specs.Converted.{is_refused}
+use Rattle.register_sheets.specs.UnknownNames.{SheetDate, is_short, stops_in}
+use Rattle.register_sheets.specs.declared.choices.SheetChoice.{SheetChoice}
 use Rattle.register_sheets.specs.declared.sheet_rows.SheetRows.{SheetRows}
+use Rattle.register_sheets.specs.declared.unread_dates.UnreadDates.{UnreadDates}
 
 -- the rows, as a table has them
 abbrev pub rows_seen : SheetRows → List TableRow
@@ -13,3 +16,18 @@ rows_seen rows = map row_seen (take rows.count rows.rows)
 abbrev pub CountsRefused : List TableRow → List ℕ → List ℕ → Type 0
 CountsRefused rows old new =
     (place : ℕ) → get_or new place 0 ≡ get_or old place 0 + count_by is_refused (option_to_list (slice_get rows place))
+
+-- these dates are counted
+pub record CountsMore (choice : SheetChoice) (dates : List SheetDate) (old new : UnreadDates) : Type 0 where
+  pub stopped : new.stopped ≡ old.stopped + length (stops_in choice dates)
+  pub short : new.short ≡ old.short + count_by (is_short choice) dates
+
+-- so many dates more can be counted
+pub record HasPlace (count : ℕ) (unread : UnreadDates) : Type 0 where
+  pub stopped : unread.stopped + count < 2 ^ 64
+  pub short : unread.short + count < 2 ^ 64
+
+-- no date is counted yet
+pub record NoneUnread (unread : UnreadDates) : Type 0 where
+  pub stopped : unread.stopped ≡ 0
+  pub short : unread.short ≡ 0

@@ -104,6 +104,15 @@ is_emptied field date = nat_lt 0 (length field) && (length date == 0)
 abbrev pub is_short : SheetChoice → SheetDate → Bool
 is_short choice date = is_emptied (get_or date.1 date.0.date []) (date_text choice date.0 date.1)
 
+-- of these dates so many were stopped by a name that is not known, and so many are left empty for their short year
+pub record AreUnread (choice : SheetChoice) (dates : List SheetDate) (stopped short : ℕ) : Type 0 where
+  pub stopped_are : stopped ≡ length (stops_in choice dates)
+  pub short_are : short ≡ count_by (is_short choice) dates
+
+-- those are the dates below the names of a sheet
+abbrev pub AreUnreadIn : SheetChoice → List Fields → ℕ → ℕ → Type 0
+AreUnreadIn choice records stopped short = AreUnread choice (all_dates choice (below choice records)) stopped short
+
 -- this is no text, or no date of the calendar
 abbrev pub IsNoDate : Calendar → List ℕ → Type 0
 IsNoDate calendar text = IsUtf8 text → (date : Date) → ¬ (IsDateText calendar text date)

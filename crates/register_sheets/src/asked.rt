@@ -1,9 +1,14 @@
 //! The columns asked of a row.
 
-ghost use Rattle.std.specs.Prelude.{◌≡◌, ◌≤◌, ◌∷◌, [], IfOk, OnOk, codes, drop, get_or, length, map};
+ghost use Rattle.std.specs.Prelude.{◌≡◌, ◌≤◌, ◌++◌, ◌∷◌, [], List, IfOk, IfSome, OnOk, codes, drop, get_or, length, map};
+ghost use Rattle.std.specs.List.{flat_map, list_all};
+ghost use Rattle.date_texts.specs.declared.target.Target.{Target};
+ghost use Rattle.register_records.specs.Columns.{Column, kind_columns, tail_order};
+ghost use Rattle.register_records.specs.Outcomes.{TableRow};
 ghost use Rattle.register_records.specs.Views.{row_seen};
 ghost use Rattle.register_sheets.specs.Converted.{asked_fields, asked_text, cells_taken, shown_in};
 ghost use Rattle.register_sheets.specs.Choices.{column_limit};
+ghost use Rattle.register_sheets.specs.AskedViews.{day_columns, has_cells};
 ghost use Rattle.register_sheets.specs.LineViews.{GainsFields};
 
 use crate::choices::AskedColumn;
@@ -83,12 +88,8 @@ fn push_column(
     }
 }
 
-/// Appends what stands in the columns asked of a row, and behind them the refusal.
-pub(crate) fn push_asked(
-    lines: &mut SheetLines,
-    columns: &[AskedColumn],
-    row: &Row,
-) -> Result<(), AllocError>
+/// Appends what stands in the columns asked of a row, and behind them the refusal, one by one.
+fn push_each(lines: &mut SheetLines, columns: &[AskedColumn], row: &Row) -> Result<(), AllocError>
     requires { length columns.now ≤ column_limit }
     ensures { OnOk result (GainsFields (asked_fields columns.now (row_seen row.now)) lines.old lines.new) }
 {
@@ -98,4 +99,67 @@ pub(crate) fn push_asked(
         taken += push_column(lines, *column, row, cells.as_slice(), taken)?;
     }
     push_refusal(lines, row)
+}
+
+/// Whether a column has cells.
+fn has_cells(column: &AskedColumn) -> bool
+    ensures { result ≡ has_cells column.now }
+{
+    matches!(column, AskedColumn::Cells(_))
+}
+
+/// Whether each column has cells.
+fn all_have_cells(columns: &[AskedColumn]) -> bool
+    ensures { result ≡ list_all has_cells columns.now }
+{
+    columns.iter().all(|column| has_cells(column))
+}
+
+/// How many of the first two columns that a table has behind an entry, the day's number and its weekday, are not asked,
+/// where the others are the first that are asked; and the columns asked behind these.
+fn behind_days(columns: &[AskedColumn]) -> (usize, &[AskedColumn])
+    ensures few { result.0 ≤ 2 }
+    ensures value { columns.now ≡ drop result.0 day_columns ++ result.1.now }
+{
+    match columns {
+        [AskedColumn::DayNumber, AskedColumn::Weekday, others @ ..] => (0, others),
+        [AskedColumn::Weekday, others @ ..] => (1, others),
+        _ => (2, columns),
+    }
+}
+
+/// How many of the first columns that a table for so many targets has behind an entry are not asked, where all others
+/// are, in order.
+#[tactic(auto, using(crate::proofs::AskedLemmas::asked_of_tail))]
+fn passed_columns(columns: &[AskedColumn], targets: usize) -> Option<usize>
+    ensures few { IfSome result (λ passed. passed ≤ 2) }
+    ensures value { IfSome result (λ passed. (row : TableRow) (ts : List Target) → length ts ≡ targets
+        → asked_fields columns.now row
+        ≡ drop passed (map (λ (c : Column). c.field row) (flat_map (kind_columns ts) tail_order))) }
+{
+    let (passed, others) = behind_days(columns);
+    if others.len() == targets && all_have_cells(others) {
+        Some(passed)
+    } else {
+        None
+    }
+}
+
+/// Appends what stands in the columns asked of a row, and behind them the refusal. Where a table has these columns side
+/// by side, they are copied as the row has them.
+pub(crate) fn push_asked(
+    lines: &mut SheetLines,
+    columns: &[AskedColumn],
+    row: &Row,
+) -> Result<(), AllocError>
+    requires { length columns.now ≤ column_limit }
+    ensures { OnOk result (GainsFields (asked_fields columns.now (row_seen row.now)) lines.old lines.new) }
+{
+    if !lines.takes_tail(row) {
+        return push_each(lines, columns, row);
+    }
+    match passed_columns(columns, row.targets().len()) {
+        Some(passed) => lines.push_tail(row, passed),
+        None => push_each(lines, columns, row),
+    }
 }

@@ -12,9 +12,10 @@ ghost use Rattle.register_sheets.specs.Converted.{IsWholeSheet, body_record, bod
 ghost use Rattle.register_sheets.specs.Converted.{sheet_width};
 ghost use Rattle.register_sheets.specs.LineViews.{GainsFields};
 ghost use Rattle.register_sheets.specs.Reading.{IsReading, left_of};
-ghost use Rattle.register_sheets.specs.RowViews.{CountsRefused, rows_seen};
+ghost use Rattle.register_sheets.specs.RowViews.{CountsMore, CountsRefused, HasPlace, NoneUnread, rows_seen};
 ghost use Rattle.register_sheets.specs.Sending.{CountsAll, Ends, HasBody, HasFront, HasMade};
 ghost use Rattle.register_sheets.specs.Sheets.{filled, widest};
+ghost use Rattle.register_sheets.specs.UnknownNames.{AreUnread, AreUnreadIn, all_dates, dates_of};
 
 use crate::choices::SheetSetup;
 use crate::lines::SheetLines;
@@ -146,10 +147,13 @@ fn write_record<W: Output>(
     requires limited { number ≤ record_limit }
     requires count { length (rows_seen rows.old) ≡ length setup.now.choice.dates.now }
     requires room { (place : ℕ) → get_or rows.old.refused place 0 < record_limit }
+    requires few { HasPlace (length setup.now.choice.dates.now) rows.old.unread }
     ensures rows { OnOk result
         (AreRowsOfRecord setup.now.choice number (fields_of record.now) (rows_seen rows.new)) }
     ensures count { length (rows_seen rows.new) ≡ length (rows_seen rows.old) }
     ensures counted { OnOk result (CountsRefused (rows_seen rows.new) rows.old.refused rows.new.refused) }
+    ensures unread { OnOk result
+        (CountsMore setup.now.choice (dates_of setup.now.choice (fields_of record.now)) rows.old.unread rows.new.unread) }
     ensures grows { OnOk result ((place : ℕ) → get_or rows.new.refused place 0 ≤ get_or rows.old.refused place 0 + 1) }
     ensures kept { sender.new.delimiter ≡ sender.old.delimiter }
     ensures made { OnOk result ((begun : Option (List ℕ)) (made : List Fields)
@@ -181,6 +185,7 @@ fn write_body<W: Output>(
     requires reading { IsReading records.old }
     requires count { length (rows_seen rows.old) ≡ length setup.now.choice.dates.now }
     requires none { (place : ℕ) → get_or rows.old.refused place 0 ≡ 0 }
+    requires all_read { NoneUnread rows.old.unread }
     ensures kept { sender.new.delimiter ≡ sender.old.delimiter }
     ensures body { IfOk result (λ r. (made : List (List TableRow))
         × HasBody setup.now.choice (left_of records.old) made
@@ -191,6 +196,8 @@ fn write_body<W: Output>(
         → HasMade sender.old.delimiter begun (W.contents output.old) sender.old.lines head []
         → HasMade sender.old.delimiter begun (W.contents output.new) sender.new.lines
         (head ++ body_records width setup.now.choice.columns.now (left_of records.old) made) [])) }
+    ensures unread { IfOk result (λ r. r.1 ≡ false → AreUnread setup.now.choice
+        (all_dates setup.now.choice (left_of records.old)) rows.new.unread.stopped rows.new.unread.short) }
     ensures part { IfErr result (λ c. c ≡ SheetCause.NoMemory → (made : List (List TableRow))
         × HasBody setup.now.choice (left_of records.old) made
         × ((begun : Option (List ℕ)) (head : List Fields)
@@ -214,7 +221,7 @@ fn write_body<W: Output>(
 }
 
 /// Converts a sheet, and returns how many records stand below the names, and the last rows, which know how many were
-/// refused.
+/// refused, and how many dates were not read.
 fn convert<W: Output>(
     alloc: Global,
     sheet: &[u8],
@@ -223,6 +230,8 @@ fn convert<W: Output>(
 ) -> Result<(u32, SheetRows), SheetCause>
     ensures whole { IfOk result (λ r. Gains (W.contents output.old) (W.contents output.new)
         (IsWholeSheet setup.now.choice (text_records setup.now.choice.delimiter sheet.now) r.0 r.1.refused)) }
+    ensures unread { IfOk result (λ r. AreUnreadIn setup.now.choice
+        (text_records setup.now.choice.delimiter sheet.now) r.1.unread.stopped r.1.unread.short) }
     ensures flushed { OnOk result (W.is_flushed output.new ≡ true) }
     ensures part { IfErr result (λ c. c ≡ SheetCause.NoMemory → Gains (W.contents output.old) (W.contents output.new)
         (ArePartOfSheet setup.now.choice (text_records setup.now.choice.delimiter sheet.now))) }
@@ -284,9 +293,12 @@ pub fn convert_sheet<W: Output>(
     output: &mut W,
 ) -> SheetEnd
     // The output has gained the sheet with the columns asked, and nothing else.
-    ensures whole { IfWhole result (λ rows refused. Gains (W.contents output.old) (W.contents output.new)
+    ensures whole { IfWhole result (λ rows refused unread. Gains (W.contents output.old) (W.contents output.new)
         (IsWholeSheet setup.now.choice (text_records setup.now.choice.delimiter sheet.now) rows refused)) }
-    ensures flushed { IfWhole result (λ rows refused. W.is_flushed output.new ≡ true) }
+    // So many of its dates were stopped by a name that is not known, and left empty for their short year.
+    ensures unread { IfWhole result (λ rows refused unread. AreUnreadIn setup.now.choice
+        (text_records setup.now.choice.delimiter sheet.now) unread.stopped unread.short) }
+    ensures flushed { IfWhole result (λ rows refused unread. W.is_flushed output.new ≡ true) }
 
     // Where memory ran out, it has gained the first records of that sheet, or nothing.
     ensures part { IfBroken result (λ c. c ≡ SheetCause.NoMemory → Gains (W.contents output.old) (W.contents output.new)
@@ -300,7 +312,7 @@ pub fn convert_sheet<W: Output>(
         (IsFullSheet setup.now.choice (text_records setup.now.choice.delimiter sheet.now))) }
 
     // The output has failed exactly where it had failed before or is the cause.
-    ensures good { IfWhole result (λ rows refused. W.has_failed output.new ≡ W.has_failed output.old) }
+    ensures good { IfWhole result (λ rows refused unread. W.has_failed output.new ≡ W.has_failed output.old) }
     ensures kept { IfBroken result (λ c. (c ≢ SheetCause.SinkFault) → W.has_failed output.new ≡ W.has_failed output.old) }
     ensures sink { IfBroken result (λ c. c ≡ SheetCause.SinkFault → W.has_failed output.new ≡ true) }
     ensures mark { W.own_mark output.new ≡ W.own_mark output.old }
@@ -308,9 +320,11 @@ pub fn convert_sheet<W: Output>(
     match convert(alloc, sheet, setup, output) {
         Ok((number, rows)) => {
             let refused = rows.refused();
+            let unread = rows.unread();
             SheetEnd::Whole {
                 rows: number,
                 refused,
+                unread,
             }
         }
         Err(cause) => SheetEnd::Broken { cause },

@@ -1,5 +1,5 @@
-//! Sheets: the fields of their records, and texts of records. All CSV is read and written by `csv`; what a caller gives
-//! and gets are values.
+//! Sheets: the fields of their records, and texts of records. All CSV is read by `csv`, and written in a buffer as `csv`
+//! would write it; what a caller gives and gets are values.
 //!
 //! [`convert_sheet`] writes a sheet with the columns of its dates' rows behind it, [`write_register`] the register of a
 //! column of dates, and [`unknown_names`] finds the names that are not known.
@@ -28,6 +28,7 @@ mod stopped_dates;
 mod stopped_names;
 mod stops;
 mod tree_sheets;
+mod unread_dates;
 mod writing;
 
 pub use asked_of_sheets::{AskedByNames, AskedOfSheet};
@@ -46,4 +47,5 @@ pub use sheet_ends::{SheetCause, SheetEnd};
 pub use stopped_dates::{Unknown, unknown_names};
 pub use stopped_names::UnknownName;
 pub use tree_sheets::tree_sheet;
+pub use unread_dates::UnreadDates;
 pub use writing::{WriteFault, write};

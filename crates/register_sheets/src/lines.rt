@@ -1,15 +1,31 @@
-//! Lines of fields, as csv's writer writes them.
+//! Lines of fields, as csv's writer would write them.
 
-ghost use Rattle.std.specs.Prelude.{◌≡◌, ◌∷◌, [], ℕ, List, IfOk, OnOk, replicate};
-ghost use Rattle.register_sheets.specs.LineViews.{Begins, EndsLine, GainsFields};
+ghost use Rattle.std.specs.Prelude.{◌≡◌, ◌≤◌, ◌+◌, ◌∷◌, [], ℕ, List, IfSome, OnOk, drop, replicate, true};
+ghost use Rattle.register_records.specs.LineRoom.{field_room};
+ghost use Rattle.register_records.specs.Views.{tail_shown};
+ghost use Rattle.register_sheets.specs.LineViews.{Begins, EndsLine, GainsFields, TakesTail};
 
-use csv::{Writer, WriterBuilder};
+use register_records::{LineBuffer, Row, TAIL_ROOM};
 use std::alloc::{AllocError, Global};
 
-/// Lines, and the fields so far of one more behind them.
+/// Room in bytes for the end of a line: two quotes, where it shows no byte, and a line feed.
+const END_ROOM: usize = 3;
+
+/// Lines, and the fields so far of one more behind them, in memory that serves again.
 #[derive(Drop)]
 pub(crate) struct SheetLines {
-    writer: Writer<Vec<u8>>,
+    buffer: LineBuffer,
+    // Where the line that is begun begins.
+    begun: usize,
+    // Whether it has a field.
+    has_field: bool,
+}
+
+/// Room in bytes for a field of so many behind a delimiter, even where each is a quote.
+fn room_for(len: usize) -> Option<usize>
+    ensures { IfSome result (λ room. room ≡ 1 + field_room len) }
+{
+    len.checked_mul(2)?.checked_add(3)
 }
 
 impl SheetLines {
@@ -17,33 +33,33 @@ impl SheetLines {
     pub fn new(alloc: Global, delimiter: u8) -> SheetLines
         ensures { Begins delimiter [] [] result }
     {
-        SheetLines::over(Vec::new(alloc), delimiter)
+        SheetLines {
+            buffer: LineBuffer::empty(alloc, delimiter),
+            begun: 0,
+            has_field: false,
+        }
     }
 
-    /// The same in memory that serves again.
-    pub fn over(text: Vec<u8>, delimiter: u8) -> SheetLines
-        ensures { text.items ≡ [] → Begins delimiter [] [] result }
-    {
-        let writer = WriterBuilder::new()
-            .delimiter(delimiter)
-            .flexible(true)
-            .from_writer(text);
-        SheetLines { writer }
-    }
-
-    /// How many bytes have left the writer's own buffer.
+    /// How many bytes the lines have, with those of the line that is begun.
     pub fn written(&self) -> usize {
-        self.writer.get_ref().len()
+        self.buffer.len()
     }
 
     /// Appends one more field, quoted where it must be.
     pub fn push(&mut self, field: &[u8]) -> Result<(), AllocError>
         ensures { OnOk result (GainsFields (field.now ∷ []) self.old self.new) }
     {
-        match self.writer.write_field(field) {
-            Ok(()) => Ok(()),
-            Err(_) => Err(AllocError),
+        let Some(room) = room_for(field.len()) else {
+            return Err(AllocError);
+        };
+        self.buffer.reserve(room)?;
+        if self.has_field {
+            self.buffer.field(field);
+            return Ok(());
         }
+        self.buffer.begin_quotable(field);
+        self.has_field = true;
+        Ok(())
     }
 
     /// Appends empty fields, so many.
@@ -57,24 +73,56 @@ impl SheetLines {
         Ok(())
     }
 
+    /// Whether a line is begun, and the row was made for a table with its delimiter.
+    pub fn takes_tail(&self, row: &Row) -> bool
+        ensures { result ≡ true → TakesTail self.now row.now }
+    {
+        self.has_field && self.buffer.delimiter() == row.delimiter()
+    }
+
+    /// Appends what a table shows of a row behind its entry, without the first columns, so many, as it was written there.
+    pub fn push_tail(&mut self, row: &Row, passed: usize) -> Result<(), AllocError>
+        requires takes { TakesTail self.old row.now }
+        requires few { passed ≤ 2 }
+        ensures { OnOk result (GainsFields (drop passed (tail_shown row.now)) self.old self.new) }
+    {
+        self.buffer.reserve(TAIL_ROOM)?;
+        row.put_tail_from(&mut self.buffer, passed);
+        Ok(())
+    }
+
     /// Ends the line.
     pub fn end(&mut self) -> Result<(), AllocError>
         ensures { OnOk result (EndsLine self.old self.new) }
     {
-        match self.writer.end_record() {
-            Ok(()) => Ok(()),
-            Err(_) => Err(AllocError),
-        }
+        self.buffer.reserve(END_ROOM)?;
+        self.buffer.end_from(self.begun);
+        self.begun = self.buffer.len();
+        self.has_field = false;
+        Ok(())
     }
 
-    /// The text of the lines.
-    pub fn into_text(self) -> Result<Vec<u8>, AllocError>
-        ensures { (delimiter : ℕ) (before : List ℕ) → Begins delimiter before [] self
-            → IfOk result (λ text. text.items ≡ before) }
+    /// The text of the lines, where none is begun.
+    pub fn as_slice(&self) -> &[u8]
+        ensures { (delimiter : ℕ) (before : List ℕ) → Begins delimiter before [] self.now → result.now ≡ before }
     {
-        match self.writer.into_inner() {
-            Ok(text) => Ok(text),
-            Err(_) => Err(AllocError),
-        }
+        self.buffer.as_slice()
+    }
+
+    /// Lets the lines go, and keeps their memory.
+    pub fn clear(&mut self)
+        ensures { (delimiter : ℕ) (before : List ℕ) (fields : List (List ℕ)) → Begins delimiter before fields self.old
+            → Begins delimiter [] [] self.new }
+    {
+        self.buffer.clear();
+        self.begun = 0;
+        self.has_field = false;
+    }
+
+    /// The text of the lines, where none is begun.
+    pub fn into_text(self) -> Vec<u8>
+        ensures { (delimiter : ℕ) (before : List ℕ) → Begins delimiter before [] self → result.items ≡ before }
+    {
+        self.buffer.into_bytes()
     }
 }

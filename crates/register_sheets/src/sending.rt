@@ -8,7 +8,6 @@ use crate::lines::SheetLines;
 use crate::sheet_ends::SheetCause;
 use register_records::{Output, send};
 use std::alloc::Global;
-use std::mem;
 
 /// How many bytes of lines are gathered before they are sent, or a few more.
 const BLOCK: usize = 64 * 1024;
@@ -16,7 +15,7 @@ const BLOCK: usize = 64 * 1024;
 /// Lines that are sent in blocks.
 #[derive(Drop)]
 pub(crate) struct SheetSender {
-    alloc: Global,
+    // The byte between two fields, which clauses name.
     delimiter: u8,
     pub(crate) lines: SheetLines,
 }
@@ -28,7 +27,6 @@ impl SheetSender {
         ensures none { (begun : Option (List ℕ)) → HasMade delimiter begun begun result.lines [] [] }
     {
         SheetSender {
-            alloc,
             delimiter,
             lines: SheetLines::new(alloc, delimiter),
         }
@@ -45,12 +43,8 @@ impl SheetSender {
         ensures output { Ends result (W.has_failed output.old) (W.has_failed output.new) (W.own_mark output.old)
             (W.own_mark output.new) }
     {
-        let none = SheetLines::new(self.alloc, self.delimiter);
-        let lines = mem::replace(&mut self.lines, none);
-        let mut text = lines.into_text()?;
-        send(output, text.as_slice())?;
-        text.clear();
-        self.lines = SheetLines::over(text, self.delimiter);
+        send(output, self.lines.as_slice())?;
+        self.lines.clear();
         Ok(())
     }
 

@@ -1,6 +1,7 @@
 //! How a sheet ends.
 
 use crate::choices::MAX_DATES;
+use crate::unread_dates::UnreadDates;
 use register_records::OutputFault;
 use std::alloc::AllocError;
 use thiserror::Error;
@@ -26,10 +27,12 @@ pub enum SheetCause {
 #[derive(Clone, Copy, PartialEq, Eq, Debug)]
 pub enum SheetEnd {
     /// The output has gained the sheet with the columns asked. So many records stand below the names, and so many of
-    /// them were refused for each column of dates, in the order of these; behind them stands 0.
+    /// them were refused for each column of dates, in the order of these; behind them stands 0. Of all dates so many
+    /// were not read.
     Whole {
         rows: u32,
         refused: [u32; MAX_DATES],
+        unread: UnreadDates,
     },
     /// It stopped at a fault.
     Broken {

@@ -7,11 +7,13 @@ use crate::asked::push_asked;
 use crate::choices::{AskedColumn, MAX_DATES, SheetSetup};
 use crate::lines::SheetLines;
 use crate::register_rows::{refusals, renew_row};
+use crate::unread_dates::UnreadDates;
 use csv::ByteRecord;
 use register_records::Row;
 use std::alloc::{AllocError, Global};
 
-/// The rows of a record, in memory that serves again, and how many rows of each column of dates were refused so far.
+/// The rows of a record, in memory that serves again, how many rows of each column of dates were refused so far, and how
+/// many dates were not read.
 #[derive(Drop)]
 pub(crate) struct SheetRows {
     rows: [Row; MAX_DATES],
@@ -19,6 +21,7 @@ pub(crate) struct SheetRows {
     // The date of a record as its register has it.
     date: Vec<u8>,
     refused: [u32; MAX_DATES],
+    unread: UnreadDates,
     ghost few: { count ≤ MAX_DATES },
 }
 
@@ -30,13 +33,15 @@ impl SheetRows {
     ghost use Rattle.register_sheets.specs.Choices.{column_limit};
     ghost use Rattle.register_sheets.specs.Converted.{AreRowsOfRecord, asked_fields};
     ghost use Rattle.register_sheets.specs.LineViews.{GainsFields};
-    ghost use Rattle.register_sheets.specs.RowViews.{CountsRefused, rows_seen};
+    ghost use Rattle.register_sheets.specs.RowViews.{CountsMore, CountsRefused, HasPlace, NoneUnread, rows_seen};
+    ghost use Rattle.register_sheets.specs.UnknownNames.{dates_of};
 
     /// The rows of no record yet, so many.
     pub fn new(alloc: Global, count: usize) -> SheetRows
         requires { count ≤ MAX_DATES }
         ensures count { length (rows_seen result) ≡ count }
         ensures none { (place : ℕ) → get_or result.refused place 0 ≡ 0 }
+        ensures all_read { NoneUnread result.unread }
     {
         let rows = [Row::blank(); MAX_DATES];
         let refused = [0; MAX_DATES];
@@ -45,10 +50,14 @@ impl SheetRows {
             count,
             date: Vec::new(alloc),
             refused,
+            unread: UnreadDates {
+                stopped: 0,
+                short: 0,
+            },
         }
     }
 
-    /// Makes these the rows of a record with this number.
+    /// Makes these the rows of a record with this number, and counts its dates.
     pub fn renew(
         &mut self,
         setup: &SheetSetup,
@@ -58,7 +67,10 @@ impl SheetRows {
         requires from_one { 1 ≤ number }
         requires limited { number ≤ record_limit }
         requires count { length (rows_seen self.old) ≡ length setup.now.choice.dates.now }
+        requires room { HasPlace (length setup.now.choice.dates.now) self.old.unread }
         ensures rows { OnOk result (AreRowsOfRecord setup.now.choice number (fields_of record.now) (rows_seen self.new)) }
+        ensures unread { OnOk result
+            (CountsMore setup.now.choice (dates_of setup.now.choice (fields_of record.now)) self.old.unread self.new.unread) }
         ensures kept { self.new.refused ≡ self.old.refused }
         ensures count { length (rows_seen self.new) ≡ length (rows_seen self.old) }
     {
@@ -67,6 +79,7 @@ impl SheetRows {
             renew_row(
                 &mut self.rows[place],
                 &mut self.date,
+                &mut self.unread,
                 setup,
                 &dates[place],
                 number,
@@ -80,6 +93,7 @@ impl SheetRows {
     pub fn count(&mut self)
         requires room { (place : ℕ) → get_or self.old.refused place 0 < record_limit }
         ensures rows { rows_seen self.new ≡ rows_seen self.old }
+        ensures unread { self.new.unread ≡ self.old.unread }
         ensures counted { CountsRefused (rows_seen self.old) self.old.refused self.new.refused }
     {
         'rows: for place in 0..self.count {
@@ -104,5 +118,12 @@ impl SheetRows {
         ensures { result ≡ self.now.refused }
     {
         self.refused
+    }
+
+    /// How many dates were not read so far.
+    pub fn unread(&self) -> UnreadDates
+        ensures { result ≡ self.now.unread }
+    {
+        self.unread
     }
 }

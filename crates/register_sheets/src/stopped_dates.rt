@@ -19,6 +19,7 @@ use crate::register_fields::{calendar_of, put_date};
 use crate::sheet_ends::SheetCause;
 use crate::stopped_names::{StoppedNames, UnknownName};
 use crate::stops::stop_of;
+use crate::unread_dates::is_emptied;
 use csv::{ByteRecord, Reader};
 use date_texts::{Calendar, read_date};
 use itoa::Buffer;
@@ -61,13 +62,6 @@ fn is_no_date(calendar: Calendar, text: &[u8]) -> bool
         Ok(text) => read_date(calendar, text).is_err(),
         Err(_) => true,
     }
-}
-
-/// Whether nothing is written for a field that is not empty.
-fn is_emptied(field: &[u8], date: &[u8]) -> bool
-    ensures { result ≡ is_emptied field.now date.now }
-{
-    !field.is_empty() && date.is_empty()
 }
 
 /// Whether a field that is not empty stays as it is.
@@ -221,7 +215,7 @@ impl Unknown {
             push_name(&mut lines, name)?;
             lines.end()?;
         }
-        lines.into_text()
+        Ok(lines.into_text())
     }
 }
 

@@ -73,5 +73,5 @@ pub fn tree_sheet(alloc: Global, tree: &[u8]) -> Result<Vec<u8>, AllocError>
         push_date(&mut lines, date)?;
         lines.end()?;
     }
-    lines.into_text()
+    Ok(lines.into_text())
 }

@@ -77,5 +77,5 @@ pub fn write(
         fields.push_next(width, &mut lines)?;
         lines.end()?;
     }
-    Ok(lines.into_text()?)
+    Ok(lines.into_text())
 }

@@ -8,7 +8,7 @@ use date_texts::{Calendar, Target};
 use register_records::PlainOutput;
 use register_sheets::{
     AskedColumn, CalendarField, DateColumn, IdField, SheetCause, SheetChoice, SheetEnd, SheetSetup,
-    Unknown, convert_sheet, unknown_names,
+    Unknown, UnreadDates, convert_sheet, unknown_names,
 };
 use std::alloc::Global;
 use std::test::Fail;
@@ -117,8 +117,13 @@ fn no_record_with_names(rt: HostRuntime) -> Result<(), Fail> {
     Ok(())
 }
 
-/// What is not known in a sheet by these names.
-fn unknown_by(alloc: Global, sheet: &[u8], known: &Known<'static>) -> Result<Unknown, Fail> {
+/// What is not known in a sheet by these names, of which at most so many are listed.
+fn unknown_by(
+    alloc: Global,
+    sheet: &[u8],
+    known: &Known<'static>,
+    most: usize,
+) -> Result<Unknown, Fail> {
     let setup = SheetSetup::new(SheetChoice {
         delimiter: b';',
         above: 0,
@@ -130,8 +135,13 @@ fn unknown_by(alloc: Global, sheet: &[u8], known: &Known<'static>) -> Result<Unk
         names: &known.names,
         calendars: &known.calendars,
     })?;
-    Ok(unknown_names(alloc, sheet, &setup, 3)?)
+    Ok(unknown_names(alloc, sheet, &setup, most)?)
 }
+
+/// Five dates with names that are not known, and one with a short year.
+const UNKNOWN: &[u8] =
+    b"N;D;C\nA;12 Foo 1806;gregorian\nB;1 FOO 1807;gregorian\nC;2 Foo 1700;a. St.\nD;3 Mai 1700; odd\n\
+    E;4 Bar 1700;julian\nF;12.5.06;gregorian\n";
 
 #[test]
 fn names_that_are_not_known(rt: HostRuntime) -> Result<(), Fail> {
@@ -139,13 +149,35 @@ fn names_that_are_not_known(rt: HostRuntime) -> Result<(), Fail> {
         names: Names::layered(rt.alloc(), &NAMES)?,
         calendars: CalendarNames::layered(rt.alloc(), &CALENDARS)?,
     };
-    let sheet =
-        b"N;D;C\nA;12 Foo 1806;gregorian\nB;1 FOO 1807;gregorian\nC;2 Foo 1700;a. St.\nD;3 Mai 1700; odd\n\
-        E;4 Bar 1700;julian\nF;12.5.06;gregorian\n";
-    let unknown = unknown_by(rt.alloc(), sheet, &known)?;
+    let unknown = unknown_by(rt.alloc(), UNKNOWN, &known, 3)?;
     let text = unknown.text(rt.alloc())?;
     let wanted = b"name,means,in,count\nFoo,?,gregorian,2\nFoo,?,julian,1\nodd,?,,1\n";
     assert!(rt; text.as_slice() == wanted.as_slice());
     assert!(rt; unknown.more == 1 && unknown.short == 1 && unknown.kept == 4);
+    Ok(())
+}
+
+/// The dates that were not read of a sheet that ended whole.
+fn unread_in(end: SheetEnd) -> Option<UnreadDates> {
+    match end {
+        SheetEnd::Whole { unread, .. } => Some(unread),
+        SheetEnd::Broken { .. } => None,
+    }
+}
+
+#[test]
+fn dates_are_counted_that_are_not_read(rt: HostRuntime) -> Result<(), Fail> {
+    let known = Known {
+        names: Names::layered(rt.alloc(), &NAMES)?,
+        calendars: CalendarNames::layered(rt.alloc(), &CALENDARS)?,
+    };
+    let (_, end) = converted_by(rt.alloc(), UNKNOWN, 0, &known)?;
+    let unknown = unknown_by(rt.alloc(), UNKNOWN, &known, 0)?;
+    let wanted = UnreadDates {
+        stopped: unknown.more,
+        short: unknown.short,
+    };
+    assert!(rt; unread_in(end) == Some(wanted));
+    assert!(rt; unknown.more == 5 && unknown.short == 1);
     Ok(())
 }

@@ -4,7 +4,6 @@ use Rattle.std.specs.Prelude.{Err, IsErrAnd, Ok, Result}
 use Rattle.register_records.specs.Sources.{Gains}
 use Rattle.register_records.specs.declared.outputs.Output as outputs
 use Rattle.register_sheets.specs.AskedOfSheets.{IsChoiceBy, IsListedChoice, SheetAsked}
-use Rattle.register_sheets.specs.Converted.{IsWholeSheet}
 use Rattle.register_sheets.specs.declared.asked_of_sheets.AskedByNames.{AskedByNames}
 use Rattle.register_sheets.specs.declared.choices.SheetChoice.{SheetChoice}
 use Rattle.register_sheets.specs.declared.name_lists.NameLine.{NameLine}
@@ -12,9 +11,10 @@ use Rattle.sheet_arguments.specs.Requests.{Task}
 use Rattle.written_dates.specs.Fields.{bare_name}
 use Rattle.sheet_app.specs.SheetViews.{AsksFor, IsEndedBy, IsTask, MakesChoices}
 use Rattle.sheet_app.specs.Sheets.{IsAskedList, IsAskedOf, IsAskedSheet, IsBroken, IsChoiceFor}
-use Rattle.sheet_app.specs.Sheets.{IsListBy, names_of, records_by}
+use Rattle.sheet_app.specs.Sheets.{IsListBy, IsSheetBy, names_of}
 use Rattle.sheet_app.specs.declared.sheet_faults.SheetFault.{SheetFault}
 use Rattle.sheet_app.specs.declared.sheets.SheetDone.{SheetDone}
+use Rattle.sheet_app.specs.declared.sheets.WholeSheet.{WholeSheet}
 use Rattle.sheet_app.proofs.TaskLemmas.{is_choice}
 
 -- what is known was made of what a task asks
@@ -41,12 +41,10 @@ ended_fault o task lines most sheet given written (Ok done) fault handed broken 
 ended_fault o task lines most sheet given written (Err why) fault handed broken = rw handed broken
 
 -- what was made by a choice is what a task asks
-pub asked_sheet : (task : Task) (lines : List NameLine) (sheet : List ℕ) (choice : SheetChoice) (count n : ℕ)
-    (refused r : List ℕ) (old new : Option (List ℕ)) → IsChoiceFor task lines sheet choice → n ≡ count → r ≡ refused
-    → Gains old new (IsWholeSheet choice (records_by choice sheet) count refused)
-    → Gains old new (IsAskedSheet task lines sheet n r)
-asked_sheet task lines sheet choice count n refused r old new chosen same also (bytes, whole, gained) =
-    (bytes, rw (same, also) (record { choice = choice; chosen = chosen; whole = whole }), gained)
+pub asked_sheet : (task : Task) (lines : List NameLine) (sheet : List ℕ) (choice : SheetChoice) (known : WholeSheet)
+    (old new : Option (List ℕ)) → IsChoiceFor task lines sheet choice → Gains old new (IsSheetBy choice sheet known)
+    → Gains old new (IsAskedSheet task lines sheet known)
+asked_sheet task lines sheet choice known old new chosen (bytes, whole, gained) = (bytes, (choice, chosen, whole), gained)
 
 pub asked_list : (task : Task) (lines : List NameLine) (most : ℕ) (sheet : List ℕ) (choice : SheetChoice)
     (old new : Option (List ℕ)) → IsChoiceFor task lines sheet choice → Gains old new (IsListBy choice most sheet)

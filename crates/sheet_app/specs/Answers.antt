@@ -83,9 +83,9 @@ pub record IsInputAnswered {R W E : Type 0} (r : reads.Ghosts R) (o : outputs.Gh
   pub no_sheets : sheets ≡ []
   pub converted : IsInputConverted r o e task lines status input given written before after
 
--- the arguments ask for the sheets of files: no output goes to an input or to the file of another output, as far as names
--- were told apart; each sheet has ended, with its lines, and the status is 0 exactly where all are complete; standard output
--- is as it was
+-- the arguments ask for the sheets of files: the name of no output is that of an input or of another output, as far as
+-- names were told apart; each sheet has ended, with its lines, and the status is 0 exactly where all are complete; standard
+-- output is as it was
 pub record AreFilesAnswered {R W E : Type 0} (r : reads.Ghosts R) (o : outputs.Ghosts W) (e : outputs.Ghosts E)
     (IsOpened : Text → R → Type 0) (IsMade : Text → ℕ → W → Type 0) (AreApart : Text → Text → Type 0)
     (arguments : List Text) (built : List ℕ) (status : ℕ) (given written : W) (sheets : List (EndedSheet W))

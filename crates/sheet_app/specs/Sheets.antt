@@ -6,7 +6,7 @@ use Rattle.register_records.specs.declared.outputs.Output as outputs
 use Rattle.register_sheets.specs.AskedOfSheets.{IsChoice, IsListedChoice, SheetAsked}
 use Rattle.register_sheets.specs.Converted.{ArePartOfSheet, below, IsFullSheet, IsWholeSheet}
 use Rattle.register_sheets.specs.NameLists.{IsListOf}
-use Rattle.register_sheets.specs.UnknownNames.{IsUnknown, NameCount, list_text}
+use Rattle.register_sheets.specs.UnknownNames.{AreUnreadIn, IsUnknown, NameCount, list_text}
 use Rattle.register_sheets.specs.declared.choices.SheetChoice.{SheetChoice}
 use Rattle.register_sheets.specs.declared.name_lists.NameLine.{NameLine}
 use Rattle.sheet_arguments.specs.Requests.{Task}
@@ -15,6 +15,7 @@ use Rattle.sheet_app.specs.declared.sheet_faults.SheetFault.{SheetFault}
 use Rattle.sheet_app.specs.declared.sheet_faults.SheetFault.TheVariants as fault
 use Rattle.sheet_app.specs.declared.sheets.SheetDone.{SheetDone}
 use Rattle.sheet_app.specs.declared.sheets.SheetDone.TheVariants as done
+use Rattle.sheet_app.specs.declared.sheets.WholeSheet.{WholeSheet}
 
 -- the lines of the user's list, where there is one
 abbrev pub IsOwnList : Option (List ℕ) → List NameLine → Type 0
@@ -53,12 +54,16 @@ pub record IsChoiceFor (task : Task) (lines : List NameLine) (sheet : List ℕ) 
 abbrev pub records_by : SheetChoice → List ℕ → List Fields
 records_by choice sheet = text_records choice.delimiter sheet
 
--- these bytes are the sheet that a task asks for, with so many records and, for each column of dates, so many refused
-pub record IsAskedSheet (task : Task) (lines : List NameLine) (sheet : List ℕ) (count : ℕ) (refused bytes : List ℕ)
-    : Type 0 where
-  pub choice : SheetChoice
-  pub chosen : IsChoiceFor task lines sheet choice
-  pub whole : IsWholeSheet choice (records_by choice sheet) count refused bytes
+-- these bytes are the sheet with the columns asked by a choice, of which this is known: how many records it has, how many
+-- of them were refused for each column of dates, and how many dates were stopped by names or left empty
+pub record IsSheetBy (choice : SheetChoice) (sheet : List ℕ) (known : WholeSheet) (bytes : List ℕ) : Type 0 where
+  pub whole : IsWholeSheet choice (records_by choice sheet) known.records known.refused bytes
+  pub unread : AreUnreadIn choice (records_by choice sheet) known.stopped known.short
+
+-- these bytes are the sheet that a task asks for, of which this is known
+abbrev pub IsAskedSheet : Task → List NameLine → List ℕ → WholeSheet → List ℕ → Type 0
+IsAskedSheet task lines sheet known bytes =
+    (choice : SheetChoice) × IsChoiceFor task lines sheet choice × IsSheetBy choice sheet known bytes
 
 -- these bytes are the list of the first names in a sheet that are not known by a choice, at most so many
 pub record IsListBy (choice : SheetChoice) (most : ℕ) (sheet bytes : List ℕ) : Type 0 where
@@ -102,11 +107,11 @@ IsBroken o task lines sheet given written fault =
 -- what the output of a sheet has gained, by how it has ended; a list is of at most so many names
 abbrev pub IsEnded : {W : Type 0} → outputs.Ghosts W → Task → List NameLine → ℕ → List ℕ → W → W → SheetDone → Type 0
 IsEnded o task lines most sheet given written (done.Whole whole) =
-    Gains (o.contents given) (o.contents written) (IsAskedSheet task lines sheet whole.records whole.refused)
+    Gains (o.contents given) (o.contents written) (IsAskedSheet task lines sheet whole)
     × (o.is_flushed written ≡ true) × (task.unknown ≡ false)
 IsEnded o task lines most sheet given written (done.WholeBut fault) =
-    (count : ℕ) × (refused : List ℕ)
-    × Gains (o.contents given) (o.contents written) (IsAskedSheet task lines sheet count refused)
+    (whole : WholeSheet)
+    × Gains (o.contents given) (o.contents written) (IsAskedSheet task lines sheet whole)
     × (o.is_flushed written ≡ true) × (task.unknown ≡ false)
 IsEnded o task lines most sheet given written done.Listed =
     Gains (o.contents given) (o.contents written) (IsAskedList task lines most sheet)

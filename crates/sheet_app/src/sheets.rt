@@ -5,12 +5,11 @@ ghost use Rattle.csv.specs.Records.{fields_of};
 ghost use Rattle.register_records.specs.Entries.{text_records};
 ghost use Rattle.register_records.specs.Sources.{Gains};
 ghost use Rattle.register_sheets.specs.AskedOfSheets.{IsChoice, IsChoiceBy, asked_in};
-ghost use Rattle.register_sheets.specs.Converted.{IsWholeSheet};
 ghost use Rattle.register_sheets.specs.declared.name_lists.NameLine.{NameLine as NameLineValue};
 ghost use Rattle.sheet_arguments.specs.Requests.{task_of};
 ghost use Rattle.sheet_app.specs.SheetFaults.{IsOfColumns};
 ghost use Rattle.sheet_app.specs.SheetViews.{AsksFor, IsEndedBy, IsTask, MakesChoices};
-ghost use Rattle.sheet_app.specs.Sheets.{IsAskedOf, IsBrokenBy, IsEnded, IsListBy, names_of, records_by};
+ghost use Rattle.sheet_app.specs.Sheets.{IsAskedOf, IsBrokenBy, IsEnded, IsListBy, IsSheetBy, names_of};
 
 use crate::columns::{dates_named, id_named};
 use crate::sheet_faults::{SheetFault, fault_of_columns};
@@ -121,21 +120,29 @@ fn list_unknown<'b, W: Output>(
     Ok(())
 }
 
-/// Writes the sheet with the columns asked. Returns how many records it has, and how many were refused for each column of
-/// dates.
+/// Writes the sheet with the columns asked, and returns what is known of it.
 fn write_sheet<'b, W: Output>(
     alloc: Global,
     sheet: &[u8],
     setup: &SheetSetup,
     output: &mut W,
-) -> Result<(u32, [u32; MAX_DATES]), SheetFault<'b>>
-    ensures whole { IfOk result (λ made. Gains (W.contents output.old) (W.contents output.new)
-        (IsWholeSheet setup.now.choice (records_by setup.now.choice sheet.now) made.0 made.1)) }
+) -> Result<WholeSheet, SheetFault<'b>>
+    ensures whole { IfOk result (λ whole. Gains (W.contents output.old) (W.contents output.new)
+        (IsSheetBy setup.now.choice sheet.now whole)) }
     ensures flushed { OnOk result (W.is_flushed output.new ≡ true) }
     ensures broken { IfErr result (IsBrokenBy W.Output setup.now.choice sheet.now output.old output.new) }
 {
     match convert_sheet(alloc, sheet, setup, output) {
-        SheetEnd::Whole { rows, refused } => Ok((rows, refused)),
+        SheetEnd::Whole {
+            rows,
+            refused,
+            unread,
+        } => Ok(WholeSheet {
+            records: rows,
+            refused,
+            stopped: unread.stopped,
+            short: unread.short,
+        }),
         SheetEnd::Broken { cause } => Err(SheetFault::from(cause)),
     }
 }
@@ -157,48 +164,6 @@ fn write_registers<W: Output>(
     Ok(())
 }
 
-/// What is known of a whole sheet with so many records, of which so many were refused for each column of dates. Only
-/// refused dates are stopped by names or left empty: a sheet without such is not read again.
-fn known_of(
-    alloc: Global,
-    sheet: &[u8],
-    setup: &SheetSetup,
-    records: u32,
-    refused: [u32; MAX_DATES],
-) -> Result<WholeSheet, SheetCause>
-    ensures records { IfOk result (λ whole. whole.records ≡ records) }
-    ensures refused { IfOk result (λ whole. whole.refused ≡ refused) }
-{
-    let (stopped, short) = if refused == [0; MAX_DATES] {
-        (0, 0)
-    } else {
-        let unknown = unknown_names(alloc, sheet, setup, 0)?;
-        (unknown.more, unknown.short)
-    };
-    Ok(WholeSheet {
-        records,
-        refused,
-        stopped,
-        short,
-    })
-}
-
-/// Writes the registers of a whole sheet, and says what is known of it.
-fn complete<W: Output>(
-    alloc: Global,
-    sheet: &[u8],
-    setup: &SheetSetup,
-    registers: &mut [W],
-    records: u32,
-    refused: [u32; MAX_DATES],
-) -> Result<WholeSheet, SheetCause>
-    ensures records { IfOk result (λ whole. whole.records ≡ records) }
-    ensures refused { IfOk result (λ whole. whole.refused ≡ refused) }
-{
-    write_registers(alloc, sheet, setup, registers)?;
-    known_of(alloc, sheet, setup, records, refused)
-}
-
 /// Writes what a job asks of a sheet, by what is known.
 fn write_known<'b, W: Output>(
     alloc: Global,
@@ -217,9 +182,9 @@ fn write_known<'b, W: Output>(
         list_unknown(alloc, sheet, &setup, output)?;
         return Ok(SheetDone::Listed);
     }
-    let (records, refused) = write_sheet(alloc, sheet, &setup, output)?;
-    match complete(alloc, sheet, &setup, registers, records, refused) {
-        Ok(whole) => Ok(SheetDone::Whole(whole)),
+    let whole = write_sheet(alloc, sheet, &setup, output)?;
+    match write_registers(alloc, sheet, &setup, registers) {
+        Ok(()) => Ok(SheetDone::Whole(whole)),
         Err(cause) => Ok(SheetDone::WholeBut(SheetFault::from(cause))),
     }
 }

@@ -117,6 +117,21 @@ const WEEKDAY_AND_GREGORIAN_AND_JULIAN: [AskedColumn; 3] = [
     AskedColumn::Cells(Target::Date(Calendar::Julian)),
 ];
 
+const DAY_AND_WEEKDAY_AND_GREGORIAN_AND_JULIAN: [AskedColumn; 4] = [
+    AskedColumn::DayNumber,
+    AskedColumn::Weekday,
+    AskedColumn::Cells(Target::Date(Calendar::Gregorian)),
+    AskedColumn::Cells(Target::Date(Calendar::Julian)),
+];
+
+const DAY_AND_WEEKDAY: [AskedColumn; 2] = [AskedColumn::DayNumber, AskedColumn::Weekday];
+
+const DAY_AND_GREGORIAN_AND_WEEKDAY: [AskedColumn; 3] = [
+    AskedColumn::DayNumber,
+    AskedColumn::Cells(Target::Date(Calendar::Gregorian)),
+    AskedColumn::Weekday,
+];
+
 const JULIAN_AND_GREGORIAN: [AskedColumn; 2] = [
     AskedColumn::Cells(Target::Date(Calendar::Julian)),
     AskedColumn::Cells(Target::Date(Calendar::Gregorian)),
@@ -137,7 +152,7 @@ pub(super) const DAY_FIRST: Choice = Choice {
     charters: false,
 };
 
-const CASES: [Case; 15] = [
+const CASES: [Case; 22] = [
     Case {
         delimiter: b';',
         above: 0,
@@ -305,6 +320,90 @@ const CASES: [Case; 15] = [
         rows: 1,
         refused: &[0, 0],
     },
+    Case {
+        delimiter: b';',
+        above: 0,
+        dates: &DATE_0_IN_1,
+        columns: &DAY_AND_WEEKDAY_AND_GREGORIAN_AND_JULIAN,
+        reading: DAY_FIRST,
+        sheet: "D;C\n1. Mai 1701;julian\nx;julian\n1. Mai 1701;\n2. Mai 1701;julian\n",
+        wanted: "D;C;rd;weekday;gregorian;julian;refusal\n\
+            1. Mai 1701;julian;621044;Thursday;1701-05-12;1701-05-01;\nx;julian;;;;;5\n1. Mai 1701;;;;;;4\n\
+            2. Mai 1701;julian;621045;Friday;1701-05-13;1701-05-02;\n",
+        rows: 4,
+        refused: &[2],
+    },
+    Case {
+        delimiter: b'\t',
+        above: 0,
+        dates: &DATE_0_IN_1,
+        columns: &DAY_AND_WEEKDAY_AND_GREGORIAN_AND_JULIAN,
+        reading: DAY_FIRST,
+        sheet: "D\tC\n1. Mai 1701\tjulian\n\"a\tb\"\tjulian\n",
+        wanted: "D\tC\trd\tweekday\tgregorian\tjulian\trefusal\n\
+            1. Mai 1701\tjulian\t621044\tThursday\t1701-05-12\t1701-05-01\t\n\"a\tb\"\tjulian\t\t\t\t\t5\n",
+        rows: 2,
+        refused: &[1],
+    },
+    Case {
+        delimiter: b';',
+        above: 0,
+        dates: &DATE_0_IN_1,
+        columns: &DAY_AND_WEEKDAY,
+        reading: DAY_FIRST,
+        sheet: "D;C\n1. Mai 1701;julian\nx;julian\n",
+        wanted: "D;C;rd;weekday;refusal\n1. Mai 1701;julian;621044;Thursday;\nx;julian;;;5\n",
+        rows: 2,
+        refused: &[1],
+    },
+    Case {
+        delimiter: b';',
+        above: 0,
+        dates: &DATE_0_IN_1,
+        columns: &JULIAN_AND_GREGORIAN,
+        reading: DAY_FIRST,
+        sheet: "D;C\nx;julian\n1. Mai 1701;gregorian\n",
+        wanted: "D;C;julian;gregorian;refusal\nx;julian;;;5\n1. Mai 1701;gregorian;1701-04-20;1701-05-01;\n",
+        rows: 2,
+        refused: &[1],
+    },
+    Case {
+        delimiter: b';',
+        above: 0,
+        dates: &DATE_0_IN_1,
+        columns: &DAY_AND_GREGORIAN_AND_WEEKDAY,
+        reading: DAY_FIRST,
+        sheet: "D;C\n1. Mai 1701;julian\nx;julian\n",
+        wanted: "D;C;rd;gregorian;weekday;refusal\n1. Mai 1701;julian;621044;1701-05-12;Thursday;\nx;julian;;;;5\n",
+        rows: 2,
+        refused: &[1],
+    },
+    Case {
+        delimiter: b',',
+        above: 0,
+        dates: &DATE_1_JULIAN_AND_2_GREGORIAN,
+        columns: &WEEKDAY_AND_GREGORIAN_AND_JULIAN,
+        reading: DAY_FIRST,
+        sheet: "N,Birth,Death\n\"A \"\"B\"\"\",1. Mai 1701,\"May 2, 1750\"\nC,,3. Mai 1750\n",
+        wanted: "N,Birth,Death,Birth weekday,Birth gregorian,Birth julian,Birth refusal,\
+            Death weekday,Death gregorian,Death julian,Death refusal\n\
+            \"A \"\"B\"\"\",1. Mai 1701,\"May 2, 1750\",Thursday,1701-05-12,1701-05-01,,\
+            Saturday,1750-05-02,1750-04-21,\nC,,3. Mai 1750,,,,5,Sunday,1750-05-03,1750-04-22,\n",
+        rows: 2,
+        refused: &[1, 0],
+    },
+    Case {
+        delimiter: b';',
+        above: 2,
+        dates: &DATE_0_GREGORIAN,
+        columns: &WEEKDAY_AND_GREGORIAN_AND_JULIAN,
+        reading: DAY_FIRST,
+        sheet: "\"\"\n\"\"\nD\n1. Mai 1701\n\"\"\n",
+        wanted: "\"\"\n\"\"\nD;weekday;gregorian;julian;refusal\n\
+            1. Mai 1701;Sunday;1701-05-01;1701-04-20;\n;;;;5\n",
+        rows: 2,
+        refused: &[1],
+    },
 ];
 
 /// The names of a list, and the headings of a sheet.
@@ -381,7 +480,7 @@ pub(super) fn converted(alloc: Global, case: &Case) -> Result<(Vec<u8>, SheetEnd
 /// Whether a sheet ended whole, with so many records, and so many of them refused for each column of dates.
 pub(super) fn is_whole(end: SheetEnd, case: &Case) -> bool {
     match end {
-        SheetEnd::Whole { rows, refused } => {
+        SheetEnd::Whole { rows, refused, .. } => {
             rows == case.rows && refused.starts_with(case.refused)
         }
         SheetEnd::Broken { .. } => false,

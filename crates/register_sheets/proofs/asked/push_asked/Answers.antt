@@ -1,21 +1,13 @@
-use Rattle.std.proofs.Common.{arith, get_or}
-use Rattle.register_records.specs.Views.{row_seen}
-use Rattle.register_sheets.specs.declared.choices.AskedColumn.TheVariants.{DayNumber}
-use Rattle.register_sheets.proofs.AskedLemmas.{asked_step, few_taken}
-use Rattle.register_sheets.proofs.LineLemmas.{both_gained}
+use Rattle.std.proofs.Common.{ap, length, subst, sym}
+use Rattle.std.specs.Prelude.{OnOk}
+use Rattle.register_records.specs.Entries.{Fields}
+use Rattle.register_records.specs.Views.{row_seen, row_targets}
+use Rattle.register_sheets.specs.LineViews.{GainsFields}
 use Rattle.register_sheets.proofs.asked.push_asked.Goals as goal
 
-pub columns-preserved : goal.columns-preserved
-columns-preserved c =
-    let (made, gains, whole) = c.columns.invariant.line in
-    let row = row_seen c.args.row.now in
-    let taken = c.in_ok-taken.ensures.taken in
-    record {
-      few = omega (arith, taken, few_taken (get_or c.args.columns.now c.columns.column-index DayNumber));
-      line = (
-        _,
-        both_gained made _ c.args.lines.now c.columns.lines c.push_column.new.lines gains c.in_ok-taken.ensures.line,
-        asked_step c.args.columns.now c.columns.column-index DayNumber row row.cells c.columns.taken c.in_ok-taken.field-0
-            made _ c.columns-test.true taken whole,
-      );
-    }
+pub returns-in-Some : goal.returns-in-Some
+returns-in-Some c =
+    let row = c.args.row.now in
+    subst (λ (fields : Fields). OnOk c.push_tail.result (GainsFields fields c.args.lines.now c.push_tail.new.self))
+    (sym (c.in-Some.ensures.value (row_seen row) (row_targets row) (sym (ap length c.targets.ensures.value))))
+    c.push_tail.ensures

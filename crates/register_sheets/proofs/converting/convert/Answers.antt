@@ -2,17 +2,22 @@ use Rattle.std.proofs.Common.{◌≡◌, ◌∙◌, ◌<◌, ◌++◌, [], List,
 use Rattle.std.proofs.Common.{rules, subst, sym}
 use Rattle.register_records.specs.Entries.{Fields}
 use Rattle.register_records.specs.Sources.{Gains}
-use Rattle.register_sheets.specs.Converted.{ArePartOfSheet, IsFullSheet, IsWholeSheet}
+use Rattle.register_sheets.specs.Converted.{ArePartOfSheet, IsFullSheet, IsWholeSheet, below}
 use Rattle.register_sheets.specs.Sheets.{widest}
 use Rattle.register_records.proofs.StepLemmas.{passed_on}
 use Rattle.register_sheets.specs.Reading.{left_of}
 use Rattle.register_sheets.proofs.ConvertLemmas.{IsRead, full_sheet, head_made, no_part, part_above, part_of_body}
 use Rattle.register_sheets.proofs.ConvertLemmas.{whole_sheet}
+use Rattle.register_sheets.specs.UnknownNames.{AreUnread, all_dates}
+use Rattle.register_sheets.proofs.RowLemmas.{below_names}
 use Rattle.register_sheets.proofs.SendingLemmas.{front_made}
 use Rattle.register_sheets.proofs.converting.convert.Goals as goal
 
 pub returns-in_err-width-clause-whole : goal.returns-in_err-width-clause-whole
 returns-in_err-width-clause-whole g c = search rules
+
+pub returns-in_err-width-clause-unread : goal.returns-in_err-width-clause-unread
+returns-in_err-width-clause-unread g c = search rules
 
 pub returns-in_err-width-clause-flushed : goal.returns-in_err-width-clause-flushed
 returns-in_err-width-clause-flushed g c = search rules
@@ -76,6 +81,9 @@ copy_records-requires-clause-more g c =
 pub returns-in_err-copy_records-clause-whole : goal.returns-in_err-copy_records-clause-whole
 returns-in_err-copy_records-clause-whole g c = search rules
 
+pub returns-in_err-copy_records-clause-unread : goal.returns-in_err-copy_records-clause-unread
+returns-in_err-copy_records-clause-unread g c = search rules
+
 pub returns-in_err-copy_records-clause-flushed : goal.returns-in_err-copy_records-clause-flushed
 returns-in_err-copy_records-clause-flushed g c = search rules
 
@@ -130,6 +138,9 @@ returns-in_err-copy_records-clause-part g c =
 
 pub returns-in_err-write_head-clause-whole : goal.returns-in_err-write_head-clause-whole
 returns-in_err-write_head-clause-whole g c = search rules
+
+pub returns-in_err-write_head-clause-unread : goal.returns-in_err-write_head-clause-unread
+returns-in_err-write_head-clause-unread g c = search rules
 
 pub returns-in_err-write_head-clause-flushed : goal.returns-in_err-write_head-clause-flushed
 returns-in_err-write_head-clause-flushed g c = search rules
@@ -189,6 +200,9 @@ returns-in_err-write_head-clause-part g c =
 
 pub returns-in_err-number-clause-whole : goal.returns-in_err-number-clause-whole
 returns-in_err-number-clause-whole g c = search rules
+
+pub returns-in_err-number-clause-unread : goal.returns-in_err-number-clause-unread
+returns-in_err-number-clause-unread g c = search rules
 
 pub returns-in_err-number-clause-flushed : goal.returns-in_err-number-clause-flushed
 returns-in_err-number-clause-flushed g c = search rules
@@ -259,6 +273,9 @@ returns-in_err-number-clause-part g c =
 
 pub returns-in_err-send-clause-whole : goal.returns-in_err-send-clause-whole
 returns-in_err-send-clause-whole g c = search rules
+
+pub returns-in_err-send-clause-unread : goal.returns-in_err-send-clause-unread
+returns-in_err-send-clause-unread g c = search rules
 
 pub returns-in_err-send-clause-flushed : goal.returns-in_err-send-clause-flushed
 returns-in_err-send-clause-flushed g c = search rules
@@ -407,6 +424,19 @@ returns-clause-good g c = search rules
 
 pub returns-clause-mark : goal.returns-clause-mark
 returns-clause-mark g c = search rules
+
+pub returns-clause-unread : goal.returns-clause-unread
+returns-clause-unread g c =
+    let choice = c.args.setup.now.choice in
+    let same = c.records_of-records.ensures.left in
+    let all = left_of c.records_of-records.result in
+    let left = left_of c.copy_records.new.records in
+    let rest = left_of c.write_head.new.records in
+    let unread = c.write_body.new.rows.unread in
+    subst (λ (records : List Fields). AreUnread choice (all_dates choice records) unread.stopped unread.short)
+    (below_names choice all left rest c.in_ok-copy_records.ensures.left c.in_ok-write_head.ensures.left
+    ∙ ap (below choice) same)
+    (c.in_ok-number.ensures.unread c.if-more.false)
 
 pub returns-clause-whole : goal.returns-clause-whole
 returns-clause-whole g c =

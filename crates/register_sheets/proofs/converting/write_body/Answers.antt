@@ -8,13 +8,15 @@ use Rattle.register_sheets.specs.Converted.{body_records}
 use Rattle.register_sheets.specs.Reading.{left_of}
 use Rattle.register_sheets.specs.RowViews.{rows_seen}
 use Rattle.register_sheets.specs.Sending.{HasFront, HasMade}
+use Rattle.register_sheets.specs.UnknownNames.{AreUnread, all_dates}
 use Rattle.register_sheets.proofs.RowLemmas.{body_front, body_more, counts_more, has_body, rows_more}
 use Rattle.register_sheets.proofs.SendingLemmas.{front_made}
+use Rattle.register_sheets.proofs.UnreadLemmas.{all_counted, none_counted, record_counted, record_place}
 use Rattle.register_sheets.proofs.converting.write_body.Goals as goal
 
 pub returns-then-not-branch-clause-body : goal.returns-then-not-branch-clause-body
 returns-then-not-branch-clause-body g c =
-    let (done, rows, whole, same, counted, are, counts, made) = c.records.invariant.body in
+    let (done, rows, whole, same, counted, are, counts, read, made) = c.records.invariant.body in
     let no : c.in_ok-read_next.field-0 ≡ false = search rules in
     let none = c.read_next.ensures.none (c.in_ok-read_next.was ∙ ap Ok no) in
     let all = left_of c.args.records.now in
@@ -36,7 +38,7 @@ returns-then-not-branch-clause-body g c =
 
 pub returns-then-number-eq-MAX_RECORDS-clause-body : goal.returns-then-number-eq-MAX_RECORDS-clause-body
 returns-then-number-eq-MAX_RECORDS-clause-body g c =
-    let (done, rows, whole, same, counted, are, counts, made) = c.records.invariant.body in
+    let (done, rows, whole, same, counted, are, counts, read, made) = c.records.invariant.body in
     let yes : c.in_ok-read_next.field-0 ≡ true = search rules in
     let found = c.read_next.ensures.found (c.in_ok-read_next.was ∙ ap Ok yes) in
     let all = left_of c.args.records.now in
@@ -56,10 +58,27 @@ returns-then-number-eq-MAX_RECORDS-clause-body g c =
           (made begun head h),
     )
 
+pub returns-then-not-branch-clause-unread : goal.returns-then-not-branch-clause-unread
+returns-then-not-branch-clause-unread g c =
+    let (done, rows, whole, same, counted, are, counts, read, made) = c.records.invariant.body in
+    let no : c.in_ok-read_next.field-0 ≡ false = search rules in
+    let none = c.read_next.ensures.none (c.in_ok-read_next.was ∙ ap Ok no) in
+    let all : done ≡ left_of c.args.records.now = sym (append-nil done) ∙ rw none at whole in
+    λ _.
+    subst (λ (records : List Fields). AreUnread c.args.setup.now.choice (all_dates c.args.setup.now.choice records)
+    c.records.rows.unread.stopped c.records.rows.unread.short) all
+    (all_counted c.args.setup.now.choice (all_dates c.args.setup.now.choice done) _ _ c.requires.all_read read)
+
+pub write_record-requires-clause-few : goal.write_record-requires-clause-few
+write_record-requires-clause-few g c =
+    let (done, rows, whole, same, counted, are, counts, read, made) = c.records.invariant.body in
+    let few : length c.args.setup.now.choice.dates.now ≤ 8 = search rules in
+    record_place c.args.setup.now.choice done _ _ c.requires.all_read read few (omega (arith, c.records.invariant.limited))
+
 pub records-preserved : goal.records-preserved
 records-preserved g c =
     let inv = c.records.invariant in
-    let (done, rows, whole, same, counted, are, counts, made) = inv.body in
+    let (done, rows, whole, same, counted, are, counts, read, made) = inv.body in
     let yes : c.in_ok-read_next.field-0 ≡ true = search rules in
     let found = c.read_next.ensures.found (c.in_ok-read_next.was ∙ ap Ok yes) in
     let fields = fields_of c.read_next.new.record in
@@ -82,6 +101,7 @@ records-preserved g c =
         omega (arith, length-append rows (one ∷ [])),
         rows_more choice 0 (c.records.number + 1) done rows fields one (omega arith) are step.rows,
         counts_more rows one _ _ counts step.counted,
+        record_counted choice done fields _ _ _ read step.unread,
         λ begun head h.
             subst (λ (records : List Fields). HasMade c.args.sender.now.delimiter begun
             (g.W.Output.contents c.write_record.new.output) c.write_record.new.sender.lines records [])
@@ -94,7 +114,7 @@ records-preserved g c =
 
 pub returns-in_err-read_next-clause-part : goal.returns-in_err-read_next-clause-part
 returns-in_err-read_next-clause-part g c =
-    let (done, rows, whole, same, counted, are, counts, made) = c.records.invariant.body in
+    let (done, rows, whole, same, counted, are, counts, read, made) = c.records.invariant.body in
     let all = left_of c.args.records.now in
     let left = left_of c.records.records in
     let limited : length rows ≤ record_limit = omega (arith, c.records.invariant.limited) in
@@ -112,7 +132,7 @@ returns-in_err-read_next-clause-part g c =
 
 pub returns-in_err-write_record-clause-part : goal.returns-in_err-write_record-clause-part
 returns-in_err-write_record-clause-part g c =
-    let (done, rows, whole, same, counted, are, counts, made) = c.records.invariant.body in
+    let (done, rows, whole, same, counted, are, counts, read, made) = c.records.invariant.body in
     let all = left_of c.args.records.now in
     let left = left_of c.records.records in
     let limited : length rows ≤ record_limit = omega (arith, c.records.invariant.limited) in
@@ -147,6 +167,7 @@ records-init g c =
         refl,
         tt,
         c.requires.none,
+        none_counted c.args.setup.now.choice c.args.rows.now.unread,
         λ begun head h.
             subst (λ (records : List Fields). HasMade c.args.sender.now.delimiter begun
             (g.W.Output.contents c.args.output.now) c.args.sender.now.lines records []) (sym (append-nil head)) h,

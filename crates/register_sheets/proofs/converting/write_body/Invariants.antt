@@ -3,8 +3,9 @@ use Rattle.register_records.specs.Entries.{Fields, record_limit}
 use Rattle.register_records.specs.Outcomes.{TableRow}
 use Rattle.register_sheets.specs.Converted.{AreRowsFrom, body_records}
 use Rattle.register_sheets.specs.Reading.{IsReading, left_of}
-use Rattle.register_sheets.specs.RowViews.{rows_seen}
+use Rattle.register_sheets.specs.RowViews.{CountsMore, rows_seen}
 use Rattle.register_sheets.specs.Sending.{CountsAll, HasMade}
+use Rattle.register_sheets.specs.UnknownNames.{all_dates}
 use Rattle.register_sheets.proofs.converting.write_body.Given as goal
 
 abbrev pub invariant-records : goal.invariant-records
@@ -21,6 +22,7 @@ invariant-records g l =
           × (done ++ left_of l.records ≡ left_of l.fn.records)
           × (length done ≡ length rows) × (l.number ≡ length rows)
           × AreRowsFrom l.setup.choice 0 done rows × CountsAll rows l.rows.refused
+          × CountsMore l.setup.choice (all_dates l.setup.choice done) l.fn.rows.unread l.rows.unread
           × ((begun : Option (List ℕ)) (head : List Fields)
           → HasMade l.fn.sender.delimiter begun (g.W.Output.contents l.fn.output) l.fn.sender.lines head []
           → HasMade l.fn.sender.delimiter begun (g.W.Output.contents l.output) l.sender.lines

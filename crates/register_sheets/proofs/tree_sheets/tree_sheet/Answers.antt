@@ -1,5 +1,4 @@
 use Rattle.std.proofs.Common.{◌≡◌, ◌∙◌, ◌∷◌, [], ℕ, List, ap, append-nil, arith, map, subst, sym, take, take_all}
-use Rattle.std.specs.Prelude.{IfOk}
 use Rattle.family_trees.specs.DateViews.{date_seen}
 use Rattle.family_trees.specs.Trees.{DateOfTree}
 use Rattle.register_records.specs.Lines.{line_text}
@@ -26,6 +25,6 @@ returns c =
     let all : map date_seen (take c.dates.date-index dates) ≡ map date_seen c.in_ok-dates.dates.items
     = ap (map date_seen) (take_all c.dates.date-index dates (omega (arith, c.dates-test.false))
     ∙ c.deref-date-items.ensures.value) in
-    subst (λ (bytes : List ℕ). IfOk c.into_text.result (λ text. text.items ≡ bytes))
+    subst (λ (bytes : List ℕ). c.into_text.result.items ≡ bytes)
     (ap (λ (xs : List DateOfTree). records_text 44 (tree_head ∷ map date_record xs)) (all ∙ c.in_ok-dates.ensures))
     (c.into_text.ensures 44 _ c.dates.invariant)

@@ -1,4 +1,4 @@
-use Rattle.std.proofs.Common.{◌≡◌, ◌∙◌, ◌-◌, ◌+◌, [], suc, ℕ, append-nil, append_assoc, arith, length, rules}
+use Rattle.std.proofs.Common.{◌≡◌, ◌∙◌, ◌-◌, ◌+◌, [], suc, ℕ, append-nil, append_assoc, arith, length, rules, sym}
 use Rattle.std.specs.Int.{div_ceil}
 use Rattle.register_sheets.proofs.writing.write.Goals as goal
 
@@ -14,4 +14,10 @@ groups-preserved c =
     )
 
 pub returns-clause-text : goal.returns-clause-text
-returns-clause-text c = search (rules, append-nil)
+returns-clause-text c =
+    let (before, begun, text) = c.groups.invariant in
+    let count : ℕ = div_ceil (length c.args.lengths.now) c.args.width in
+    let none : count - c.groups.counter ≡ 0 = omega (arith, c.groups-test.false, c.div_ceil-end.ensures) in (
+      search rules,
+      c.into_text.ensures c.args.delimiter before begun ∙ sym (append-nil before) ∙ (rw none at text),
+    )

@@ -1,5 +1,5 @@
 -- The names by which outputs were told apart are those of a task.
-use Rattle.std.proofs.Common.{◌≡◌, ◌∙◌, All, Global, List, map, ℕ, subst}
+use Rattle.std.proofs.Common.{◌≡◌, All, Global, List, map, ℕ, subst}
 use Rattle.std.specs.Borrow.{Bor}
 use Rattle.std.specs.Prelude.{AllPairs, flat_map}
 use Rattle.std.specs.String.{string_bytes}

@@ -1,5 +1,5 @@
 -- What was written by the choice that is known is what the task asks.
-use Rattle.std.proofs.Common.{inr, refl}
+use Rattle.std.proofs.Common.{inr}
 use Rattle.sheet_arguments.specs.Requests.{task_of}
 use Rattle.sheet_app.specs.declared.sheets.TheConstants.{MOST_UNKNOWN}
 use Rattle.sheet_app.proofs.EndLemmas.{asked_list, asked_sheet, ended_fault}
@@ -24,23 +24,22 @@ returns-then-job g c = λ lines asks.
       c.if-job.true,
     )
 
-pub returns-in_err-records : goal.returns-in_err-records
-returns-in_err-records g c = λ lines asks.
+pub returns-in_err-whole : goal.returns-in_err-whole
+returns-in_err-whole g c = λ lines asks.
     let choice = c.setup_of-setup.result.choice in
     let chosen = asks choice c.setup_of-setup.ensures.0 c.setup_of-setup.ensures.1 in
     ended_fault g.W.Output (task_of c.args.job.now) lines MOST_UNKNOWN c.args.sheet.now c.args.output.now
-    c.write_sheet.new.output c.from_residual-in_err-records.result _ c.from_residual-in_err-records.ensures.1
-    (inr (choice, chosen, c.in_err-records.ensures.broken))
+    c.write_sheet.new.output c.from_residual-in_err-whole.result _ c.from_residual-in_err-whole.ensures.1
+    (inr (choice, chosen, c.in_err-whole.ensures.broken))
 
 pub returns-in-Ok : goal.returns-in-Ok
 returns-in-Ok g c = λ lines asks.
     let choice = c.setup_of-setup.result.choice in
     let chosen = asks choice c.setup_of-setup.ensures.0 c.setup_of-setup.ensures.1 in (
-      asked_sheet (task_of c.args.job.now) lines c.args.sheet.now choice c.in_ok-records.records c.in-Ok.whole.records
-          c.in_ok-records.refused c.in-Ok.whole.refused (g.W.Output.contents c.args.output.now)
-          (g.W.Output.contents c.write_sheet.new.output) chosen c.in-Ok.ensures.records c.in-Ok.ensures.refused
-          c.in_ok-records.ensures.whole,
-      c.in_ok-records.ensures.flushed,
+      asked_sheet (task_of c.args.job.now) lines c.args.sheet.now choice c.in_ok-whole.whole
+          (g.W.Output.contents c.args.output.now) (g.W.Output.contents c.write_sheet.new.output) chosen
+          c.in_ok-whole.ensures.whole,
+      c.in_ok-whole.ensures.flushed,
       c.if-job.false,
     )
 
@@ -48,11 +47,10 @@ pub returns-in-Err : goal.returns-in-Err
 returns-in-Err g c = λ lines asks.
     let choice = c.setup_of-setup.result.choice in
     let chosen = asks choice c.setup_of-setup.ensures.0 c.setup_of-setup.ensures.1 in (
-      c.in_ok-records.records,
-      c.in_ok-records.refused,
-      asked_sheet (task_of c.args.job.now) lines c.args.sheet.now choice c.in_ok-records.records c.in_ok-records.records
-          c.in_ok-records.refused c.in_ok-records.refused (g.W.Output.contents c.args.output.now)
-          (g.W.Output.contents c.write_sheet.new.output) chosen refl refl c.in_ok-records.ensures.whole,
-      c.in_ok-records.ensures.flushed,
+      c.in_ok-whole.whole,
+      asked_sheet (task_of c.args.job.now) lines c.args.sheet.now choice c.in_ok-whole.whole
+          (g.W.Output.contents c.args.output.now) (g.W.Output.contents c.write_sheet.new.output) chosen
+          c.in_ok-whole.ensures.whole,
+      c.in_ok-whole.ensures.flushed,
       c.if-job.false,
     )

@@ -1,10 +1,8 @@
-use Rattle.std.proofs.Common.{◌≡◌, ◌∙◌, ap, arith, get_or, []}
-use Rattle.std.specs.Fmt.{decimal}
+use Rattle.std.proofs.Common.{◌≡◌, ◌∙◌, arith, get_or, []}
 use Rattle.day_numbers.specs.Days.{weekday_names, weekday_number}
-use Rattle.date_texts.specs.Refusals.{refusal_number}
-use Rattle.register_records.proofs.RowTailLemmas.{Fits, refusal_fits, weekday_fits}
+use Rattle.register_records.proofs.RowTailLemmas.{Fits, weekday_fits}
 use Rattle.register_records.proofs.row_tails.RowTail.push_column.Goals as goal
-use Rattle.register_records.proofs.row_tails.RowTail.push_column.Goals.{After-as_bytes, After-as_bytes-in-Refusal-Err}
+use Rattle.register_records.proofs.row_tails.RowTail.push_column.Goals.{After-as_bytes}
 
 weekday : (c : After-as_bytes) → Fits c.args.self.now.delimiter 9 c.as_bytes.result.now
 weekday c =
@@ -13,13 +11,6 @@ weekday c =
     let text : c.as_bytes.result.now ≡ get_or weekday_names number [] =
     c.as_bytes.ensures.value ∙ c.name.ensures number c.weekday.ensures in
     rw text (weekday_fits self.delimiter self.separated number)
-
-refusal : (c : After-as_bytes-in-Refusal-Err) → Fits c.args.self.now.delimiter 1 c.as_bytes-in-Refusal-Err.result.now
-refusal c =
-    let self = c.args.self.now in
-    let text : c.as_bytes-in-Refusal-Err.result.now ≡ decimal (refusal_number c.in-Refusal-Err.refusal) =
-    c.as_bytes-in-Refusal-Err.ensures.value ∙ c.format.ensures.text ∙ ap decimal c.number-in-Refusal-Err.ensures in
-    rw text (refusal_fits self.delimiter self.separated c.in-Refusal-Err.refusal)
 
 pub push-requires-clause-plain : goal.push-requires-clause-plain
 push-requires-clause-plain c = (weekday c).plain
@@ -31,15 +22,3 @@ pub returns-in-Weekday-Ok-clause-grows : goal.returns-in-Weekday-Ok-clause-grows
 returns-in-Weekday-Ok-clause-grows c =
     let short = (weekday (goal.at.returns-in-Weekday-Ok-clause-grows c).After-as_bytes).short in
     rw c.in-Weekday-Ok.is-0 (omega (arith, c.push.ensures.len, short))
-
-pub push-requires-in-Refusal-Err-clause-plain : goal.push-requires-in-Refusal-Err-clause-plain
-push-requires-in-Refusal-Err-clause-plain c = (refusal c).plain
-
-pub push-requires-in-Refusal-Err-clause-room : goal.push-requires-in-Refusal-Err-clause-room
-push-requires-in-Refusal-Err-clause-room c =
-    omega (arith, rw c.in-Refusal-Err.is-0 at c.requires.room, (refusal c).short)
-
-pub returns-in-Refusal-Err-clause-grows : goal.returns-in-Refusal-Err-clause-grows
-returns-in-Refusal-Err-clause-grows c =
-    let short = (refusal (goal.at.returns-in-Refusal-Err-clause-grows c).After-as_bytes-in-Refusal-Err).short in
-    rw c.in-Refusal-Err.is-0 (omega (arith, c.push-in-Refusal-Err.ensures.len, short))

@@ -1,10 +1,12 @@
+use Rattle.std.proofs.Common.{false, refl}
+use Rattle.register_sheets.specs.declared.lines.SheetLines.{SheetLines}
 use Rattle.register_sheets.proofs.LineLemmas.{line_ended}
 use Rattle.register_sheets.proofs.lines.SheetLines.end.Goals as goal
-use Rattle.register_sheets.proofs.lines.SheetLines.end.Goals.{in-Ok, in-Err}
 
 pub returns : goal.returns
-returns c = elim c.match-end_record.branch [
-  | in-Ok w ↦ rw w.result-is (line_ended _ _ w.in-Ok.ensures.bytes w.in-Ok.ensures.same w.in-Ok.ensures.fields
-      w.in-Ok.ensures.wrote)
-  | in-Err w ↦ rw w.result-is tt
-]
+returns c =
+    let new : SheetLines =
+    record { buffer = c.end_from.new.self; begun = c.len-self.result; has_field = false } in
+    line_ended c.args.self.now new c.reserve.new.self
+    (record { bytes = c.in_ok-reserve.ensures.value; delimiter = c.in_ok-reserve.ensures.kept })
+    c.end_from.ensures.grows.0 c.end_from.ensures.value c.len-self.ensures refl

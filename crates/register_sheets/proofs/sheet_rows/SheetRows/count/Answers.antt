@@ -17,6 +17,7 @@ rows-preserved c =
     record {
       rows = inv.rows;
       count = inv.count;
+      unread = inv.unread;
       counted = place_counted (rows_seen c.args.self.now) (row_seen row) c.rows.place c.refusals.result
           c.args.self.now.refused c.rows.self.refused
           (ap (λ (rows : List Row). slice_get (map row_seen (take count rows)) c.rows.place) (sym inv.rows)

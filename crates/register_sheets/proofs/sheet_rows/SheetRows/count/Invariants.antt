@@ -7,5 +7,6 @@ invariant-rows l =
     record {
       rows : l.self.rows ≡ l.fn.self.rows;
       count : l.self.count ≡ l.fn.self.count;
+      unread : l.self.unread ≡ l.fn.self.unread;
       counted : CountsRefused (take l.place (rows_seen l.fn.self)) l.fn.self.refused l.self.refused;
     }

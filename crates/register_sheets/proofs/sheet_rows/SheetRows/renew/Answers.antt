@@ -1,13 +1,17 @@
-use Rattle.std.proofs.Common.{◌∙◌, ◌<◌, ◌+◌, List, ap, arith, length, length-set, rules, subst, sym, take}
+use Rattle.std.proofs.Common.{◌≡◌, ◌∙◌, ◌<◌, ◌+◌, List, ap, arith, length, length-set, length-take, map, rules, subst, sym, take, take_all}
+use Rattle.std.proofs.lemmas.List.{length-map}
 use Rattle.std.specs.List.{AllZip}
 use Rattle.csv.specs.Records.{fields_of}
 use Rattle.register_records.specs.Outcomes.{IsRowOf, TableRow}
 use Rattle.register_records.specs.Views.{row_seen}
 use Rattle.register_sheets.specs.Choices.{asked_targets, register_entry}
+use Rattle.register_sheets.specs.RowViews.{CountsMore}
+use Rattle.register_sheets.specs.UnknownNames.{SheetDate}
 use Rattle.register_sheets.specs.declared.choices.CalendarField.TheVariants.{Column}
 use Rattle.register_sheets.specs.declared.choices.SheetChoice.{SheetChoice}
 use Rattle.register_sheets.specs.declared.choices.DateColumn.{DateColumn}
 use Rattle.register_sheets.proofs.RowLemmas.{seen_count, seen_few, seen_set, zip_at}
+use Rattle.register_sheets.proofs.UnreadLemmas.{column_counted, place_left}
 use Rattle.register_sheets.proofs.sheet_rows.SheetRows.renew.Goals as goal
 
 abbrev none : DateColumn
@@ -29,13 +33,37 @@ dates-preserved c =
     record {
       rows = subst (λ (ys : List TableRow). AllZip R (take (place + 1) dates) ys)
           (sym (seen_set row_seen c.dates.self.rows c.dates.self.count place c.renew_row.new.row low room))
-          (zip_at R dates _ place none (row_seen c.renew_row.new.row) c.dates-test.true inv.rows c.in_ok-renew_row.ensures);
+          (zip_at R dates _ place none (row_seen c.renew_row.new.row) c.dates-test.true inv.rows
+          c.in_ok-renew_row.ensures.row);
       count = inv.count;
       room = length-set c.dates.self.rows place c.renew_row.new.row ∙ inv.room;
       refused = inv.refused;
+      unread = column_counted choice dates (fields_of c.args.record.now) place none c.args.self.now.unread c.dates.self.unread
+          c.renew_row.new.unread c.dates-test.true inv.unread c.in_ok-renew_row.ensures.unread;
     }
 
 pub returns-clause-count : goal.returns-clause-count
 returns-clause-count c =
     let inv = c.dates.invariant in
     seen_count row_seen c.dates.self.count c.args.self.now.count c.dates.self.rows c.args.self.now.rows inv.count inv.room
+
+pub renew_row-requires-clause-room : goal.renew_row-requires-clause-room
+renew_row-requires-clause-room c =
+    let choice = c.args.setup.now.choice in
+    let columns = c.choice.result.dates.now in
+    let f : DateColumn → SheetDate = λ column. (column, fields_of c.args.record.now) in
+    let many = ap (λ (choice : SheetChoice). length choice.dates.now) c.choice.ensures in
+    place_left choice (map f (take c.dates.place columns)) (length choice.dates.now) 1 c.args.self.now.unread
+    c.dates.self.unread c.dates.invariant.unread c.requires.room
+    (omega (arith, length-map (take c.dates.place columns) f, length-take c.dates.place columns, c.dates-test.true, many))
+
+pub returns-clause-unread : goal.returns-clause-unread
+returns-clause-unread c =
+    let choice = c.args.setup.now.choice in
+    let columns = c.choice.result.dates.now in
+    let f : DateColumn → SheetDate = λ column. (column, fields_of c.args.record.now) in
+    let whole : take c.dates.place columns ≡ choice.dates.now
+    = take_all c.dates.place columns (omega (arith, c.dates-test.false))
+    ∙ ap (λ (choice : SheetChoice). choice.dates.now) c.choice.ensures in
+    subst (λ (xs : List DateColumn). CountsMore choice (map f xs) c.args.self.now.unread c.dates.self.unread) whole
+    c.dates.invariant.unread

@@ -1,9 +1,9 @@
-use Rattle.std.proofs.Common.{◌≡◌, length, take}
+use Rattle.std.proofs.Common.{◌≡◌, length, map, take}
 use Rattle.std.specs.List.{AllZip}
 use Rattle.csv.specs.Records.{fields_of}
 use Rattle.register_records.specs.Outcomes.{IsRowOf}
 use Rattle.register_sheets.specs.Choices.{asked_targets, register_entry}
-use Rattle.register_sheets.specs.RowViews.{rows_seen}
+use Rattle.register_sheets.specs.RowViews.{CountsMore, rows_seen}
 use Rattle.register_sheets.proofs.sheet_rows.SheetRows.renew.Given as goal
 
 abbrev pub invariant-dates : goal.invariant-dates
@@ -15,4 +15,6 @@ invariant-dates l =
       count : l.self.count ≡ l.fn.self.count;
       room : length l.self.rows ≡ length l.fn.self.rows;
       refused : l.self.refused ≡ l.fn.self.refused;
+      unread : CountsMore l.setup.choice (map (λ column. (column, fields_of l.record)) (take l.place l.dates))
+          l.fn.self.unread l.self.unread;
     }

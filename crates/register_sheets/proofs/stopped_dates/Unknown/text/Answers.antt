@@ -1,5 +1,4 @@
 use Rattle.std.proofs.Common.{◌≡◌, ◌<◌, ◌∙◌, [], ℕ, List, get_or, ap, append-nil, arith, length, map, subst, sym, take, take_all}
-use Rattle.std.specs.Prelude.{IfOk}
 use Rattle.register_records.specs.Lines.{line_text}
 use Rattle.register_sheets.specs.LineViews.{Begins}
 use Rattle.register_sheets.specs.UnknownNames.{list_head, list_text, name_record, name_seen}
@@ -28,5 +27,5 @@ returns c =
     let names = c.args.self.now.names.items in
     let all : take c.names.name-index names ≡ names
     = take_all c.names.name-index names (omega (arith, c.names-test.false, ap length c.deref-name-items.ensures.value)) in
-    subst (λ (bytes : List ℕ). IfOk c.into_text.result (λ text. text.items ≡ bytes))
+    subst (λ (bytes : List ℕ). c.into_text.result.items ≡ bytes)
     (ap (λ (xs : List UnknownName). list_text (map name_seen xs)) all) (c.into_text.ensures 44 _ c.names.invariant)

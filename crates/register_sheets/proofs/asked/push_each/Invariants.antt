@@ -2,7 +2,7 @@ use Rattle.std.proofs.Common.{◌≡◌, ◌≤◌, ℕ, List, drop, ◌++◌}
 use Rattle.register_records.specs.Views.{row_seen}
 use Rattle.register_sheets.specs.Converted.{asked_texts, asked_fields}
 use Rattle.register_sheets.specs.LineViews.{GainsFields}
-use Rattle.register_sheets.proofs.asked.push_asked.Given as goal
+use Rattle.register_sheets.proofs.asked.push_each.Given as goal
 
 abbrev pub invariant-columns : goal.invariant-columns
 invariant-columns l =

@@ -1,0 +1,40 @@
+use Rattle.std.proofs.Common.{◌≡◌, ◌∙◌, ℕ, List, ap, arith, drop, subst, sym}
+use Rattle.csv.specs.Writing.{fields_text}
+use Rattle.register_records.specs.LineRoom.{GainsFields, writing}
+use Rattle.register_records.specs.LineViews.{line_bytes}
+use Rattle.register_records.specs.Views.{row_seen, row_targets, tail_fields}
+use Rattle.register_records.proofs.LineLemmas.{tail_alike}
+use Rattle.register_records.proofs.RowTailLemmas.{one_passed}
+use Rattle.register_records.proofs.rows.Row.put_tail_from.Goals as goal
+
+pub passed-init : goal.passed-init
+passed-init c =
+    let row = c.args.self.now in
+    record {
+      behind = c.as_slice-bytes.ensures.value ∙ ap (fields_text (writing row.tail.delimiter)) row.written;
+      short = c.as_slice-bytes.ensures.short;
+    }
+
+pub passed-preserved : goal.passed-preserved
+passed-preserved c =
+    let row = c.args.self.now in
+    let inv = c.passed.invariant in
+    record {
+      behind = one_passed row.tail.delimiter row.tail.separated row.outcome (row_targets row) (row_seen row).cells
+          c.passed.counter c.passed.bytes.now c.behind_field-bytes.result.now (omega arith) inv.behind
+          (rw c.delimiter.ensures at c.behind_field-bytes.ensures.value);
+      short = omega (arith, c.behind_field-bytes.ensures.short, inv.short);
+    }
+
+pub returns-clause-value : goal.returns-clause-value
+returns-clause-value c =
+    let row = c.args.self.now in
+    let d = c.args.lines.now.delimiter in
+    let all : c.passed.counter ≡ c.args.passed = omega arith in
+    let bytes : c.passed.bytes.now ≡ fields_text (writing d) (drop c.args.passed (tail_fields row)) =
+    c.passed.invariant.behind
+    ∙ ap (λ n. fields_text (writing row.tail.delimiter) (drop n (tail_fields row))) all
+    ∙ ap (λ e. fields_text (writing e) (drop c.args.passed (tail_fields row))) (sym c.requires.same) in
+    subst (λ (fields : List (List ℕ)). GainsFields d (drop c.args.passed fields) (line_bytes c.args.lines.now)
+    (line_bytes c.written.new.self)) (sym (tail_alike (row_seen row) (row_targets row)))
+    (c.written.ensures.value (drop c.args.passed (tail_fields row)) bytes)

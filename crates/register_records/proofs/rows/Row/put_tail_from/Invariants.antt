@@ -1,0 +1,13 @@
+use Rattle.std.proofs.Common.{◌≡◌, ◌≤◌, drop, length}
+use Rattle.csv.specs.Writing.{fields_text}
+use Rattle.register_records.specs.LineRoom.{writing}
+use Rattle.register_records.specs.Views.{tail_fields}
+use Rattle.register_records.specs.declared.row_tails.TheConstants.{TAIL_ROOM}
+use Rattle.register_records.proofs.rows.Row.put_tail_from.Given as goal
+
+abbrev pub invariant-passed : goal.invariant-passed
+invariant-passed l =
+    record {
+      behind : l.bytes ≡ fields_text (writing l.self.tail.delimiter) (drop l.counter (tail_fields l.self));
+      short : length l.bytes ≤ TAIL_ROOM;
+    }

@@ -273,15 +273,6 @@ one_more_cell {d = d} {o = o} {ts = ts} {old = old} {bytes = bytes} {new = new} 
       put = grown_more d before.fields cell old bytes new (plain_field law d h o t cell is) before.put more;
     }
 
-pub two_more_cells : {d : ℕ} {o : Result ℤ Refusal} {ts : List Target} {old bytes new : List ℕ} (t u : Target)
-    → CellsArePlain → is_delimiter d ≡ true → HasCells d o ts old bytes
-    → (one two : List ℕ) × IsCellField o t one × IsCellField o u two × (new ≡ bytes ++ d ∷ one ++ d ∷ two)
-    → HasCells d o (ts ++ t ∷ u ∷ []) old new
-two_more_cells {d = d} {o = o} {ts = ts} {old = old} {bytes = bytes} {new = new} t u law h before (one, two, is, too, more) =
-    subst (λ (us : List Target). HasCells d o us old new) (append_assoc ts (t ∷ []) (u ∷ []))
-    (one_more_cell u law h (one_more_cell t law h before (one, is, refl))
-    (two, too, more ∙ sym (append_assoc bytes (d ∷ one) (d ∷ two))))
-
 pub all_cells : OneCell → (d : ℕ) (o : Result ℤ Refusal) (ts : List Target) (old new : List ℕ) → HasCells d o ts old new
     → (cells : List (List ℕ)) → AreCells ts o cells
     → fields_behind d new ≡ fields_behind d old ++ column_texts ts o cells Cells

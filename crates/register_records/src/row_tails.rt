@@ -90,31 +90,10 @@ fn put_cell(
     at + 1 + len as usize
 }
 
-/// Writes the cells of two targets, one behind the other, as [`put_cell`] does each.
-#[inline(always)]
-fn put_two_cells(
-    bytes: &mut [u8; TAIL_ROOM],
-    at: usize,
-    delimiter: u8,
-    (first, second): (Target, Target),
-    outcome: Result<Day, Refusal>,
-) -> usize
-    requires { at + 2 * CELL_ROOM ≤ TAIL_ROOM }
-    ensures value { (cell other : List ℕ) × IsCellField (outcome_seen outcome) first cell
-        × IsCellField (outcome_seen outcome) second other
-        × (take result bytes.new ≡ take at bytes.old ++ delimiter ∷ cell ++ delimiter ∷ other) }
-    ensures grows { result ≤ at + 2 * CELL_ROOM }
-{
-    let end = put_cell(bytes, at, delimiter, first, outcome);
-    put_cell(bytes, end, delimiter, second, outcome)
-}
-
-/// Writes the cells of the default targets at these places, two by two, as [`put_two_cells`] does.
+/// Writes the cells of the targets at these places, one behind the other, as [`put_cell`] does.
 macro_rules! put_default_cells {
-    ($bytes:ident, $end:ident, $delimiter:ident, $outcome:ident, $($place:literal $other:literal),+) => {
-        $($end = put_two_cells(
-            $bytes, $end, $delimiter, (Target::DEFAULT[$place], Target::DEFAULT[$other]), $outcome
-        );)+
+    ($bytes:ident, $end:ident, $delimiter:ident, $targets:ident, $outcome:ident, $($place:literal),+) => {
+        $($end = put_cell($bytes, $end, $delimiter, $targets[$place], $outcome);)+
     };
 }
 
@@ -262,8 +241,9 @@ impl RowTail {
         let delimiter = self.delimiter;
         let mut end = self.len as usize;
         let bytes = &mut self.buffer;
+        let targets = Target::DEFAULT;
         put_default_cells!(
-            bytes, end, delimiter, outcome, 0 1, 2 3, 4 5, 6 7, 8 9, 10 11, 12 13
+            bytes, end, delimiter, targets, outcome, 0, 1, 2, 3, 4, 5, 6, 7, 8, 9, 10, 11, 12, 13
         );
         self.len = end as u16;
     }

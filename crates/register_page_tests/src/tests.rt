@@ -105,8 +105,8 @@ fn a_room_that_is_too_small_stays_as_it_was(rt: HostRuntime) -> Result<(), Fail>
     assert!(rt; ending(&converted) == 0 && converted.length == TABLE.len());
     assert!(rt; room.iter().all(|byte| *byte == b'#'));
     let counts = converted.end.refusal_counts();
-    assert_eq!(rt; counts.count(Refusal::NoSuchDate), 1);
-    assert_eq!(rt; counts.count(Refusal::NotUtf8), 0);
+    assert!(rt; counts.count(Refusal::NoSuchDate) == 1);
+    assert!(rt; counts.count(Refusal::NotUtf8) == 0);
     Ok(())
 }
 

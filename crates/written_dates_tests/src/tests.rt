@@ -588,6 +588,6 @@ fn roman_numbers(rt: HostRuntime) {
         Some(1806),
     ];
     for (word, number) in words.iter().zip(&numbers) {
-        assert_eq!(rt; roman_number(word.as_bytes()), *number, "at {word:?}");
+        assert!(rt; roman_number(word.as_bytes()) == *number, "at {word:?}");
     }
 }

@@ -160,41 +160,45 @@ fn a_fault_of_reading_is_reported_but_not_after_one_of_writing(
 }
 
 /// Whether a reader gives one entry, of number 1, meets a fault, and has failed from then on.
-fn fails_after_one(alloc: Global) -> Result<bool, Fail> {
+fn fails_after_one(entries: &mut EntryReader<Chunks>) -> bool {
+    entries.next().is_ok_and(|entry| entry.is_some_and(|entry| entry.number() == 1))
+        && entries.next().err() == Some(EntryFault::ReadFault)
+        && entries.next().err() == Some(EntryFault::Failed)
+}
+
+/// Whether the reader of a text that is cut after its first record does so.
+fn a_cut_reader_fails(alloc: Global) -> Result<bool, Fail> {
     let mut entries = EntryReader::open(alloc, cut_text(alloc, WEEK_DATE)?, &plain(&[])?)?;
-    let Ok(Some(entry)) = entries.next() else {
-        return Ok(false);
-    };
-    Ok(
-        entry.number() == 1
-            && entries.next().err() == Some(EntryFault::ReadFault)
-            && entries.next().err() == Some(EntryFault::Failed),
-    )
+    Ok(fails_after_one(&mut entries))
 }
 
 /// The fields of the only record in the week date's text.
 const WEEK_FIELDS: [&str; 3] = ["a", "iso", "1970-W01-4"];
 
-/// Whether a writer meets a fault at its first row, and has failed from then on.
+/// Whether a writer meets a fault at this row, and has failed from then on, with nothing but the heading written.
+fn fails_at(alloc: Global, setup: &Setup, row: &Row, torn: &mut Sink) -> bool {
+    let Ok(mut writer) = RowWriter::open(alloc, torn, setup) else {
+        return false;
+    };
+    let first = writer.put(torn, row);
+    let second = writer.put(torn, row);
+    first == Err(RowFault::WriteFault)
+        && second == Err(RowFault::Failed)
+        && writer.end() == Err(RowFault::Failed)
+}
+
+/// Whether a writer fails at its first row.
 fn fails_at_a_row(alloc: Global) -> Result<bool, Fail> {
     let setup = plain(&[])?;
     let entry = Entry::new(1, fields_of(WEEK_FIELDS)?).ok_or("no entry")?;
-    let row = row_of(entry, &setup);
     let mut torn = Sink::new(alloc, 7, ROOM, 2, 0, ROOM)?;
-    let mut writer = RowWriter::open(alloc, &mut torn, &setup)?;
-    let first = writer.put(&mut torn, &row);
-    let second = writer.put(&mut torn, &row);
-    Ok(
-        first == Err(RowFault::WriteFault)
-            && second == Err(RowFault::Failed)
-            && writer.end() == Err(RowFault::Failed)
-            && lines_of_front(torn.bytes(), WEEK_DATE_TABLE) == 1,
-    )
+    Ok(fails_at(alloc, &setup, &row_of(entry, &setup), &mut torn)
+        && lines_of_front(torn.bytes(), WEEK_DATE_TABLE) == 1)
 }
 
 #[test]
 fn a_reader_and_a_writer_fail_from_a_fault_on(rt: HostRuntime) -> Result<(), Fail> {
-    assert!(rt; fails_after_one(rt.alloc())? && fails_at_a_row(rt.alloc())?);
+    assert!(rt; a_cut_reader_fails(rt.alloc())? && fails_at_a_row(rt.alloc())?);
     Ok(())
 }
 

@@ -491,7 +491,7 @@ const CASES: [Case; 39] = [
 fn dates_come_back_as_python_has_their_days(rt: HostRuntime) -> Result<(), Fail> {
     for case in &CASES {
         let (text, end) = converted(rt.alloc(), case)?;
-        assert_eq!(rt; text.as_slice(), case.wanted.as_bytes());
+        assert!(rt; text.as_slice() == case.wanted.as_bytes());
         assert!(rt; is_whole(end, case));
     }
     Ok(())

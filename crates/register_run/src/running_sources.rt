@@ -168,7 +168,6 @@ impl<R: Read + Drop, W: Output + Drop> RunningSource<R, W> {
 
     /// A lane has ended, by a stop or by an end. The turn goes to the next stripe whose lane has not ended; where there
     /// is none, the source has ended, and its table has the heading unless a lane was stopped.
-    #[tactic(auto, using(crate::proofs::PoppedLemmas::in_turn_ended))]
     fn end_lane(&mut self, by_stop: bool)
         requires within { self.old.turn < length self.old.stripes.items }
         requires ended { AreOpen self.old.stripes.items → ⊥ }

@@ -1,15 +1,7 @@
-//! What the program answers. The tables that are wanted are worked by hand from the calendars' rules and from published
-//! day numbers.
+//! What the program answers where a stream breaks or is slow, or memory is refused, and what it touches.
+//! `check/answers` has what it answers to arguments, texts and files.
 
 mod breaking;
-mod commands;
-mod disk_files;
-mod files;
 pub mod helpers;
-mod named;
-mod page;
-mod refused_arguments;
-mod sealed;
 mod streams;
 mod terminal;
-mod texts;

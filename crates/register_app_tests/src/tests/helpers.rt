@@ -9,7 +9,6 @@ use register_records::{Output, PlainOutput};
 use std::alloc::{AllocError, Global};
 use std::io;
 use std::io::{ErrorKind, Read, Write};
-use std::process::Abort;
 use std::sync::Wait;
 use std::thread::Threads;
 use std::time::{Clock, CpuClock};
@@ -30,14 +29,6 @@ pub fn arguments_of(alloc: Global, arguments: &[&str]) -> Result<Vec<String>, Al
     }
     Ok(copied)
 }
-
-/// The names of as many files as there may be.
-pub const MANY_FILES: [&str; 32] = [
-    "many/0", "many/1", "many/2", "many/3", "many/4", "many/5", "many/6", "many/7", "many/8",
-    "many/9", "many/10", "many/11", "many/12", "many/13", "many/14", "many/15", "many/16",
-    "many/17", "many/18", "many/19", "many/20", "many/21", "many/22", "many/23", "many/24",
-    "many/25", "many/26", "many/27", "many/28", "many/29", "many/30", "many/31",
-];
 
 /// What the program answered: the status, standard output, the outputs of the files and standard error.
 #[derive(Drop)]
@@ -174,52 +165,4 @@ pub fn hear_in_memory<
 ) -> Result<Heard<Vec<u8>, Vec<u8>>, AllocError> {
     let (output, errors) = (Vec::new(alloc), Vec::new(alloc));
     hear(rt, alloc, arguments, input, output, store, errors)
-}
-
-/// Runs the program's answer to these arguments over a text, without files.
-pub fn hear_text(
-    rt: &(impl Threads + Wait + Clock + CpuClock + Sync),
-    alloc: Global,
-    arguments: &[&str],
-    text: &'static [u8],
-) -> Result<Heard<Vec<u8>, Vec<u8>>, AllocError> {
-    hear_in_memory(rt, alloc, arguments, text, &NoFiles)
-}
-
-/// Arguments with a text for standard input, without files, and what they give: the status, the table and standard
-/// error.
-#[derive(Clone, Copy)]
-pub struct TextCase {
-    pub arguments: &'static [&'static str],
-    pub input: &'static [u8],
-    pub status: u8,
-    pub output: &'static [u8],
-    pub errors: &'static [u8],
-}
-
-/// Whether the program answers as is wanted.
-fn is_answered(
-    rt: &(impl Threads + Wait + Clock + CpuClock + Sync),
-    alloc: Global,
-    case: &TextCase,
-) -> bool {
-    let Ok(heard) = hear_text(rt, alloc, case.arguments, case.input) else {
-        return false;
-    };
-    heard.is_answer(case.status, case.output, case.errors)
-}
-
-/// Asserts that the program answers each case as is wanted.
-pub fn assert_answers(
-    rt: &(impl Threads + Wait + Clock + CpuClock + Sync + Abort),
-    alloc: Global,
-    cases: &[TextCase],
-) {
-    for (place, case) in cases.iter().enumerate() {
-        assert!(rt;
-            is_answered(rt, alloc, case),
-            "case {place}: {:?}",
-            case.arguments
-        );
-    }
 }

@@ -2,6 +2,7 @@
 
 use date_texts::{Calendar, Target};
 use register_records::{Form, Note, Output, PlainOutput, Setup, SetupFault, SourceEnd};
+use register_run::laws::every_schedule;
 use register_run::{Report, RunFault, RunFaultKind, Verdict, run};
 use std::alloc::{AllocError, Global};
 use std::io::Read;
@@ -16,7 +17,6 @@ mod faults;
 mod gates;
 mod hostile;
 mod lengths;
-mod schedules;
 mod sealed;
 
 /// The runtime of a run: it starts threads, waits and reads the clock, in each of them.
@@ -334,4 +334,10 @@ fn a_run_with_too_many_sources_or_other_outputs_does_not_begin(
         assert!(rt; kind.number() == number, "number {number}");
     }
     Ok(())
+}
+
+/// The machine of which this law speaks is tried by `check/schedules`.
+#[test]
+fn the_law_of_every_schedule_is_called() {
+    every_schedule();
 }

@@ -1,6 +1,5 @@
 -- The machine at work: a schedule that pops every row, the most that can stand in a stripe, and checksums of the states
--- that all short schedules lead to. A plain program of its own, a test of register_run_tests,
--- comes to the same checksums.
+-- that all short schedules lead to. A plain program of its own, check/schedules, comes to the same checksums.
 use Rattle.std.proofs.Common.{◌≡◌, ◌+◌, ◌*◌, ◌++◌, ℕ, zero, suc, List, [], ◌∷◌, refl}
 use Rattle.std.specs.Prelude.{◌==◌, ◌%◌, if◌then◌else◌, fold, option_to_list}
 use Rattle.striped_lanes.specs.Machine.{World, Stripe, State, Actor, Reader, Converter, Writer, act, start}

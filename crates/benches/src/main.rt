@@ -1,9 +1,7 @@
-//! What calls cost. Without arguments each part is run for a moment and no times are printed. With arguments:
+//! What calls cost. Without arguments registers are converted for a moment and no times are printed. With arguments:
 //!
 //! - `memory N`: registers of N records, over all calendars and of Gregorian dates alone, from memory to an output that
 //!   only counts, with every target and with none: records a second and nanoseconds a record, without a system call;
-//! - `stress SEED SECONDS`: registers at random by a run and on one thread, compared, until the seconds are over or the
-//!   two differ;
 //! - `make mixed|gregorian N FILE`: writes such a register to a file;
 //! - `files all|none INPUT OUTPUT`: converts a file to a file;
 //! - `lines INPUT OUTPUT`: writes the lines of a file to another by one write for each, which is what any program pays
@@ -12,31 +10,20 @@
 
 mod random;
 mod records;
-mod stress;
 mod watch;
 
 use records::inputs::{Kind, register};
 use records::{FEW, by_lines, from_memory, over_files};
 use std::alloc::Global;
 use std::rt::Files;
-use std::sync::Wait;
-use std::thread::Threads;
-use std::time::{Clock, CpuClock};
+use std::time::Clock;
 use std::{env, fs, io};
-use stress::stress;
 
-/// Runs every part for a moment.
-fn run_all<R: Threads + Wait + Sync + Clock + CpuClock + Print>(
-    rt: &R,
-    alloc: Global,
-) -> io::Result<bool> {
-    let mut whole = from_memory(rt, alloc, FEW, false)?;
+/// Converts a few records of each register.
+fn convert_few<R: Clock + Print>(rt: &R, alloc: Global) -> io::Result<bool> {
+    let whole = from_memory(rt, alloc, FEW, false)?;
     if whole {
         println!(rt; "every register converted")?;
-    }
-    whole &= stress(rt, alloc, 1, None)?;
-    if whole {
-        println!(rt; "every table as on one thread")?;
     }
     Ok(whole)
 }
@@ -54,20 +41,10 @@ fn make<R: Files>(rt: &R, alloc: Global, kind: &str, count: &str, to: &str) -> i
 }
 
 /// Does what the arguments ask for.
-fn run<R: Threads + Wait + Sync + Files + Clock + CpuClock + Print>(
-    rt: &R,
-    alloc: Global,
-    arguments: &[&str],
-) -> io::Result<bool> {
+fn run<R: Files + Clock + Print>(rt: &R, alloc: Global, arguments: &[&str]) -> io::Result<bool> {
     match arguments {
-        [] => run_all(rt, alloc),
+        [] => convert_few(rt, alloc),
         ["memory", count] => from_memory(rt, alloc, count.parse().unwrap_or(FEW), true),
-        ["stress", seed, seconds] => stress(
-            rt,
-            alloc,
-            seed.parse().unwrap_or(1),
-            Some(seconds.parse().unwrap_or(0)),
-        ),
         ["make", kind, count, to] => make(rt, alloc, kind, count, to),
         ["files", targets, from, to] => over_files(rt, alloc, *targets == "all", from, to),
         ["lines", from, to] => by_lines(rt, alloc, from, to),

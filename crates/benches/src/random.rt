@@ -1,4 +1,4 @@
-//! Numbers that look random and are the same in each run with the same seed.
+//! Numbers that look random and are the same in each run.
 
 /// Xorshift over 64 bits.
 #[derive(Clone, Copy)]
@@ -7,11 +7,10 @@ pub(crate) struct Random {
 }
 
 impl Random {
-    /// The numbers of this seed. Seeds that follow each other have numbers that are far apart.
-    pub(crate) fn new(seed: u64) -> Random {
-        let state = seed.wrapping_mul(0x9E37_79B9_7F4A_7C15) ^ 0x2545_F491_4F6C_DD1D;
+    /// The numbers from the first on.
+    pub(crate) fn new() -> Random {
         Random {
-            state: state.max(1),
+            state: 0x2545_F491_4F6C_DD1D,
         }
     }
 
@@ -21,15 +20,5 @@ impl Random {
         self.state ^= self.state.wrapping_shr(7);
         self.state ^= self.state.wrapping_shl(17);
         (self.state >> 32) as u32 % end.max(1)
-    }
-
-    /// A place in a list of so many items, or 0 where there is none.
-    pub(crate) fn place_in(&mut self, items: usize) -> usize {
-        self.below(u32::try_from(items).unwrap_or(u32::MAX)) as usize
-    }
-
-    /// Whether one of so many times has come.
-    pub(crate) fn one_in(&mut self, times: u32) -> bool {
-        self.below(times) == 0
     }
 }

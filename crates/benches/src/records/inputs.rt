@@ -1,4 +1,4 @@
-//! Registers made from a seed.
+//! Registers that look random and are the same in each run.
 
 use crate::random::Random;
 use date_texts::{Calendar, Target, cell};
@@ -44,7 +44,7 @@ fn write_bad(text: &mut Vec<u8>, number: u32, calendar: Calendar, why: u32) -> i
 
 /// A register with so many records.
 pub fn register(alloc: Global, kind: Kind, records: u32) -> io::Result<Vec<u8>> {
-    let mut random = Random::new(0);
+    let mut random = Random::new();
     let mut text = Vec::new(alloc);
     writeln!(text, "id,calendar,date")?;
     for number in 0..records {

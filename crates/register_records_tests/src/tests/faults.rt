@@ -161,7 +161,10 @@ fn a_fault_of_reading_is_reported_but_not_after_one_of_writing(
 
 /// Whether a reader gives one entry, of number 1, meets a fault, and has failed from then on.
 fn fails_after_one(entries: &mut EntryReader<Chunks>) -> bool {
-    entries.next().is_ok_and(|entry| entry.is_some_and(|entry| entry.number() == 1))
+    let Ok(Some(entry)) = entries.next() else {
+        return false;
+    };
+    entry.number() == 1
         && entries.next().err() == Some(EntryFault::ReadFault)
         && entries.next().err() == Some(EntryFault::Failed)
 }

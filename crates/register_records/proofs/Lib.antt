@@ -22,6 +22,7 @@ pub mod RowTailLemmas
 pub mod OutcomeLemmas
 pub mod TargetRankLemmas
 pub mod TableLemmas
+pub mod SourceTableLemmas
 pub mod SomeRecordsLemmas
 pub mod OneTableLemmas
 pub mod EveryTableLemmas

@@ -23,6 +23,7 @@ pub mod LineViews
 pub mod ReadingState
 pub mod TableStates
 pub mod TablesWritten
+pub mod SourceTables
 pub mod Retrying
 pub mod ShortLists
 pub mod TargetRanks

@@ -1,12 +1,13 @@
 //! One source, on the caller's thread.
 
-ghost use Rattle.std.specs.Prelude.{◌≡◌, ◌≢◌, ◌≤◌, length, true};
+ghost use Rattle.std.specs.Prelude.{◌≡◌, ◌≢◌, ◌≤◌, [], false, length, true, IfErr, OnOk};
 ghost use Rattle.register_records.specs.Entries.{HasNoHeader, HasTooMany, IsNotSealed, record_limit};
 ghost use Rattle.std.specs.Prelude.{IfSome};
 ghost use Rattle.register_records.specs.Sources.{ArePartOfTable, Gains, IfBroken, IfWhole, IsFrontOfTable};
 ghost use Rattle.register_records.specs.Sources.{IsTableOfAll, IsWholeTable};
+ghost use Rattle.register_records.specs.SourceTables.{HasWhole, IsBroken, IsNewTable};
 ghost use Rattle.register_records.specs.declared.setups.Form.TheVariants.{Sealed};
-ghost use Rattle.register_records.specs.Views.{layout_of, reading_of};
+ghost use Rattle.register_records.specs.Views.{given_of, layout_of, reader_failed, reading_of, reads_by, text_of};
 
 use crate::ends::{Cause, SourceEnd};
 use crate::outputs::Output;
@@ -77,20 +78,38 @@ pub fn convert_source<R: Read + Drop, W: Output>(
         Err(fault) => return SourceEnd::from(fault),
     };
     let mut table = Table::new(alloc, output, setup);
-    table.write_heading(output);
-    if let Some(cause) = table.fault() {
+    if let Err(cause) = write_table(&mut entries, &mut table, output, setup) {
         return SourceEnd::Broken { cause };
     }
-    let mut row = Row::blank();
-    'entries: loop {
-        match row.read_next(&mut entries, setup) {
-            Ok(true) => {
-                if let Err(cause) = table.put_next(output, &row) {
-                    return SourceEnd::Broken { cause };
-                }
-            }
-            Ok(false) => return table.end(),
-            Err(fault) => return SourceEnd::from(fault),
-        }
+    table.end()
+}
+
+/// Writes a new table: the heading, and then the row of each entry as soon as it was read.
+///
+/// # Errors
+///
+/// The cause of the first fault, at which it stops.
+fn write_table<R: Read + Drop, W: Output>(
+    entries: &mut EntryReader<R>,
+    table: &mut Table<W>,
+    output: &mut W,
+    setup: &Setup,
+) -> Result<(), Cause>
+    requires none_given { given_of entries.old ≡ [] }
+    requires goes { reader_failed entries.old ≡ false }
+    requires reads { reads_by entries.old ≡ reading_of setup.now }
+    requires new { IsNewTable W.Output setup.now table.old output.old }
+    ensures whole { OnOk result
+        (HasWhole W.Output setup.now (text_of entries.old) output.old output.new table.new) }
+    ensures broken { IfErr result (IsBroken W.Output setup.now (text_of entries.old) output.old output.new) }
+{
+    table.write_heading(output);
+    if let Some(cause) = table.fault() {
+        return Err(cause);
     }
+    let mut row = Row::blank();
+    'entries: while row.read_next(entries, setup)? {
+        table.put_next(output, &row)?;
+    }
+    Ok(())
 }

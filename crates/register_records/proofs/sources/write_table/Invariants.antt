@@ -3,17 +3,16 @@ use Rattle.register_records.specs.Entries.{record_limit}
 use Rattle.register_records.specs.TablesWritten.{table_fault}
 use Rattle.register_records.specs.Views.{given_of, reader_failed, reading_of, reads_by, text_of}
 use Rattle.register_records.proofs.TableLemmas.{Follows}
-use Rattle.register_records.proofs.sources.convert_source.Given as goal
+use Rattle.register_records.proofs.sources.write_table.Given as goal
 
 abbrev pub invariant-entries : goal.invariant-entries
 invariant-entries g l =
     record {
-      text : text_of l.entries ≡ g.R.Read.remaining l.fn.reader;
+      text : text_of l.entries ≡ text_of l.fn.entries;
       by : reads_by l.entries ≡ reading_of l.setup;
       failed : reader_failed l.entries ≡ false;
       open_ : table_fault l.table ≡ None;
-      follows : Follows g.W.Output l.fn.output l.setup (g.R.Read.remaining l.fn.reader) (given_of l.entries) l.table
-          l.output;
+      follows : Follows g.W.Output l.fn.output l.setup (text_of l.fn.entries) (given_of l.entries) l.table l.output;
     }
 
 abbrev pub decreases-entries : goal.decreases-entries

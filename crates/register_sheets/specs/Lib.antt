@@ -5,6 +5,7 @@ pub mod FieldViews
 pub mod LineViews
 pub mod NameLists
 pub mod Choices
+pub mod ChoiceViews
 pub mod AskedViews
 pub mod Converted
 pub mod WidthViews

@@ -2,11 +2,12 @@
 
 ghost use Rattle.std.specs.Prelude.{◌≡◌, ◌≢◌, ◌≤◌, ◌<◌, ◌↔◌, ◌+◌, ◌++◌, ◌∷◌, [], true, false, count_by, length, nat_lt};
 ghost use Rattle.std.specs.Prelude.{option_to_list, take};
-ghost use Rattle.std.specs.Prelude.{Err, IfOk};
+ghost use Rattle.std.specs.Prelude.{Err, IfErr, IfOk};
 ghost use Rattle.register_records.specs.SetupRules.{NamesTwice, is_delimiter};
 ghost use Rattle.register_records.specs.Views.{targets_of};
 ghost use Rattle.register_sheets.specs.Choices.{AsksOnce, HasDates, added, asked_targets, asks_twice, column_limit};
 ghost use Rattle.register_sheets.specs.Choices.{date_limit, is_day_number, is_weekday, target_in};
+ghost use Rattle.register_sheets.specs.ChoiceViews.{HasFault};
 
 use date_texts::{Calendar, MAX_TARGETS, Target};
 use register_records::{Form, Setup, SetupFault};
@@ -179,6 +180,34 @@ fn asked_targets(columns: &[AskedColumn]) -> ([Target; MAX_COLUMNS], usize)
     (targets, count)
 }
 
+/// The setup of the targets asked, or the first fault that applies.
+fn setup_of(choice: &SheetChoice) -> Result<Setup, ChoiceFault>
+    ensures good { IfOk result (λ setup. HasDates choice.now × AsksOnce choice.now
+        × (is_delimiter choice.now.delimiter ≡ true) × (length choice.now.headings.now ≡ added choice.now)
+        × (targets_of setup ≡ asked_targets choice.now.columns.now)) }
+    ensures fault { IfErr result (HasFault choice.now) }
+{
+    if choice.dates.is_empty() || choice.dates.len() > MAX_DATES {
+        return Err(ChoiceFault::Dates);
+    }
+    if choice.columns.len() > MAX_COLUMNS {
+        return Err(ChoiceFault::TooManyColumns);
+    }
+    if asks_twice(choice.columns) {
+        return Err(ChoiceFault::ColumnTwice);
+    }
+    let (targets, count) = asked_targets(choice.columns);
+    let setup = match Setup::new(&targets[..count], 1, choice.delimiter, 1, Form::Plain) {
+        Ok(setup) => setup,
+        Err(SetupFault::TargetTwice) => return Err(ChoiceFault::ColumnTwice),
+        Err(_) => return Err(ChoiceFault::Delimiter),
+    };
+    if choice.headings.len() != choice.dates.len() * (choice.columns.len() + 1) {
+        return Err(ChoiceFault::Headings);
+    }
+    Ok(setup)
+}
+
 impl<'a> SheetSetup<'a> {
     /// The setup of a choice.
     ///
@@ -201,24 +230,7 @@ impl<'a> SheetSetup<'a> {
             ↔ (HasDates choice.entry × AsksOnce choice.entry × (is_delimiter choice.entry.delimiter ≡ true)
             × (length choice.entry.headings.now ≢ added choice.entry)) }
     {
-        if choice.dates.is_empty() || choice.dates.len() > MAX_DATES {
-            return Err(ChoiceFault::Dates);
-        }
-        if choice.columns.len() > MAX_COLUMNS {
-            return Err(ChoiceFault::TooManyColumns);
-        }
-        if asks_twice(choice.columns) {
-            return Err(ChoiceFault::ColumnTwice);
-        }
-        let (targets, count) = asked_targets(choice.columns);
-        let setup = match Setup::new(&targets[..count], 1, choice.delimiter, 1, Form::Plain) {
-            Ok(setup) => setup,
-            Err(SetupFault::TargetTwice) => return Err(ChoiceFault::ColumnTwice),
-            Err(_) => return Err(ChoiceFault::Delimiter),
-        };
-        if choice.headings.len() != choice.dates.len() * (choice.columns.len() + 1) {
-            return Err(ChoiceFault::Headings);
-        }
+        let setup = setup_of(&choice)?;
         Ok(SheetSetup { choice, setup })
     }
 

@@ -1,17 +1,20 @@
 -- The sheet that comes back, of what was sent.
 use Rattle.std.proofs.Common.{◌≡◌, ◌<◌, ◌∙◌, ◌++◌, ℕ, List, [], ◌∷◌, Option, ap, arith, get_or, drop, inl, inr, length, subst}
 use Rattle.std.proofs.Common.{take, refl}
-use Rattle.std.specs.Prelude.{map}
+use Rattle.std.specs.Prelude.{◌⊎◌, Bool, Err, IfErr, IfOk, Ok, Result, false, map, true}
 use Rattle.std.proofs.KnownBytes.{Appends-nil}
 use Rattle.register_records.specs.Entries.{Fields, record_limit}
 use Rattle.register_records.specs.Outcomes.{TableRow}
 use Rattle.register_records.specs.Sources.{Gains}
 use Rattle.register_sheets.specs.Converted.{AreFirstRows, ArePartOfSheet, IsFullSheet, IsWholeSheet, below}
-use Rattle.register_sheets.specs.Converted.{body_records, sheet_records}
-use Rattle.register_sheets.specs.Sending.{CountsAll, HasBody, HasFront, IsSent}
+use Rattle.register_sheets.specs.Converted.{IfBroken, IfWhole, body_records, sheet_records}
+use Rattle.register_sheets.specs.Sending.{CountsAll, HasBody, HasFront, IsSent, end_of}
 use Rattle.register_sheets.specs.Sheets.{filled, records_text, widest}
 use Rattle.register_sheets.specs.declared.choices.SheetChoice.{SheetChoice}
 use Rattle.register_sheets.specs.declared.lines.SheetLines.{SheetLines}
+use Rattle.register_sheets.specs.declared.sheet_ends.SheetCause.{SheetCause}
+use Rattle.register_sheets.specs.declared.sheet_ends.SheetCause.TheVariants.{NoMemory, SinkFault, TooManyRecords}
+use Rattle.register_sheets.specs.declared.unread_dates.UnreadDates.{UnreadDates}
 use Rattle.register_sheets.proofs.SendingLemmas.{front_more}
 use Rattle.register_sheets.proofs.RowLemmas.{below_names, sheet_made}
 
@@ -118,3 +121,25 @@ part_above choice records width begun now named wide front =
     (body_records width choice.columns.now (drop 1 left) [])
     (front_more choice.delimiter begun now ([] ++ take choice.above records)
     ((filled width (get_or left 0 []) ++ map (λ name. name.now) choice.headings.now) ∷ []) front))
+
+-- what holds of a sheet that was written whole, of a part and of all that may be converted
+pub if_whole : (written : Result (ℕ × Bool) SheetCause) (refused : List ℕ) (unread : UnreadDates)
+    (P : ℕ → List ℕ → UnreadDates → Type 0)
+    → IfOk written (λ w. w.1 ≡ false → P w.0 refused unread) → IfWhole (end_of written refused unread) P
+if_whole (Ok (rows, false)) refused unread P h = h refl
+if_whole (Ok (rows, true)) refused unread P h = tt
+if_whole (Err c) refused unread P h = tt
+
+pub if_part : (written : Result (ℕ × Bool) SheetCause) (refused : List ℕ) (unread : UnreadDates) (P : Type 0)
+    → IfErr written (λ c. c ≡ NoMemory → P) → IfBroken (end_of written refused unread) (λ c. c ≡ NoMemory → P)
+if_part (Ok (rows, false)) refused unread P h = tt
+if_part (Ok (rows, true)) refused unread P h = λ is. absurd (cc)
+if_part (Err c) refused unread P h = h
+
+pub if_full : (written : Result (ℕ × Bool) SheetCause) (refused : List ℕ) (unread : UnreadDates) (P : Type 0)
+    → IfOk written (λ w. w.1 ≡ true → P) → IfErr written (λ c. (c ≡ NoMemory) ⊎ (c ≡ SinkFault))
+    → IfBroken (end_of written refused unread) (λ c. c ≡ TooManyRecords → P)
+if_full (Ok (rows, false)) refused unread P more causes = tt
+if_full (Ok (rows, true)) refused unread P more causes = λ is. more refl
+if_full (Err c) refused unread P more causes =
+    λ is. elim causes [ inl other ↦ absurd (cc (is, other)) | inr other ↦ absurd (cc (is, other)) ]

@@ -1,6 +1,6 @@
 -- How far records are written to an output. No public contract cites this file.
-use Rattle.std.specs.Prelude.{◌≡◌, ◌⊎◌, ◌≤◌, ◌++◌, ℕ, Bool, true, List, [], Option, Result, IfErr, OnOk, count_by, get_or}
-use Rattle.std.specs.Prelude.{length, take}
+use Rattle.std.specs.Prelude.{◌≡◌, ◌⊎◌, ◌≤◌, ◌++◌, ℕ, Bool, true, false, List, [], Option, Result, Ok, Err, IfErr, OnOk}
+use Rattle.std.specs.Prelude.{count_by, get_or, length, take}
 use Rattle.std.specs.Io.KnownBytes.{Appends}
 use Rattle.register_records.specs.Entries.{Fields, record_limit}
 use Rattle.register_records.specs.Outcomes.{TableRow}
@@ -11,6 +11,9 @@ use Rattle.register_sheets.specs.declared.choices.SheetChoice.{SheetChoice}
 use Rattle.register_sheets.specs.declared.lines.SheetLines.{SheetLines}
 use Rattle.register_sheets.specs.declared.sheet_ends.SheetCause.{SheetCause}
 use Rattle.register_sheets.specs.declared.sheet_ends.SheetCause.TheVariants as cause
+use Rattle.register_sheets.specs.declared.sheet_ends.SheetEnd.{SheetEnd}
+use Rattle.register_sheets.specs.declared.sheet_ends.SheetEnd.TheVariants as end
+use Rattle.register_sheets.specs.declared.unread_dates.UnreadDates.{UnreadDates}
 
 -- the first of these records are sent, the others stand in lines, and behind them the fields of one more
 pub record HasMade (delimiter : ℕ) (begun now : Option (List ℕ)) (lines : SheetLines) (made : List Fields)
@@ -47,3 +50,9 @@ pub record HasBody (choice : SheetChoice) (records : List Fields) (rows : List (
 -- so many of them were refused for each column of dates
 abbrev pub CountsAll : List (List TableRow) → List ℕ → Type 0
 CountsAll rows refused = (place : ℕ) → get_or refused place 0 ≡ count_by is_refused (column_rows place rows)
+
+-- how a sheet ends of which so many records were written, and whether there are more
+abbrev pub end_of : Result (ℕ × Bool) SheetCause → List ℕ → UnreadDates → SheetEnd
+end_of (Ok (rows, false)) refused unread = end.Whole rows refused unread
+end_of (Ok (rows, true)) refused unread = end.Broken cause.TooManyRecords
+end_of (Err c) refused unread = end.Broken c

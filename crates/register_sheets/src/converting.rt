@@ -13,7 +13,7 @@ ghost use Rattle.register_sheets.specs.Converted.{sheet_width};
 ghost use Rattle.register_sheets.specs.LineViews.{GainsFields};
 ghost use Rattle.register_sheets.specs.Reading.{IsReading, left_of};
 ghost use Rattle.register_sheets.specs.RowViews.{CountsMore, CountsRefused, HasPlace, NoneUnread, rows_seen};
-ghost use Rattle.register_sheets.specs.Sending.{CountsAll, Ends, HasBody, HasFront, HasMade};
+ghost use Rattle.register_sheets.specs.Sending.{CountsAll, Ends, HasBody, HasFront, HasMade, end_of};
 ghost use Rattle.register_sheets.specs.Sheets.{filled, widest};
 ghost use Rattle.register_sheets.specs.UnknownNames.{AreUnread, AreUnreadIn, all_dates, dates_of};
 
@@ -220,63 +220,65 @@ fn write_body<W: Output>(
     }
 }
 
-/// Converts a sheet, and returns how many records stand below the names, and the last rows, which know how many were
-/// refused, and how many dates were not read.
-fn convert<W: Output>(
-    alloc: Global,
-    sheet: &[u8],
+/// Writes the sheet that comes back, of which no record is read yet, and sends all of it; returns what `write_body` does.
+fn write_sheet<W: Output>(
+    records: &mut Reader<&[u8]>,
+    record: &mut ByteRecord,
+    width: usize,
     setup: &SheetSetup,
+    rows: &mut SheetRows,
+    sender: &mut SheetSender,
     output: &mut W,
-) -> Result<(u32, SheetRows), SheetCause>
-    ensures whole { IfOk result (λ r. Gains (W.contents output.old) (W.contents output.new)
-        (IsWholeSheet setup.now.choice (text_records setup.now.choice.delimiter sheet.now) r.0 r.1.refused)) }
-    ensures unread { IfOk result (λ r. AreUnreadIn setup.now.choice
-        (text_records setup.now.choice.delimiter sheet.now) r.1.unread.stopped r.1.unread.short) }
+) -> Result<(u32, bool), SheetCause>
+    requires reading { IsReading records.old }
+    requires named { setup.now.choice.above < length (left_of records.old) }
+    requires wide { width ≡ widest (drop setup.now.choice.above (left_of records.old)) }
+    requires count { length (rows_seen rows.old) ≡ length setup.now.choice.dates.now }
+    requires none { (place : ℕ) → get_or rows.old.refused place 0 ≡ 0 }
+    requires all_read { NoneUnread rows.old.unread }
+    requires unsent { (begun : Option (List ℕ)) → HasMade setup.now.choice.delimiter begun begun sender.old.lines [] [] }
+    requires delimiter { sender.old.delimiter ≡ setup.now.choice.delimiter }
+    ensures whole { IfOk result (λ r. r.1 ≡ false → Gains (W.contents output.old) (W.contents output.new)
+        (IsWholeSheet setup.now.choice (left_of records.old) r.0 rows.new.refused)) }
+    ensures full { IfOk result (λ r. r.1 ≡ true → Gains (W.contents output.old) (W.contents output.new)
+        (IsFullSheet setup.now.choice (left_of records.old))) }
+    ensures unread { IfOk result (λ r. r.1 ≡ false → AreUnreadIn setup.now.choice (left_of records.old)
+        rows.new.unread.stopped rows.new.unread.short) }
     ensures flushed { OnOk result (W.is_flushed output.new ≡ true) }
     ensures part { IfErr result (λ c. c ≡ SheetCause.NoMemory → Gains (W.contents output.old) (W.contents output.new)
-        (ArePartOfSheet setup.now.choice (text_records setup.now.choice.delimiter sheet.now))) }
-    ensures no_names { IfErr result (λ c. c ≡ SheetCause.NoNames → (output.new ≡ output.old)
-        × (length (text_records setup.now.choice.delimiter sheet.now) ≤ setup.now.choice.above)) }
-    ensures too_many { IfErr result (λ c. c ≡ SheetCause.TooManyRecords
-        → Gains (W.contents output.old) (W.contents output.new)
-        (IsFullSheet setup.now.choice (text_records setup.now.choice.delimiter sheet.now))) }
-    ensures good { OnOk result (W.has_failed output.new ≡ W.has_failed output.old) }
-    ensures kept { IfErr result (λ c. (c ≢ SheetCause.SinkFault) → W.has_failed output.new ≡ W.has_failed output.old) }
-    ensures sink { IfErr result (λ c. c ≡ SheetCause.SinkFault → W.has_failed output.new ≡ true) }
-    ensures mark { W.own_mark output.new ≡ W.own_mark output.old }
+        (ArePartOfSheet setup.now.choice (left_of records.old))) }
+    ensures output { Ends result (W.has_failed output.old) (W.has_failed output.new) (W.own_mark output.old)
+        (W.own_mark output.new) }
 {
-    let choice = setup.choice;
-    let width = match width_of(alloc, sheet, choice.delimiter, choice.above)? {
-        Some(width) => width,
-        None => return Err(SheetCause::NoNames),
-    };
-    let mut records = records_of(alloc, sheet, choice.delimiter);
-    let mut record = ByteRecord::new(alloc);
-    let mut sender = SheetSender::new(alloc, choice.delimiter);
-    let mut rows = SheetRows::new(alloc, choice.dates.len());
-    copy_records(&mut records, &mut record, choice.above, &mut sender, output)?;
+    copy_records(records, record, setup.choice.above, sender, output)?;
     write_head(
-        &mut records,
-        &mut record,
+        records,
+        record,
         width,
-        choice.headings,
-        &mut sender,
+        setup.choice.headings,
+        sender,
         output,
     )?;
-    let (number, more) = write_body(
-        &mut records,
-        &mut record,
-        width,
-        setup,
-        &mut rows,
-        &mut sender,
-        output,
-    )?;
+    let written = write_body(records, record, width, setup, rows, sender, output)?;
     sender.send(output)?;
-    if more {
-        return Err(SheetCause::TooManyRecords);
+    Ok(written)
+}
+
+/// How a sheet ends of which so many records were written, and whether there are more.
+fn end_of(written: Result<(u32, bool), SheetCause>, rows: &SheetRows) -> SheetEnd
+    ensures { result ≡ end_of written rows.now.refused rows.now.unread }
+{
+    match written {
+        Ok((_, true)) => SheetEnd::Broken {
+            cause: SheetCause::TooManyRecords,
+        },
+        Ok((count, false)) => SheetEnd::Whole {
+            rows: count,
+            refused: rows.refused(),
+            unread: rows.unread(),
+        },
+        Err(cause) => SheetEnd::Broken { cause },
     }
-    Ok((number, rows))
 }
 
 /// Writes to an output the sheet that comes back: the records above the names as they stand; the names, filled up to the
@@ -317,16 +319,32 @@ pub fn convert_sheet<W: Output>(
     ensures sink { IfBroken result (λ c. c ≡ SheetCause.SinkFault → W.has_failed output.new ≡ true) }
     ensures mark { W.own_mark output.new ≡ W.own_mark output.old }
 {
-    match convert(alloc, sheet, setup, output) {
-        Ok((number, rows)) => {
-            let refused = rows.refused();
-            let unread = rows.unread();
-            SheetEnd::Whole {
-                rows: number,
-                refused,
-                unread,
-            }
+    let choice = setup.choice;
+    let width = match width_of(alloc, sheet, choice.delimiter, choice.above) {
+        Ok(Some(width)) => width,
+        Ok(None) => {
+            return SheetEnd::Broken {
+                cause: SheetCause::NoNames,
+            };
         }
-        Err(cause) => SheetEnd::Broken { cause },
-    }
+        Err(_) => {
+            return SheetEnd::Broken {
+                cause: SheetCause::NoMemory,
+            };
+        }
+    };
+    let mut records = records_of(alloc, sheet, choice.delimiter);
+    let mut record = ByteRecord::new(alloc);
+    let mut sender = SheetSender::new(alloc, choice.delimiter);
+    let mut rows = SheetRows::new(alloc, choice.dates.len());
+    let written = write_sheet(
+        &mut records,
+        &mut record,
+        width,
+        setup,
+        &mut rows,
+        &mut sender,
+        output,
+    );
+    end_of(written, &rows)
 }

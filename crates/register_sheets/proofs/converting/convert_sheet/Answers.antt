@@ -1,0 +1,17 @@
+use Rattle.register_sheets.proofs.ConvertLemmas.{if_full, if_part, if_whole}
+use Rattle.register_sheets.proofs.converting.convert_sheet.Goals as goal
+
+pub returns-clause-whole : goal.returns-clause-whole
+returns-clause-whole g c =
+    rw c.end_of.ensures
+    (if_whole _ _ _ _ (rw c.records_of-records.ensures.left at c.write_sheet-written.ensures.whole))
+
+pub returns-clause-part : goal.returns-clause-part
+returns-clause-part g c =
+    rw c.end_of.ensures (if_part _ _ _ _ (rw c.records_of-records.ensures.left at c.write_sheet-written.ensures.part))
+
+pub returns-clause-too_many : goal.returns-clause-too_many
+returns-clause-too_many g c =
+    rw c.end_of.ensures
+    (if_full _ _ _ _ (rw c.records_of-records.ensures.left at c.write_sheet-written.ensures.full)
+    c.write_sheet-written.ensures.output.causes)

@@ -1,6 +1,7 @@
 -- The register of a column of dates is written record by record.
 use Rattle.std.proofs.Common.{◌≡◌, ◌≤◌, ◌<◌, ◌+◌, ◌∙◌, ◌++◌, ℕ, zero, suc, List, [], ◌∷◌, Option, refl, sym, ap, subst}
-use Rattle.std.proofs.Common.{append_assoc, arith, drop, length, take}
+use Rattle.std.proofs.Common.{append_assoc, arith, drop, inl, inr, length, take}
+use Rattle.std.specs.Prelude.{◌⊎◌, ◌≢◌, Bool, Err, IfErr, IfNone, IfOk, IfSome, None, Ok, OnOk, Result, Some, false, true}
 use Rattle.std.proofs.lemmas.List.{length-drop, length-take, take-append-drop, take_all}
 use Rattle.register_records.specs.Entries.{Fields, record_limit}
 use Rattle.register_records.specs.Sources.{Gains}
@@ -8,11 +9,14 @@ use Rattle.register_sheets.specs.Choices.{register_record}
 use Rattle.register_sheets.specs.Converted.{below}
 use Rattle.register_sheets.specs.Registers.{IsFrontOfRegister, IsFullRegister, IsRegister, register_head}
 use Rattle.register_sheets.specs.Registers.{register_records}
-use Rattle.register_sheets.specs.Sending.{HasFront, HasMade, IsSent}
+use Rattle.register_sheets.specs.Sending.{Ends, HasFront, HasMade, IsSent, count_of}
 use Rattle.register_sheets.specs.Sheets.{records_text}
 use Rattle.register_sheets.specs.declared.choices.DateColumn.{DateColumn}
 use Rattle.register_sheets.specs.declared.choices.SheetChoice.{SheetChoice}
 use Rattle.register_sheets.specs.declared.lines.SheetLines.{SheetLines}
+use Rattle.register_sheets.specs.declared.sheet_ends.SheetCause.{SheetCause}
+use Rattle.register_sheets.specs.declared.sheet_ends.SheetCause.TheVariants.{NoMemory, NoNames, SinkFault}
+use Rattle.register_sheets.specs.declared.sheet_ends.SheetCause.TheVariants.{TooManyRecords}
 use Rattle.register_sheets.proofs.ListLemmas.{one_taken}
 use Rattle.register_sheets.proofs.SendingLemmas.{front_made, front_more}
 
@@ -127,3 +131,51 @@ register_begun choice column all rest begun now is (count, sent) = (
 pub none_sent : (d : ℕ) (begun now : Option (List ℕ)) (lines : SheetLines) (rest : List Fields)
     → HasMade d begun now lines [] [] → HasFront d begun now rest
 none_sent d begun now lines rest h = front_more d begun now [] rest (front_made d begun now lines [] [] h)
+
+-- what holds of a register that was written whole, of a part, of all that it may have and of none
+pub if_whole : (written : Result (Option (ℕ × Bool)) SheetCause) (P : ℕ → Type 0)
+    → IfOk written (λ o. IfSome o (λ w. w.1 ≡ false → P w.0)) → IfOk (count_of written) P
+if_whole (Ok (Some (count, false))) P h = h refl
+if_whole (Ok (Some (count, true))) P h = tt
+if_whole (Ok None) P h = tt
+if_whole (Err c) P h = tt
+
+pub if_part : (written : Result (Option (ℕ × Bool)) SheetCause) (P : Type 0)
+    → IfErr written (λ c. c ≡ NoMemory → P) → IfErr (count_of written) (λ c. c ≡ NoMemory → P)
+if_part (Ok (Some (count, false))) P h = tt
+if_part (Ok (Some (count, true))) P h = λ is. absurd (cc)
+if_part (Ok None) P h = λ is. absurd (cc)
+if_part (Err c) P h = h
+
+pub if_full : (written : Result (Option (ℕ × Bool)) SheetCause) (P : Type 0)
+    → IfOk written (λ o. IfSome o (λ w. w.1 ≡ true → P)) → IfErr written (λ c. (c ≡ NoMemory) ⊎ (c ≡ SinkFault))
+    → IfErr (count_of written) (λ c. c ≡ TooManyRecords → P)
+if_full (Ok (Some (count, false))) P h causes = tt
+if_full (Ok (Some (count, true))) P h causes = λ is. h refl
+if_full (Ok None) P h causes = λ is. absurd (cc)
+if_full (Err c) P h causes =
+    λ is. elim causes [ inl other ↦ absurd (cc (is, other)) | inr other ↦ absurd (cc (is, other)) ]
+
+pub if_none : (written : Result (Option (ℕ × Bool)) SheetCause) (P : Type 0)
+    → IfOk written (λ o. IfNone o P) → IfErr written (λ c. (c ≡ NoMemory) ⊎ (c ≡ SinkFault))
+    → IfErr (count_of written) (λ c. c ≡ NoNames → P)
+if_none (Ok (Some (count, false))) P h causes = tt
+if_none (Ok (Some (count, true))) P h causes = λ is. absurd (cc)
+if_none (Ok None) P h causes = λ is. h
+if_none (Err c) P h causes =
+    λ is. elim causes [ inl other ↦ absurd (cc (is, other)) | inr other ↦ absurd (cc (is, other)) ]
+
+-- how far the output has failed
+pub if_failed : (written : Result (Option (ℕ × Bool)) SheetCause) (failed fails : Bool) (mark new_mark : ℕ)
+    → Ends written failed fails mark new_mark
+    → OnOk (count_of written) (fails ≡ failed)
+    × IfErr (count_of written) (λ c. (c ≢ SinkFault) → fails ≡ failed)
+    × IfErr (count_of written) (λ c. c ≡ SinkFault → fails ≡ true)
+if_failed (Ok (Some (count, false))) failed fails mark new_mark e = (e.good, tt, tt)
+if_failed (Ok (Some (count, true))) failed fails mark new_mark e = (tt, (λ _. e.good), λ is. absurd (cc))
+if_failed (Ok None) failed fails mark new_mark e = (tt, (λ _. e.good), λ is. absurd (cc))
+if_failed (Err c) failed fails mark new_mark e = (
+  tt,
+  (λ other. elim e.causes [ inl memory ↦ e.memory memory | inr sink ↦ absurd (other sink) ]),
+  e.sink,
+)

@@ -1,6 +1,6 @@
 -- How far records are written to an output. No public contract cites this file.
 use Rattle.std.specs.Prelude.{◌≡◌, ◌⊎◌, ◌≤◌, ◌++◌, ℕ, Bool, true, false, List, [], Option, Result, Ok, Err, IfErr, OnOk}
-use Rattle.std.specs.Prelude.{count_by, get_or, length, take}
+use Rattle.std.specs.Prelude.{None, Some, count_by, get_or, length, take}
 use Rattle.std.specs.Io.KnownBytes.{Appends}
 use Rattle.register_records.specs.Entries.{Fields, record_limit}
 use Rattle.register_records.specs.Outcomes.{TableRow}
@@ -56,3 +56,10 @@ abbrev pub end_of : Result (ℕ × Bool) SheetCause → List ℕ → UnreadDates
 end_of (Ok (rows, false)) refused unread = end.Whole rows refused unread
 end_of (Ok (rows, true)) refused unread = end.Broken cause.TooManyRecords
 end_of (Err c) refused unread = end.Broken c
+
+-- how many records a register has of which so many were written, or why it is none
+abbrev pub count_of : Result (Option (ℕ × Bool)) SheetCause → Result ℕ SheetCause
+count_of (Ok (Some (count, false))) = Ok count
+count_of (Ok (Some (count, true))) = Err cause.TooManyRecords
+count_of (Ok None) = Err cause.NoNames
+count_of (Err c) = Err c

@@ -1,7 +1,7 @@
 //! The register of a column of dates, as a text.
 
 ghost use Rattle.std.specs.Prelude.{◌≡◌, ◌≢◌, ◌≤◌, ◌<◌, ◌+◌, ◌++◌, ◌∷◌, [], ℕ, List, Option, drop, length, take, true, false};
-ghost use Rattle.std.specs.Prelude.{IfErr, IfOk, OnOk, Ok};
+ghost use Rattle.std.specs.Prelude.{IfErr, IfNone, IfOk, IfSome, OnOk, Ok};
 ghost use Rattle.csv.specs.Records.{fields_of};
 ghost use Rattle.register_records.specs.Entries.{Fields, record_limit, text_records};
 ghost use Rattle.register_records.specs.Sources.{Gains};
@@ -9,7 +9,7 @@ ghost use Rattle.register_sheets.specs.Choices.{register_record};
 ghost use Rattle.register_sheets.specs.LineViews.{GainsFields};
 ghost use Rattle.register_sheets.specs.Reading.{IsReading, left_of};
 ghost use Rattle.register_sheets.specs.Registers.{IsFrontOfRegister, IsFullRegister, IsRegister, register_head, register_records};
-ghost use Rattle.register_sheets.specs.Sending.{Ends, HasFront, HasMade};
+ghost use Rattle.register_sheets.specs.Sending.{Ends, HasFront, HasMade, count_of};
 
 use crate::choices::{DateColumn, SheetChoice, SheetSetup};
 use crate::lines::SheetLines;
@@ -147,6 +147,52 @@ fn write_lines<W: Output>(
     write_entries(records, record, choice, column, date, sender, output)
 }
 
+/// Writes the register of a sheet of which no record is read yet, and sends all of it; returns what `write_entries` does,
+/// or `None` where the sheet has no record with names.
+fn write_all<W: Output>(
+    records: &mut Reader<&[u8]>,
+    record: &mut ByteRecord,
+    choice: &SheetChoice,
+    column: &DateColumn,
+    date: &mut Vec<u8>,
+    sender: &mut SheetSender,
+    output: &mut W,
+) -> Result<Option<(u32, bool)>, SheetCause>
+    requires reading { IsReading records.old }
+    requires unsent { (begun : Option (List ℕ)) → HasMade choice.now.delimiter begun begun sender.old.lines [] [] }
+    requires delimiter { sender.old.delimiter ≡ choice.now.delimiter }
+    ensures whole { IfOk result (λ o. IfSome o (λ r. r.1 ≡ false → Gains (W.contents output.old) (W.contents output.new)
+        (IsRegister choice.now column.now (left_of records.old) r.0))) }
+    ensures full { IfOk result (λ o. IfSome o (λ r. r.1 ≡ true → Gains (W.contents output.old) (W.contents output.new)
+        (IsFullRegister choice.now column.now (left_of records.old)))) }
+    ensures none { IfOk result (λ o. IfNone o ((output.new ≡ output.old)
+        × (length (left_of records.old) ≤ choice.now.above))) }
+    ensures flushed { IfOk result (λ o. IfSome o (λ r. r.1 ≡ false → W.is_flushed output.new ≡ true)) }
+    ensures part { IfErr result (λ c. c ≡ SheetCause.NoMemory → Gains (W.contents output.old) (W.contents output.new)
+        (IsFrontOfRegister choice.now column.now (left_of records.old))) }
+    ensures output { Ends result (W.has_failed output.old) (W.has_failed output.new) (W.own_mark output.old)
+        (W.own_mark output.new) }
+{
+    if !pass_names(records, record, choice.above)? {
+        return Ok(None);
+    }
+    let written = write_lines(records, record, choice, column, date, sender, output)?;
+    sender.send(output)?;
+    Ok(Some(written))
+}
+
+/// How many records a register has of which so many were written, or why it is none.
+fn count_of(written: Result<Option<(u32, bool)>, SheetCause>) -> Result<u32, SheetCause>
+    ensures { result ≡ count_of written }
+{
+    match written {
+        Ok(Some((_, true))) => Err(SheetCause::TooManyRecords),
+        Ok(Some((count, false))) => Ok(count),
+        Ok(None) => Err(SheetCause::NoNames),
+        Err(cause) => Err(cause),
+    }
+}
+
 /// Writes the register of a column of dates to an output: its header `id,calendar,date` and, for each record of the sheet
 /// below the names, the id, the calendar and the date that the choice gives, with the sheet's delimiter between them.
 /// Returns how many records these are. Lines are sent in blocks.
@@ -182,26 +228,19 @@ pub fn write_register<W: Output>(
     ensures sink { IfErr result (λ c. c ≡ SheetCause.SinkFault → W.has_failed output.new ≡ true) }
     ensures mark { W.own_mark output.new ≡ W.own_mark output.old }
 {
-    let choice = setup.choice;
+    let choice = &setup.choice;
     let mut records = records_of(alloc, sheet, choice.delimiter);
     let mut record = ByteRecord::new(alloc);
-    if !pass_names(&mut records, &mut record, choice.above)? {
-        return Err(SheetCause::NoNames);
-    }
     let mut date = Vec::new(alloc);
     let mut sender = SheetSender::new(alloc, choice.delimiter);
-    let (number, more) = write_lines(
+    let written = write_all(
         &mut records,
         &mut record,
-        &choice,
+        choice,
         column,
         &mut date,
         &mut sender,
         output,
-    )?;
-    sender.send(output)?;
-    if more {
-        return Err(SheetCause::TooManyRecords);
-    }
-    Ok(number)
+    );
+    count_of(written)
 }

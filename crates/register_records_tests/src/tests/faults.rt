@@ -195,8 +195,10 @@ fn fails_at_a_row(alloc: Global) -> Result<bool, Fail> {
     let setup = plain(&[])?;
     let entry = Entry::new(1, fields_of(WEEK_FIELDS)?).ok_or("no entry")?;
     let mut torn = Sink::new(alloc, 7, ROOM, 2, 0, ROOM)?;
-    Ok(fails_at(alloc, &setup, &row_of(entry, &setup), &mut torn)
-        && lines_of_front(torn.bytes(), WEEK_DATE_TABLE) == 1)
+    Ok(
+        fails_at(alloc, &setup, &row_of(entry, &setup), &mut torn)
+            && lines_of_front(torn.bytes(), WEEK_DATE_TABLE) == 1,
+    )
 }
 
 #[test]

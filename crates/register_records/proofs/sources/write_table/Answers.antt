@@ -33,12 +33,12 @@ begun g c =
 
 pub entries-init : goal.entries-init
 entries-init g c = record {
-      text = refl;
-      by = c.requires.reads;
-      failed = c.requires.goes;
-      open_ = sym c.fault.ensures ∙ c.in_default.is;
-      follows = begun g (goal.at.entries-init g c).After-write_heading;
-    }
+  text = refl;
+  by = c.requires.reads;
+  failed = c.requires.goes;
+  open_ = sym c.fault.ensures ∙ c.in_default.is;
+  follows = begun g (goal.at.entries-init g c).After-write_heading;
+}
 
 pub returns-in-Some-clause-broken : goal.returns-in-Some-clause-broken
 returns-in-Some-clause-broken g c =

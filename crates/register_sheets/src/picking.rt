@@ -4,10 +4,11 @@ ghost use Rattle.std.specs.Prelude.{◌≡◌, ◌<◌, ◌≤◌, ◌+◌, ◌+
 ghost use Rattle.std.specs.List.{concat};
 ghost use Rattle.csv.specs.Records.{fields_of};
 ghost use Rattle.register_records.specs.Entries.{Fields, text_records};
+ghost use Rattle.register_sheets.specs.Reading.{IsReading, left_of};
 ghost use Rattle.register_sheets.specs.Sheets.{HasLongField, IsPicked, all_chosen, chosen};
 
 use crate::reading::{field_at, read_next, records_of};
-use csv::ByteRecord;
+use csv::{ByteRecord, Reader};
 use std::alloc::{AllocError, Global};
 
 /// Why no fields are picked.
@@ -104,6 +105,29 @@ impl Picked {
         self.widest = usize::max(self.widest, record.len());
         Ok(())
     }
+
+    /// Appends those of each record that is left, of the first so many.
+    fn add_records(
+        &mut self,
+        records: &mut Reader<&[u8]>,
+        record: &mut ByteRecord,
+        places: &[u32],
+        most: usize,
+    ) -> Result<(), PickFault>
+        requires reading { IsReading records.old }
+        requires none { IsPicked places.now self.old [] }
+        ensures picked { OnOk result (IsPicked places.now self.new (take most (left_of records.old))) }
+        ensures long { IfErr result (λ e. e ≡ PickFault.LongField
+            → HasLongField (all_chosen places.now (take most (left_of records.old)))) }
+    {
+        'records: for _ in 0..most {
+            if !read_next(records, record)? {
+                return Ok(());
+            }
+            self.add(record, places)?;
+        }
+        Ok(())
+    }
 }
 
 /// The fields at these `places`, from 0, of the first `most` records of a sheet, in order; one that a record has not is
@@ -142,11 +166,6 @@ pub fn pick(
         records: 0,
         widest: 0,
     };
-    'records: for _ in 0..most {
-        if !read_next(&mut records, &mut record)? {
-            return Ok(picked);
-        }
-        picked.add(&record, places)?;
-    }
+    picked.add_records(&mut records, &mut record, places, most)?;
     Ok(picked)
 }

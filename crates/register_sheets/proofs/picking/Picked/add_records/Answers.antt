@@ -3,7 +3,7 @@ use Rattle.std.proofs.Common.{true, Ok}
 use Rattle.csv.specs.Records.{fields_of}
 use Rattle.register_records.proofs.StepLemmas.{passed_on}
 use Rattle.register_sheets.proofs.SheetLemmas.{long_among}
-use Rattle.register_sheets.proofs.picking.pick.Goals as goal
+use Rattle.register_sheets.proofs.picking.Picked.add_records.Goals as goal
 
 pub records-preserved : goal.records-preserved
 records-preserved c =

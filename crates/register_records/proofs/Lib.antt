@@ -5,7 +5,8 @@
 --   RowTailLemmas, LineLemmas, BareLemmas: that a line is the fields of its row, for `put`, `add` and `open` of
 --   `RowWriter`.
 --   TargetRankLemmas: `is_for` of `Row`.
---   TableLemmas: what a `Table` holds; `whole`, `numbers`, `part` and `not_sealed` of `convert_source`; `tables_grow`.
+--   TableLemmas, SourceTableLemmas: what a `Table` holds; `whole`, `numbers`, `part` and `not_sealed` of
+--   `convert_source`; `tables_grow`.
 --   SomeRecordsLemmas: the rows of entries are those of some records, for `in_order` of a run.
 --   OneTableLemmas, EveryTableLemmas, ReadBackLemmas, NoLossLemmas, OneFateLemmas: the laws `one_table`,
 --   `every_text_has_table`, `cells_read_back`, `no_loss_is_sealed`, `one_fate`.

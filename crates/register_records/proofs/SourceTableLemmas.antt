@@ -1,10 +1,9 @@
--- How writing the table of a source ends.
-use Rattle.std.proofs.Common.{◌≡◌, ◌≢◌, ◌∙◌, ℕ, List, [], Option, None, Some, Err, IfSome, ap, false, length, refl}
-use Rattle.std.proofs.Common.{rules, sym, true}
-use Rattle.std.specs.Prelude.{Result}
+-- How writing the table of a source ends, for `convert_source`.
+use Rattle.std.proofs.Common.{◌≡◌, ◌≢◌, ◌⊎◌, ◌∙◌, ◌+◌, ◌-◌, ◌<◌, ◌≤◌, ◌++◌, ◌∷◌, ℕ, List, [], Option, None, Some, Err}
+use Rattle.std.proofs.Common.{IfSome, ap, arith, false, length, length-append, refl, rules, sym, true}
 use Rattle.std.specs.declared.io.traits.Read.{Ghosts}
 use Rattle.register_records.specs.Causes.{entry_fault_cause}
-use Rattle.register_records.specs.Entries.{HasAllEntries, HasTooMany, IsNotSealed, Numbered, Reading}
+use Rattle.register_records.specs.Entries.{HasAllEntries, HasTooMany, IsNotSealed, Numbered, Reading, record_limit}
 use Rattle.register_records.specs.NextEntries.{ReadsNext}
 use Rattle.register_records.specs.Sources.{IfBroken}
 use Rattle.register_records.specs.SourceTables.{IsBroken}
@@ -25,14 +24,23 @@ use Rattle.register_records.specs.declared.tables.Table.{Table}
 use Rattle.register_records.proofs.TableLemmas.{Follows, all_rows, first_rows, front, kept, marked, of_reader}
 use Rattle.register_records.proofs.TableLemmas.{only_many, only_not_sealed, other_cause}
 
--- which causes a fault of a table has, and one of a reader that goes on behind its header
+-- which causes there are of a table, of a row, and of a reader behind the header that has not failed before
 other_than : (f : Option Cause) (c d : Cause) → f ≡ Some c → IfSome f (λ c. is_of_table c ≡ true)
     → is_of_table d ≡ false → c ≢ d
 other_than f c d e of not is = search rules
 
+pub of_row : (c : Cause) → (c ≡ cause.NoMemory) ⊎ (c ≡ cause.SinkFault) → c ≢ cause.Unconfirmed
+of_row c of is = search rules
+
 of_reading : (f : EntryFault) (c : Cause) → c ≡ entry_fault_cause f → (f ≢ fault.BadHeader) × (f ≢ fault.Failed)
     → (c ≢ cause.SinkFault) × (c ≢ cause.BadHeader) × (c ≢ cause.NoThread) × (c ≢ cause.Unconfirmed)
 of_reading f c e other = search rules
+
+-- fewer entries may follow those given once another was given
+pub fewer_left : (given more : List Numbered) (entry : Numbered) (n : ℕ) → more ≡ given ++ entry ∷ []
+    → (n ≡ length given + 1) × (n ≤ record_limit) → record_limit - length more < record_limit - length given
+fewer_left given more entry n e number =
+    omega (arith, ap length e, length-append given (entry ∷ []), number.0, number.1)
 
 -- a table that goes on does not end as broken
 pub unbroken : {W : Type 0} (e : SourceEnd) (table : Table W) (IsSo : Cause → Type 0) → table_fault table ≡ None

@@ -1,6 +1,6 @@
 -- What a table in the making holds, and what the output of a source has gained.
 use Rattle.std.proofs.Common.{◌≡◌, ◌+◌, ◌++◌, ℕ, Bool, List, [], ◌∷◌, length, map, Option, None, Some, refl, sym, ap, ◌∙◌}
-use Rattle.std.proofs.Common.{◌≢◌, ◌⊎◌, IfSome, append_assoc, append-nil, arith, false, inl, inr, length-append, rules}
+use Rattle.std.proofs.Common.{◌≢◌, ◌⊎◌, append_assoc, append-nil, arith, false, inl, inr, length-append, rules}
 use Rattle.std.proofs.Common.{subst, true}
 use Rattle.std.specs.Io.KnownBytes.{Appends, append_known}
 use Rattle.std.specs.List.{AllZip, Contains, range_with_len}
@@ -17,7 +17,7 @@ use Rattle.register_records.specs.Laws.{TablesGrow}
 use Rattle.register_records.specs.Outcomes.{IsRowOf, TableRow}
 use Rattle.register_records.specs.Seen.{entry_seen}
 use Rattle.register_records.specs.Sources.{ArePartOfTable, Gains, IfWhole, IsFrontOfTable, IsTableOf, IsTableOfAll, IsWholeTable}
-use Rattle.register_records.specs.TableStates.{fault_of, is_of_table, lines_waiting, lost_output}
+use Rattle.register_records.specs.TableStates.{fault_of, lines_waiting, lost_output}
 use Rattle.register_records.specs.Tables.{Layout, heading_line, journal_of, lines_text, refusal_notes, row_line}
 use Rattle.register_records.specs.Tables.{table_text}
 use Rattle.register_records.specs.TablesWritten.{HasEnded, Holds, IsNextRow, IsSameTable, IsTableSoFar, entries_seen}
@@ -204,13 +204,6 @@ ends_so (end.Broken c) IsSo is = tt
 -- which faults there are
 pub other_cause : (f : Option Cause) (c d : Cause) → f ≡ Some c → (c ≡ d → ⊥) → f ≢ Some d
 other_cause f c d e other is = other (cc)
-
-pub no_thread : (f : Option Cause) (c : Cause) → f ≡ Some c → IfSome f (λ c. is_of_table c ≡ true) → c ≢ cause.NoThread
-no_thread f c e of is = search rules
-
-pub of_reading : (f : EntryFault) (c : Cause) → c ≡ entry_fault_cause f → (f ≡ entry.Failed → ⊥)
-    → (c ≢ cause.NoThread) × (c ≢ cause.Unconfirmed)
-of_reading f c e other = search rules
 
 -- a table that goes on has its output
 pub faultless : (s : TableState) → fault_of s ≡ None → lost_output s ≡ false

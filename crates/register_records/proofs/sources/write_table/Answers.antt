@@ -1,5 +1,4 @@
-use Rattle.std.proofs.Common.{◌≡◌, ◌≢◌, ◌∙◌, ◌+◌, ◌++◌, ◌∷◌, [], None, Ok, Some, ap, false, inl, inr, length, refl, rules, sym}
-use Rattle.std.proofs.Common.{true, ℕ}
+use Rattle.std.proofs.Common.{◌≡◌, ◌≢◌, ◌∙◌, ◌+◌, ◌++◌, ◌∷◌, [], None, Some, ap, inl, inr, length, refl, sym, ℕ}
 use Rattle.std.proofs.lemmas.List.{length-map, map-append}
 use Rattle.register_records.specs.Causes.{entry_fault_cause}
 use Rattle.register_records.specs.Entries.{HasEntries, HasFirstEntries}
@@ -8,9 +7,10 @@ use Rattle.register_records.specs.TablesWritten.{IsNextRow, table_fault}
 use Rattle.register_records.specs.Views.{given_of, targets_of, text_of}
 use Rattle.register_records.specs.declared.ends.Cause.TheVariants as cause
 use Rattle.register_records.specs.declared.rows.Row.{Row}
-use Rattle.register_records.proofs.SourceTableLemmas.{broken_by_reader, broken_by_table}
+use Rattle.register_records.proofs.SourceTableLemmas.{broken_by_reader, broken_by_table, fewer_left, of_row}
 use Rattle.register_records.proofs.StepLemmas.{passed_on}
-use Rattle.register_records.proofs.TableLemmas.{Follows, faultless, flushed, kept, marked, of_reader, whole_rows}
+use Rattle.register_records.proofs.TableLemmas.{Follows, faultless, flushed, kept, marked, of_reader, other_cause}
+use Rattle.register_records.proofs.TableLemmas.{whole_rows}
 use Rattle.register_records.proofs.sources.write_table.Given.{Over}
 use Rattle.register_records.proofs.sources.write_table.Goals.{After-write_heading, In_err-put_next, Then-branch}
 use Rattle.register_records.proofs.sources.write_table.Goals as goal
@@ -24,7 +24,8 @@ begun g c =
       holds = heads.rows [] new.empty;
       same = (heads.same.0 ∙ new.same.0, heads.same.1 ∙ new.same.1);
       all = λ none. c.requires.none_given;
-      first = of_reader HasFirstEntries _ _ _ _ _ _ refl c.requires.reads c.requires.none_given c.args.entries.now.first;
+      first = of_reader HasFirstEntries _ _ _ _ _ _ refl c.requires.reads c.requires.none_given
+          c.args.entries.now.first;
       headed = heads.headed;
       sent = heads.waiting ∙ new.none;
       confirmed = heads.fault new.goes_on;
@@ -32,13 +33,14 @@ begun g c =
     }
 
 pub entries-init : goal.entries-init
-entries-init g c = record {
-  text = refl;
-  by = c.requires.reads;
-  failed = c.requires.goes;
-  open_ = sym c.fault.ensures ∙ c.in_default.is;
-  follows = begun g (goal.at.entries-init g c).After-write_heading;
-}
+entries-init g c =
+    record {
+      text = refl;
+      by = c.requires.reads;
+      failed = c.requires.goes;
+      open_ = sym c.fault.ensures ∙ c.in_default.is;
+      follows = begun g (goal.at.entries-init g c).After-write_heading;
+    }
 
 pub returns-in-Some-clause-broken : goal.returns-in-Some-clause-broken
 returns-in-Some-clause-broken g c =
@@ -63,6 +65,14 @@ next_row g c =
 
 pub put_next-requires-clause-next : goal.put_next-requires-clause-next
 put_next-requires-clause-next g c = next_row g (goal.at.put_next-requires-clause-next g c).Then-branch
+
+pub put_next-requires-clause-open : goal.put_next-requires-clause-open
+put_next-requires-clause-open g c = c.entries.invariant.open_
+
+pub entries-smaller : goal.entries-smaller
+entries-smaller g c =
+    let read = c.in_ok-read_next.ensures.reads in let found = c.if-branch.true in
+    fewer_left _ _ _ _ ((rw found at read.gives) refl) ((rw found at read.number) refl)
 
 pub entries-preserved : goal.entries-preserved
 entries-preserved g c =
@@ -98,9 +108,7 @@ stopped : (g : Over) (c : In_err-put_next g) → c.in_err-put_next.field-0.0 ≢
 stopped g c other =
     let inv = c.entries.invariant in let f = inv.follows in
     let put = c.put_next.ensures in let fault = c.in_err-put_next.ensures.fault in
-    let is_memory : c.in_err-put_next.field-0.0 ≡ cause.NoMemory
-    = elim fault.0 [ inl is ↦ is | inr is ↦ absurd (other is) ] in
-    let memory = c.in_err-put_next.ensures.memory is_memory in
+    let memory = c.in_err-put_next.ensures.memory (elim fault.0 [ inl is ↦ is | inr is ↦ absurd (other is) ]) in
     let broke : table_fault c.put_next.new.self ≢ None = λ e. let clash = sym e ∙ fault.1 in absurd (cc) in record {
       rows = f.rows;
       holds = memory.3 f.rows f.holds;
@@ -109,7 +117,7 @@ stopped g c other =
       first = f.first;
       headed = λ e. absurd (broke e);
       sent = memory.2 ∙ f.sent;
-      confirmed = λ is. let clash : Some cause.NoMemory ≡ Some cause.Unconfirmed = sym (ap Some is_memory) ∙ sym fault.1 ∙ is in absurd (cc);
+      confirmed = other_cause _ _ _ fault.1 (of_row _ fault.0);
       lost = λ lost. let clash = sym lost ∙ memory.1 in absurd (cc);
     }
 
@@ -117,7 +125,7 @@ pub returns-in_err-put_next-clause-broken : goal.returns-in_err-put_next-clause-
 returns-in_err-put_next-clause-broken g c =
     let broke = c.in_err-put_next.ensures in
     passed_on _ c.in_err-put_next.field-0.0 _ c.from_residual-in_err-put_next.ensures.1
-    (broken_by_table _ _ _ _ _ _ _ _ broke.fault.1 (λ is. elim broke.fault.0 [ inl e ↦ let clash = sym e ∙ is in absurd (cc) | inr e ↦ let clash = sym e ∙ is in absurd (cc) ]) broke.sink
+    (broken_by_table _ _ _ _ _ _ _ _ broke.fault.1 (of_row _ broke.fault.0) broke.sink
     (c.put_next.ensures.mark ∙ marked _ _ _ _ _ _ _ c.entries.invariant.follows)
     (stopped g (goal.at.returns-in_err-put_next-clause-broken g c).In_err-put_next))
 

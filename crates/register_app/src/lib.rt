@@ -6,4 +6,5 @@ mod program;
 mod program_faults;
 mod reporting;
 
-pub use program::{COMPLETE, INCOMPLETE, Outcome, answer};
+pub use command_lines::{COMPLETE, INCOMPLETE};
+pub use program::{Outcome, answer};

@@ -18,6 +18,7 @@ ghost use Rattle.register_arguments.specs.Requests.{AreWrong, IsFaultOf, MeanJus
 use crate::program_faults::ProgramFault;
 use crate::reporting::report_ends;
 use arrayvec::ArrayString;
+use command_lines::{COMPLETE, INCOMPLETE};
 use register_arguments::{
     HELP, Job, MAX_FILES, MEMORY_FAULT, PRINT_FAULT, Request, RequestFault, VERSION, read_request,
 };
@@ -29,12 +30,6 @@ use std::io::Read;
 use std::sync::Wait;
 use std::thread::Threads;
 use std::time::{Clock, CpuClock};
-
-/// The status where all texts were converted, refused records included, or a page was printed.
-pub const COMPLETE: u8 = 0;
-
-/// The status where the conversion of a text broke off, or a page could not be printed.
-pub const INCOMPLETE: u8 = 1;
 
 /// Memory ran out before the run.
 const OUT_OF_MEMORY: u8 = 3;

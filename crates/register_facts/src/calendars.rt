@@ -1,5 +1,6 @@
 //! The calendars and the targets of a table.
 
+use crate::named::Named;
 use crate::options::setup_of;
 use date_texts::{Calendar, Target, cell, day_of_date, read_date};
 use day_numbers::Day;
@@ -15,8 +16,8 @@ pub struct FirstDay {
     julian: String,
 }
 
-/// A calendar: its name, how its dates are written, its date on 12 November 1945, its first day, and the year before its
-/// year 1, where it has them.
+/// A calendar: its name, how its dates are written, its date on 12 November 1945, its first day, and the year before
+/// its year 1, where it has them.
 #[derive(Drop, Serialize)]
 pub struct CalendarFacts {
     name: &'static str,
@@ -24,13 +25,6 @@ pub struct CalendarFacts {
     example: String,
     first_day: Option<FirstDay>,
     year_before_1: Option<i8>,
-}
-
-/// The names of targets: those that a table has where none are asked for, and all.
-#[derive(Drop, Serialize)]
-pub struct TargetFacts {
-    default: Vec<&'static str>,
-    all: Vec<&'static str>,
 }
 
 /// The number of the first of all days.
@@ -94,32 +88,26 @@ fn first_day(alloc: Global, calendar: Calendar) -> Result<Option<FirstDay>, Allo
     }))
 }
 
-/// Whether a calendar has the date of the example in this year.
-fn has_year(
-    alloc: Global,
-    calendar: Calendar,
-    example: &str,
-    year: i8,
-) -> Result<bool, AllocError> {
-    let Some((_, rest)) = example.split_once('-') else {
-        return Ok(false);
-    };
-    let text = format!(in alloc; "{year}-{rest}")?;
-    let day = match read_date(calendar, text.as_str()) {
-        Ok(date) => day_of_date(&date),
-        Err(refusal) => Err(refusal),
-    };
-    Ok(day.is_ok())
+/// Whether a calendar has this date.
+fn is_date(calendar: Calendar, text: &str) -> bool {
+    match read_date(calendar, text) {
+        Ok(date) => day_of_date(&date).is_ok(),
+        Err(_) => false,
+    }
 }
 
-/// The year before year 1 of a calendar, or `None` where it has none.
+/// The year before year 1 of a calendar, which has the date of the example too, or `None` where it has none.
 fn year_before_1(
     alloc: Global,
     calendar: Calendar,
     example: &str,
 ) -> Result<Option<i8>, AllocError> {
-    for year in [0, -1] {
-        if has_year(alloc, calendar, example, year)? {
+    let Some((_, rest)) = example.split_once('-') else {
+        return Ok(None);
+    };
+    for (year, begin) in [(0, "0-"), (-1, "-1-")] {
+        let text = [begin, rest].concat(alloc)?;
+        if is_date(calendar, text.as_str()) {
             return Ok(Some(year));
         }
     }
@@ -152,11 +140,11 @@ pub fn names_of(alloc: Global, targets: &[Target]) -> Result<Vec<&'static str>, 
     Ok(names)
 }
 
-/// The targets without `--to`, as the arguments are read, and all.
-pub fn target_facts(alloc: Global) -> io::Result<TargetFacts> {
+/// The names of the targets without `--to`, as the arguments are read, and of all.
+pub fn target_facts(alloc: Global) -> io::Result<Named<Vec<&'static str>>> {
     let setup = setup_of(alloc, &[])?;
-    Ok(TargetFacts {
-        default: names_of(alloc, setup.targets())?,
-        all: names_of(alloc, &Target::ALL)?,
-    })
+    let default = names_of(alloc, setup.targets())?;
+    let all = names_of(alloc, &Target::ALL)?;
+    let targets = [("default", default), ("all", all)];
+    Ok(Named(Vec::from_array(alloc, targets)?))
 }

@@ -4,95 +4,94 @@
 #![tactic(auto)]
 
 mod calendars;
+mod named;
 mod options;
 mod tables;
 
-use calendars::{CalendarFacts, TargetFacts, calendar_facts, target_facts};
-use options::{OptionFacts, option_facts, sheet_option_facts};
-use register_app::{COMPLETE, INCOMPLETE};
+use calendars::{calendar_facts, target_facts};
+use command_lines::{COMPLETE, INCOMPLETE};
+use named::Named;
+use options::{option_facts, sheet_option_facts};
 use register_arguments::{MAX_FILES, RequestFault, VERSION};
 use register_records::{CALENDAR_LIMIT, DATE_LIMIT, ID_LIMIT, MAX_RECORDS, NOTE_LIMIT};
-use serde::Serialize;
-use std::alloc::Global;
+use serde::{Described, Serialize, Serializer};
+use std::alloc::{AllocError, Global};
 use std::io;
-use tables::{FormFacts, Sentence, cause_sentences, form_facts, refusal_sentences};
-
-/// The exit statuses.
-#[derive(Drop, Serialize)]
-struct Statuses {
-    complete: u8,
-    incomplete: u8,
-    refused: u8,
-    not_begun: u8,
-}
+use tables::{cause_sentences, plain_form, refusal_sentences, sealed_form};
 
 /// The most bytes of each field, and the most records and files.
-#[derive(Drop, Serialize)]
-struct Limits {
-    id: usize,
-    calendar: usize,
-    date: usize,
-    note: usize,
-    records: u32,
-    files: usize,
-}
+const LIMITS: [(&str, usize); 6] = [
+    ("id", ID_LIMIT),
+    ("calendar", CALENDAR_LIMIT),
+    ("date", DATE_LIMIT),
+    ("note", NOTE_LIMIT),
+    ("records", MAX_RECORDS as usize),
+    ("files", MAX_FILES),
+];
 
-/// All that is printed.
-#[derive(Drop, Serialize)]
-struct Facts {
-    version: &'static str,
-    calendars: Vec<CalendarFacts>,
-    targets: TargetFacts,
-    plain: FormFacts,
-    sealed: FormFacts,
-    refusals: Vec<Sentence>,
-    causes: Vec<Sentence>,
-    statuses: Statuses,
-    options: Vec<OptionFacts>,
-    sheet_options: Vec<OptionFacts>,
-    limits: Limits,
+fn known_limits(alloc: Global) -> Result<Named<usize>, AllocError> {
+    Ok(Named(Vec::from_array(alloc, LIMITS)?))
 }
 
 /// The statuses: of a run that is complete, of one that broke off, of arguments that are refused, and of one that did
 /// not begin.
-fn known_statuses() -> Statuses {
-    Statuses {
-        complete: COMPLETE,
-        incomplete: INCOMPLETE,
-        refused: RequestFault::TooManyFiles.status(),
-        not_begun: RequestFault::OutOfMemory.status(),
+fn known_statuses(alloc: Global) -> Result<Named<u8>, AllocError> {
+    let statuses = [
+        ("complete", COMPLETE),
+        ("incomplete", INCOMPLETE),
+        ("refused", RequestFault::TooManyFiles.status()),
+        ("not_begun", RequestFault::OutOfMemory.status()),
+    ];
+    Ok(Named(Vec::from_array(alloc, statuses)?))
+}
+
+/// All that is printed: each part is found when it is written, so that none is held beside the others.
+#[derive(Drop)]
+struct Facts {
+    alloc: Global,
+}
+
+/// Writes a part under its name, if it was found.
+fn write_part<S: Serializer, T: Serialize + Drop, E: Drop>(
+    out: &mut S,
+    name: &str,
+    part: Result<T, E>,
+) -> Result<(), S::Error> {
+    match part {
+        Ok(found) => {
+            out.key(name)?;
+            found.serialize(out)
+        }
+        Err(_) => Err(out.custom("a part was not found")),
     }
 }
 
-const LIMITS: Limits = Limits {
-    id: ID_LIMIT,
-    calendar: CALENDAR_LIMIT,
-    date: DATE_LIMIT,
-    note: NOTE_LIMIT,
-    records: MAX_RECORDS,
-    files: MAX_FILES,
-};
+impl Described for Facts {}
 
-fn all_facts(alloc: Global) -> io::Result<Facts> {
-    Ok(Facts {
-        version: VERSION,
-        calendars: calendar_facts(alloc)?,
-        targets: target_facts(alloc)?,
-        plain: form_facts(alloc, &[], "id,calendar,date", "")?,
-        sealed: form_facts(alloc, &["--sealed"], "id,calendar,date,note", "END,0\n")?,
-        refusals: refusal_sentences(alloc)?,
-        causes: cause_sentences(alloc)?,
-        statuses: known_statuses(),
-        options: option_facts(alloc)?,
-        sheet_options: sheet_option_facts(alloc)?,
-        limits: LIMITS,
-    })
+impl Serialize for Facts {
+    fn serialize<S: Serializer>(&self, out: &mut S) -> Result<(), S::Error> {
+        let alloc = self.alloc;
+        out.begin_map(None)?;
+        out.key("version")?;
+        out.str(VERSION)?;
+        write_part(out, "calendars", calendar_facts(alloc))?;
+        write_part(out, "targets", target_facts(alloc))?;
+        write_part(out, "plain", plain_form(alloc))?;
+        write_part(out, "sealed", sealed_form(alloc))?;
+        write_part(out, "refusals", refusal_sentences(alloc))?;
+        write_part(out, "causes", cause_sentences(alloc))?;
+        write_part(out, "statuses", known_statuses(alloc))?;
+        write_part(out, "options", option_facts(alloc))?;
+        write_part(out, "sheet_options", sheet_option_facts(alloc))?;
+        write_part(out, "limits", known_limits(alloc))?;
+        out.end_map()
+    }
 }
 
 fn main(rt: HostRuntime) -> io::Result<()> {
-    let facts = all_facts(rt.alloc())?;
+    let facts = Facts { alloc: rt.alloc() };
     match serde_json::to_string_pretty(rt.alloc(), &facts) {
         Ok(text) => println!(rt; "{text}"),
-        Err(_) => Err(io::Error::from(io::ErrorKind::OutOfMemory)),
+        Err(_) => Err(io::Error::from(io::ErrorKind::Other)),
     }
 }

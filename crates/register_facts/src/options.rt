@@ -1,8 +1,10 @@
 //! The options of the command line: what clap has of them, and what the program takes.
 
 use crate::calendars::names_of;
+use crate::tables::displayed;
 use clap::{Arg, Command};
 use date_texts::Target;
+use itoa::Buffer;
 use register_arguments::{NO_TARGET, Request, command, read_request};
 use register_records::Setup;
 use serde::Serialize;
@@ -26,20 +28,16 @@ pub struct OptionFacts {
 const MOST: usize = 1 << 17;
 
 /// What these arguments ask for, or `None` where they ask for no table.
-fn asked_by(alloc: Global, arguments: &[&str]) -> Result<Option<Setup>, AllocError> {
-    let mut owned = Vec::new(alloc);
-    for argument in arguments {
-        owned.push(String::from_str(alloc, argument)?)?;
-    }
-    match read_request(alloc, owned.as_slice()) {
-        Ok(Request::Convert(job)) => Ok(Some(job.setup)),
-        _ => Ok(None),
+fn asked_by(alloc: Global, arguments: &[String]) -> Option<Setup> {
+    match read_request(alloc, arguments) {
+        Ok(Request::Convert(job)) => Some(job.setup),
+        _ => None,
     }
 }
 
 /// What these arguments ask for, which has to be a table.
-pub fn setup_of(alloc: Global, arguments: &[&str]) -> io::Result<Setup> {
-    match asked_by(alloc, arguments)? {
+pub fn setup_of(alloc: Global, arguments: &[String]) -> io::Result<Setup> {
+    match asked_by(alloc, arguments) {
         Some(setup) => Ok(setup),
         None => Err(io::Error::from(io::ErrorKind::InvalidInput)),
     }
@@ -57,7 +55,7 @@ fn are_alike(one: &Setup, other: &Setup) -> bool {
 impl OptionFacts {
     /// An option of clap, written as `--ring <N>`, of whose values nothing is known yet.
     fn new(alloc: Global, argument: &Arg<'_>) -> Result<OptionFacts, AllocError> {
-        let written = format!(in alloc; "{argument}")?;
+        let written = displayed(alloc, argument)?;
         let value = match written.as_str().split_once(" <") {
             Some((_, value)) => Some(String::from_str(alloc, value.trim_end_matches('>'))?),
             None => None,
@@ -80,8 +78,8 @@ impl OptionFacts {
         without: &Setup,
         value: &str,
     ) -> Result<bool, AllocError> {
-        let option = format!(in alloc; "--{}={value}", self.name)?;
-        let Some(setup) = asked_by(alloc, &[option.as_str()])? else {
+        let arguments = [["--", self.name.as_str(), "=", value].concat(alloc)?];
+        let Some(setup) = asked_by(alloc, &arguments) else {
             return Ok(false);
         };
         if are_alike(&setup, without) {
@@ -90,17 +88,10 @@ impl OptionFacts {
         Ok(true)
     }
 
-    /// Asks for each of these words.
-    fn try_words<'a>(
-        &mut self,
-        alloc: Global,
-        without: &Setup,
-        words: &[&'a str],
-    ) -> Result<(), AllocError> {
-        for word in words {
-            if self.try_value(alloc, without, word)? {
-                self.words.push(String::from_str(alloc, word)?)?;
-            }
+    /// Asks for this word.
+    fn try_word(&mut self, alloc: Global, without: &Setup, word: &str) -> Result<(), AllocError> {
+        if self.try_value(alloc, without, word)? {
+            self.words.push(String::from_str(alloc, word)?)?;
         }
         Ok(())
     }
@@ -112,8 +103,8 @@ impl OptionFacts {
         without: &Setup,
         number: usize,
     ) -> Result<bool, AllocError> {
-        let value = format!(in alloc; "{number}")?;
-        self.try_value(alloc, without, value.as_str())
+        let mut buffer = Buffer::new();
+        self.try_value(alloc, without, buffer.format(number))
     }
 
     /// Asks for numbers: for the greatest by halving, where 1 is taken, and for those that hold without options.
@@ -130,11 +121,8 @@ impl OptionFacts {
                 other = middle;
             }
         }
-        self.least = Some(if self.try_number(alloc, without, 0)? {
-            0
-        } else {
-            1
-        });
+        let takes_zero = self.try_number(alloc, without, 0)?;
+        self.least = Some(usize::from(!takes_zero));
         self.most = Some(taken);
         for number in [without.ring(), without.stripes()] {
             self.try_number(alloc, without, number)?;
@@ -149,18 +137,14 @@ impl OptionFacts {
             return Ok(());
         };
         let named = value.clone()?;
-        let mut list = String::new(alloc);
-        for name in names_of(alloc, without.targets())?.iter() {
-            if !list.is_empty() {
-                list.push(',')?;
-            }
-            list.push_str(name)?;
-        }
+        let list = names_of(alloc, without.targets())?.join(alloc, ",")?;
         self.try_value(alloc, without, list.as_str())?;
-        self.try_words(alloc, without, names_of(alloc, &Target::ALL)?.as_slice())?;
-        self.try_words(alloc, without, &[NO_TARGET])?;
+        for target in Target::ALL {
+            self.try_word(alloc, without, target.name())?;
+        }
+        self.try_word(alloc, without, NO_TARGET)?;
         for word in named.as_str().split('|') {
-            self.try_words(alloc, without, &[word])?;
+            self.try_word(alloc, without, word)?;
         }
         self.try_numbers(alloc, without)
     }

@@ -1,19 +1,13 @@
 //! The columns of tables, and the sentences of refusals and causes.
 
+use crate::named::Named;
 use crate::options::setup_of;
 use date_texts::Refusal;
-use register_records::{Cause, PlainOutput, convert_source};
+use register_records::{Cause, PlainOutput, Setup, convert_source};
 use serde::Serialize;
 use std::alloc::{AllocError, Global};
 use std::fmt::Display;
-use std::{io, str};
-
-/// A form of registers: the header, as it is accepted, and the columns of a table where no targets are asked for.
-#[derive(Drop, Serialize)]
-pub struct FormFacts {
-    header: Vec<String>,
-    columns: Vec<String>,
-}
+use std::io;
 
 /// A number of a table or a message, and what it means.
 #[derive(Drop, Serialize)]
@@ -43,46 +37,58 @@ const CAUSES: [Cause; 8] = [
     Cause::NotSealed,
 ];
 
-/// The fields of a line.
-fn fields_of(alloc: Global, line: &str) -> Result<Vec<String>, AllocError> {
+/// The fields of the first line of a text.
+fn fields_of(alloc: Global, text: &str) -> Result<Vec<String>, AllocError> {
     let mut fields = Vec::new(alloc);
-    for field in line.split(',') {
+    for field in text.lines().next().unwrap_or("").split(',') {
         fields.push(String::from_str(alloc, field)?)?;
     }
     Ok(fields)
 }
 
-/// What is known of the form that these arguments ask for, from a register of this header and end alone.
-pub fn form_facts(
-    alloc: Global,
-    arguments: &[&str],
-    header: &str,
-    end: &str,
-) -> io::Result<FormFacts> {
-    let setup = setup_of(alloc, arguments)?;
-    let register = format!(in alloc; "{header}\n{end}")?;
+/// The table of a register, which has to be whole.
+fn table_of(alloc: Global, setup: &Setup, register: &str) -> io::Result<String> {
     let mut output = PlainOutput::new(Vec::new(alloc), 1);
-    let is_whole = convert_source(
-        alloc,
-        register.as_str().as_bytes(),
-        &mut output,
-        &setup,
-    ).is_whole();
-    let table = output.into_inner();
-    match str::from_utf8(table.as_slice()) {
-        Ok(heading) if is_whole => Ok(FormFacts {
-            header: fields_of(alloc, header)?,
-            columns: fields_of(alloc, heading.trim_end())?,
-        }),
-        _ => Err(io::Error::from(io::ErrorKind::InvalidData)),
+    let end = convert_source(alloc, register.as_bytes(), &mut output, setup);
+    if end.is_whole() {
+        if let Ok(table) = String::from_utf8(output.into_inner()) {
+            return Ok(table);
+        }
     }
+    Err(io::Error::from(io::ErrorKind::InvalidData))
+}
+
+/// A form of registers: the header, as it is accepted, and the columns of a table where no targets are asked for, from
+/// a register without records.
+fn form_of(alloc: Global, setup: &Setup, register: &str) -> io::Result<Named<Vec<String>>> {
+    let table = table_of(alloc, setup, register)?;
+    let header = fields_of(alloc, register)?;
+    let columns = fields_of(alloc, table.as_str())?;
+    let form = [("header", header), ("columns", columns)];
+    Ok(Named(Vec::from_array(alloc, form)?))
+}
+
+/// What is known of registers without seals.
+pub fn plain_form(alloc: Global) -> io::Result<Named<Vec<String>>> {
+    let setup = setup_of(alloc, &[])?;
+    form_of(alloc, &setup, "id,calendar,date\n")
+}
+
+/// What is known of those with seals.
+pub fn sealed_form(alloc: Global) -> io::Result<Named<Vec<String>>> {
+    let arguments = [String::from_str(alloc, "--sealed")?];
+    let setup = setup_of(alloc, &arguments)?;
+    form_of(alloc, &setup, "id,calendar,date,note\nEND,0\n")
+}
+
+/// A text of what can be displayed.
+pub fn displayed(alloc: Global, words: &impl Display) -> Result<String, AllocError> {
+    format!(in alloc; "{words}")
 }
 
 fn numbered(alloc: Global, number: u8, words: &impl Display) -> Result<Sentence, AllocError> {
-    Ok(Sentence {
-        number,
-        sentence: format!(in alloc; "{words}")?,
-    })
+    let sentence = displayed(alloc, words)?;
+    Ok(Sentence { number, sentence })
 }
 
 /// Why records are refused.

@@ -14,4 +14,5 @@ mod sheet_faults;
 mod sheets;
 
 pub use converting::EndedSheet;
-pub use program::{COMPLETE, INCOMPLETE, Outcome, answer};
+pub use command_lines::{COMPLETE, INCOMPLETE};
+pub use program::{Outcome, answer};

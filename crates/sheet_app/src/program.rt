@@ -20,18 +20,13 @@ use crate::file_sheets::{FileFault, FileSheet, open_sheets};
 use crate::name_lists::list_of;
 use crate::program_faults::ProgramFault;
 use arrayvec::ArrayString;
+use command_lines::{COMPLETE, INCOMPLETE};
 use register_files::FileStore;
 use register_records::{Output, send};
 use register_sheets::{NameList, NameListFault};
 use sheet_arguments::{HELP, Job, MEMORY_FAULT, PRINT_FAULT, Request, VERSION, read_request};
 use std::alloc::Global;
 use std::io::Read;
-
-/// The status where all sheets were converted, refused dates included, or a page was printed.
-pub const COMPLETE: u8 = 0;
-
-/// The status where a sheet broke off, or a page could not be printed.
-pub const INCOMPLETE: u8 = 1;
 
 /// Memory ran out before the first sheet was read.
 const OUT_OF_MEMORY: u8 = 3;

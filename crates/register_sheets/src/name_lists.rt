@@ -1,16 +1,17 @@
 //! Lists of names, read from a text.
 
-ghost use Rattle.std.specs.Prelude.{◌≡◌, ◌↔◌, ◌∷◌, [], IfOk, IfErr, map, true};
+ghost use Rattle.std.specs.Prelude.{◌≡◌, ◌↔◌, ◌∷◌, [], IfOk, IfErr, OnOk, map, true};
 ghost use Rattle.csv.specs.Records.{fields_of};
 ghost use Rattle.register_records.specs.Entries.{text_records};
 ghost use Rattle.register_sheets.specs.NameLists.{IsFaultOf, IsLine, IsListOf, IsRefused, columns};
 ghost use Rattle.register_sheets.specs.NameLists.{calendar_names_in, calendar_seen, name_seen, names_in_dates};
+ghost use Rattle.register_sheets.specs.Reading.{IsReading, left_of};
 ghost use Rattle.register_sheets.specs.Sheets.{chosen};
 
 use crate::name_calendars::calendars_said;
 use crate::name_meanings::{Means, means_said};
 use crate::reading::{field_at, read_next, records_of};
-use csv::ByteRecord;
+use csv::{ByteRecord, Reader};
 use std::alloc::{AllocError, Global};
 use std::str;
 use written_dates::{CalendarName, Calendars, Name};
@@ -105,16 +106,34 @@ impl NameList {
     {
         let mut records = records_of(alloc, text, b',');
         let mut record = ByteRecord::new(alloc);
-        if !read_next(&mut records, &mut record)? || !is_header(&record) {
+        let mut list = NameList {
+            lines: Vec::new(alloc),
+        };
+        list.add_lines(alloc, &mut records, &mut record)?;
+        Ok(list)
+    }
+
+    /// Adds the lines of a list of which no record is read yet.
+    fn add_lines(
+        &mut self,
+        alloc: Global,
+        records: &mut Reader<&[u8]>,
+        record: &mut ByteRecord,
+    ) -> Result<(), NameListFault>
+        requires reading { IsReading records.old }
+        requires none { self.old.lines.items ≡ [] }
+        ensures list { OnOk result (IsListOf (left_of records.old) self.new.lines.items) }
+        ensures fault { IfErr result (IsFaultOf (left_of records.old)) }
+    {
+        if !read_next(records, record)? || !is_header(record) {
             return Err(NameListFault::Header);
         }
-        let mut lines = Vec::new(alloc);
         'records: loop {
-            if !read_next(&mut records, &mut record)? {
-                return Ok(NameList { lines });
+            if !read_next(records, record)? {
+                return Ok(());
             }
-            let line = line_of(alloc, &record, lines.len() + 1)?;
-            if lines.push(line).is_err() {
+            let line = line_of(alloc, record, self.lines.len() + 1)?;
+            if self.lines.push(line).is_err() {
                 return Err(NameListFault::OutOfMemory);
             }
         }

@@ -1,9 +1,9 @@
 use Rattle.std.proofs.Common.{rules, ◌≡◌, ◌∙◌, ◌++◌, ◌+◌, ◌∷◌, [], is_ok, ap, sym, append_assoc, Ok, true}
 use Rattle.csv.specs.Records.{fields_of}
-use Rattle.register_records.specs.Entries.{text_records}
 use Rattle.register_sheets.specs.NameLists.{IsFaultOf}
+use Rattle.register_sheets.specs.Reading.{left_of}
 use Rattle.register_sheets.proofs.NameListLemmas.{first_fault, lines_more}
-use Rattle.register_sheets.proofs.name_lists.NameList.read.Goals as goal
+use Rattle.register_sheets.proofs.name_lists.NameList.add_lines.Goals as goal
 
 pub returns-in_err-line-clause-fault : goal.returns-in_err-line-clause-fault
 returns-in_err-line-clause-fault c =
@@ -12,7 +12,7 @@ returns-in_err-line-clause-fault c =
     let found = c.read_next-in-records.ensures.found (c.in_ok-read_next-2.was ∙ ap Ok yes) in
     let fault = rw c.in_err-line.was at c.line_of.ensures.fault in
     let first = first_fault header before _ _ _ _ _ is are (ap (λ n. n + 1) (search rules)) fault in
-    let all : IsFaultOf (text_records 44 c.args.text.now) c.in_err-line.field-0.0 =
+    let all : IsFaultOf (left_of c.args.records.now) c.in_err-line.field-0.0 =
     rw (text ∙ ap (λ rest. header ∷ before ++ rest) found) first in
     search rules
 

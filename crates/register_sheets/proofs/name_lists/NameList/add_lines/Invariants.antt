@@ -1,9 +1,9 @@
 use Rattle.std.proofs.Common.{◌≡◌, ◌++◌, List, length}
-use Rattle.register_records.specs.Entries.{Fields, text_records}
+use Rattle.register_records.specs.Entries.{Fields}
 use Rattle.register_sheets.specs.NameLists.{AreLines, columns}
 use Rattle.register_sheets.specs.Reading.{IsReading, left_of}
 use Rattle.register_sheets.specs.Sheets.{chosen}
-use Rattle.register_sheets.proofs.name_lists.NameList.read.Given as goal
+use Rattle.register_sheets.proofs.name_lists.NameList.add_lines.Given as goal
 use Rattle.std.proofs.Common.{◌∷◌, []}
 
 -- the records so far are lines
@@ -12,8 +12,8 @@ invariant-records l =
     record {
       reading : IsReading l.records;
       lines : (header : Fields) × (before : List Fields)
-          × (chosen (0 ∷ 1 ∷ 2 ∷ []) header ≡ columns) × AreLines before l.lines.items
-          × (text_records 44 l.text ≡ header ∷ before ++ left_of l.records);
+          × (chosen (0 ∷ 1 ∷ 2 ∷ []) header ≡ columns) × AreLines before l.self.lines.items
+          × (left_of l.fn.records ≡ header ∷ before ++ left_of l.records);
     }
 
 abbrev pub decreases-records : goal.decreases-records

@@ -1,12 +1,12 @@
 -- How far records are written to an output. No public contract cites this file.
 use Rattle.std.specs.Prelude.{◌≡◌, ◌⊎◌, ◌≤◌, ◌++◌, ℕ, Bool, true, false, List, [], Option, Result, Ok, Err, IfErr, OnOk}
-use Rattle.std.specs.Prelude.{None, Some, count_by, get_or, length, take}
+use Rattle.std.specs.Prelude.{◌∷◌, None, Some, count_by, drop, get_or, length, map, take}
 use Rattle.std.specs.Io.KnownBytes.{Appends}
 use Rattle.register_records.specs.Entries.{Fields, record_limit}
 use Rattle.register_records.specs.Outcomes.{TableRow}
 use Rattle.register_sheets.specs.Converted.{AreRowsFrom, column_rows, is_refused}
 use Rattle.register_sheets.specs.LineViews.{Begins}
-use Rattle.register_sheets.specs.Sheets.{records_text}
+use Rattle.register_sheets.specs.Sheets.{filled, records_text}
 use Rattle.register_sheets.specs.declared.choices.SheetChoice.{SheetChoice}
 use Rattle.register_sheets.specs.declared.lines.SheetLines.{SheetLines}
 use Rattle.register_sheets.specs.declared.sheet_ends.SheetCause.{SheetCause}
@@ -63,3 +63,9 @@ count_of (Ok (Some (count, false))) = Ok count
 count_of (Ok (Some (count, true))) = Err cause.TooManyRecords
 count_of (Ok None) = Err cause.NoNames
 count_of (Err c) = Err c
+
+-- the records of the sheet that comes back down to the names
+abbrev pub top_records : SheetChoice → ℕ → List Fields → List Fields
+top_records choice width records =
+    take choice.above records
+    ++ (filled width (get_or (drop choice.above records) 0 []) ++ map (λ name. name.now) choice.headings.now) ∷ []

@@ -13,11 +13,11 @@ ghost use Rattle.register_sheets.specs.Converted.{sheet_width};
 ghost use Rattle.register_sheets.specs.LineViews.{GainsFields};
 ghost use Rattle.register_sheets.specs.Reading.{IsReading, left_of};
 ghost use Rattle.register_sheets.specs.RowViews.{CountsMore, CountsRefused, HasPlace, NoneUnread, rows_seen};
-ghost use Rattle.register_sheets.specs.Sending.{CountsAll, Ends, HasBody, HasFront, HasMade, end_of};
+ghost use Rattle.register_sheets.specs.Sending.{CountsAll, Ends, HasBody, HasFront, HasMade, end_of, top_records};
 ghost use Rattle.register_sheets.specs.Sheets.{filled, widest};
 ghost use Rattle.register_sheets.specs.UnknownNames.{AreUnread, AreUnreadIn, all_dates, dates_of};
 
-use crate::choices::SheetSetup;
+use crate::choices::{SheetChoice, SheetSetup};
 use crate::lines::SheetLines;
 use crate::own_fields::push_own;
 use crate::reading::{read_next, records_of};
@@ -220,6 +220,34 @@ fn write_body<W: Output>(
     }
 }
 
+/// Writes of a sheet of which no record is read yet those above the names, and the names with the headings.
+fn write_top<W: Output>(
+    records: &mut Reader<&[u8]>,
+    record: &mut ByteRecord,
+    width: usize,
+    choice: &SheetChoice,
+    sender: &mut SheetSender,
+    output: &mut W,
+) -> Result<(), SheetCause>
+    requires reading { IsReading records.old }
+    requires named { choice.now.above < length (left_of records.old) }
+    requires unsent { (begun : Option (List ℕ)) → HasMade choice.now.delimiter begun begun sender.old.lines [] [] }
+    requires delimiter { sender.old.delimiter ≡ choice.now.delimiter }
+    ensures reading { OnOk result (IsReading records.new) }
+    ensures left { OnOk result (left_of records.new ≡ drop 1 (drop choice.now.above (left_of records.old))) }
+    ensures kept { sender.new.delimiter ≡ choice.now.delimiter }
+    ensures made { OnOk result (HasMade choice.now.delimiter (W.contents output.old) (W.contents output.new)
+        sender.new.lines (top_records choice.now width (left_of records.old)) []) }
+    ensures part { IfErr result (λ c. c ≡ SheetCause.NoMemory → HasFront choice.now.delimiter
+        (W.contents output.old) (W.contents output.new) (take choice.now.above (left_of records.old))) }
+    ensures output { Ends result (W.has_failed output.old) (W.has_failed output.new) (W.own_mark output.old)
+        (W.own_mark output.new) }
+{
+    copy_records(records, record, choice.above, sender, output)?;
+    write_head(records, record, width, choice.headings, sender, output)?;
+    Ok(())
+}
+
 /// Writes the sheet that comes back, of which no record is read yet, and sends all of it; returns what `write_body` does.
 fn write_sheet<W: Output>(
     records: &mut Reader<&[u8]>,
@@ -250,15 +278,7 @@ fn write_sheet<W: Output>(
     ensures output { Ends result (W.has_failed output.old) (W.has_failed output.new) (W.own_mark output.old)
         (W.own_mark output.new) }
 {
-    copy_records(records, record, setup.choice.above, sender, output)?;
-    write_head(
-        records,
-        record,
-        width,
-        setup.choice.headings,
-        sender,
-        output,
-    )?;
+    write_top(records, record, width, &setup.choice, sender, output)?;
     let written = write_body(records, record, width, setup, rows, sender, output)?;
     sender.send(output)?;
     Ok(written)

@@ -39,6 +39,17 @@ pub(crate) fn record_below(
     }
 }
 
+/// Makes a text of two others with a space between them.
+fn join(text: &mut Vec<u8>, first: &[u8], second: &[u8]) -> Result<(), AllocError>
+    ensures { OnOk result (text.new.items ≡ first.now ++ 32 ∷ second.now) }
+{
+    text.clear();
+    text.extend_from_slice(first)?;
+    text.push(b' ')?;
+    text.extend_from_slice(second)?;
+    Ok(())
+}
+
 /// The names of a sheet, and those of the new columns so far.
 #[derive(Drop)]
 struct NewNames {
@@ -86,10 +97,7 @@ impl NewNames {
     {
         let mut name = Vec::new(self.alloc);
         'numbers: for number in 2..u64::MAX {
-            name.clear();
-            name.extend_from_slice(wanted)?;
-            name.push(b' ')?;
-            name.extend_from_slice(Buffer::new().format(number).as_bytes())?;
+            join(&mut name, wanted, Buffer::new().format(number).as_bytes())?;
             if !self.is_taken(name.as_slice()) {
                 return Ok(name);
             }
@@ -124,9 +132,8 @@ impl NewNames {
         if !several {
             return Ok(name.to_vec(self.alloc)?);
         }
-        let mut wanted = field_at(&self.own, date.date as usize).to_vec(self.alloc)?;
-        wanted.push(b' ')?;
-        wanted.extend_from_slice(name)?;
+        let mut wanted = Vec::new(self.alloc);
+        join(&mut wanted, field_at(&self.own, date.date as usize), name)?;
         Ok(wanted)
     }
 

@@ -60,6 +60,22 @@ pub(crate) fn pass_names(
     read_next(records, record)
 }
 
+/// Reads the record with the names of a sheet's columns, and says whether there is one.
+fn read_head(
+    alloc: Global,
+    sheet: &[u8],
+    delimiter: u8,
+    above: u32,
+    record: &mut ByteRecord,
+) -> Result<bool, AllocError>
+    ensures named { result ≡ Ok true → above < length (text_records delimiter sheet.now) }
+    ensures found { result ≡ Ok true → fields_of record.new ≡ get_or (text_records delimiter sheet.now) above [] }
+    ensures none { result ≡ Ok false → length (text_records delimiter sheet.now) ≤ above }
+{
+    let mut records = records_of(alloc, sheet, delimiter);
+    pass_names(&mut records, record, above)
+}
+
 /// The record with the names of a sheet's columns, which stands below so many others; `None` where there is none.
 pub fn head_record(
     alloc: Global,
@@ -71,9 +87,8 @@ pub fn head_record(
         × (fields_of names ≡ get_or (text_records delimiter sheet.now) above []))) }
     ensures none { IfOk result (λ found. IfNone found (length (text_records delimiter sheet.now) ≤ above)) }
 {
-    let mut records = records_of(alloc, sheet, delimiter);
     let mut record = ByteRecord::new(alloc);
-    if pass_names(&mut records, &mut record, above)? {
+    if read_head(alloc, sheet, delimiter, above, &mut record)? {
         Ok(Some(record))
     } else {
         Ok(None)

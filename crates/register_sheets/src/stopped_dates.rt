@@ -172,6 +172,33 @@ impl Found {
             self.add_record(alloc, choice, record, most, &mut date)?;
         }
     }
+
+    /// Adds what is to be said of a sheet of which no record is read yet.
+    fn add_sheet(
+        &mut self,
+        alloc: Global,
+        choice: &SheetChoice,
+        records: &mut Reader<&[u8]>,
+        record: &mut ByteRecord,
+        most: usize,
+    ) -> Result<(), SheetCause>
+        requires reading { IsReading records.old }
+        requires few { length choice.now.dates.now ≤ date_limit }
+        requires none { HasFound choice.now [] most self.old }
+        ensures found { OnOk result (IsUnknown choice.now (left_of records.old) most
+            (map name_seen self.new.names.listed.items) self.new.names.more self.new.dates.short self.new.dates.kept) }
+        ensures no_names { IfErr result (λ c. c ≡ SheetCause.NoNames
+            → length (left_of records.old) ≤ choice.now.above) }
+        ensures too_many { IfErr result (λ c. c ≡ SheetCause.TooManyRecords
+            → record_limit < length (below choice.now (left_of records.old))) }
+        ensures no_sink { IfErr result (λ c. c ≢ SheetCause.SinkFault) }
+    {
+        if !pass_names(records, record, choice.above)? {
+            return Err(SheetCause::NoNames);
+        }
+        self.add_records(alloc, choice, records, record, most)?;
+        Ok(())
+    }
 }
 
 /// Appends the names of the columns of a list of names.
@@ -241,12 +268,9 @@ pub fn unknown_names(
         → record_limit < length (below setup.now.choice (text_records setup.now.choice.delimiter sheet.now))) }
     ensures no_sink { IfErr result (λ c. c ≢ SheetCause.SinkFault) }
 {
-    let choice = setup.choice;
+    let choice = &setup.choice;
     let mut records = records_of(alloc, sheet, choice.delimiter);
     let mut record = ByteRecord::new(alloc);
-    if !pass_names(&mut records, &mut record, choice.above)? {
-        return Err(SheetCause::NoNames);
-    }
     let mut found = Found {
         names: StoppedNames {
             listed: Vec::new(alloc),
@@ -254,7 +278,7 @@ pub fn unknown_names(
         },
         dates: DateCounts { short: 0, kept: 0 },
     };
-    found.add_records(alloc, &choice, &mut records, &mut record, most)?;
+    found.add_sheet(alloc, choice, &mut records, &mut record, most)?;
     Ok(Unknown {
         names: found.names.listed,
         more: found.names.more,

@@ -1,21 +1,18 @@
-use Rattle.std.proofs.Common.{◌≡◌, ◌≤◌, ◌<◌, ◌+◌, ◌∙◌, List, ap, drop, length, rules, subst, true}
-use Rattle.std.specs.Prelude.{Ok}
-use Rattle.register_records.specs.Entries.{Fields, record_limit}
-use Rattle.register_sheets.specs.FoundViews.{HasFound}
-use Rattle.register_sheets.specs.UnknownNames.{all_dates}
+use Rattle.register_records.proofs.StepLemmas.{passed_on}
 use Rattle.register_sheets.proofs.stopped_dates.unknown_names.Goals as goal
 
+pub returns-in_err-add_sheet-clause-no_names : goal.returns-in_err-add_sheet-clause-no_names
+returns-in_err-add_sheet-clause-no_names c =
+    passed_on _ _ _ c.from_residual.ensures.1
+    (rw c.records_of-records.ensures.left at c.in_err-add_sheet.ensures.no_names)
+
+pub returns-in_err-add_sheet-clause-too_many : goal.returns-in_err-add_sheet-clause-too_many
+returns-in_err-add_sheet-clause-too_many c =
+    passed_on _ _ _ c.from_residual.ensures.1
+    (rw c.records_of-records.ensures.left at c.in_err-add_sheet.ensures.too_many)
+
+pub returns-in_err-add_sheet-clause-no_sink : goal.returns-in_err-add_sheet-clause-no_sink
+returns-in_err-add_sheet-clause-no_sink c = passed_on _ _ _ c.from_residual.ensures.1 c.in_err-add_sheet.ensures.no_sink
+
 pub returns-clause-found : goal.returns-clause-found
-returns-clause-found c =
-    let choice = c.args.setup.now.choice in
-    let yes : c.in_ok-pass_names.field-0 ≡ true = search rules in
-    let ok = c.in_ok-pass_names.was ∙ ap Ok yes in
-    let same = c.records_of-records.ensures.left in
-    let left = c.pass_names.ensures.left ok ∙ ap (drop (choice.above + 1)) same in
-    record {
-      has_names = subst (λ (records : List Fields). choice.above < length records) same (c.pass_names.ensures.named ok);
-      limited = subst (λ (records : List Fields). length records ≤ record_limit) left c.in_ok-add_records.ensures.limited;
-      found = subst
-          (λ (records : List Fields). HasFound choice (all_dates choice records) c.args.most c.add_records.new.self) left
-          c.in_ok-add_records.ensures.found;
-    }
+returns-clause-found c = rw c.records_of-records.ensures.left at c.in_ok-add_sheet.ensures.found

@@ -1,9 +1,9 @@
 -- What a reader gave of a text, by how it ended.
 use Rattle.std.proofs.Common.{rules, ◌≡◌, ◌∙◌, sym, refl, ℕ, List, [], length, Option}
-use Rattle.std.proofs.Common.{inr, Err, IfSome, Ok}
+use Rattle.std.proofs.Common.{inr, map, Err, IfSome, Ok}
 use Rattle.std.proofs.Math.Logic.{∥∥₁_elim, ∥∥₁_map, ∥∥₁_prop}
 use Rattle.register_run.proofs.Common.{AreNumberedFrom, Reading, HasAllEntries, HasEntries, HasFirstEntries, Numbered}
-use Rattle.register_run.proofs.Common.{record_limit, Cause, Sender, Entry, Row, AreDealt, World}
+use Rattle.register_run.proofs.Common.{record_limit, Cause, Lane, Sender, sender_lane, Entry, Row, AreDealt, World}
 use Rattle.register_run.proofs.Common.{HasPassed, IsGiven, Sent}
 use Rattle.register_records.specs.Causes.{entry_fault_cause}
 use Rattle.register_records.specs.Entries.{HasNoHeader, HasTooMany, IsNotSealed}
@@ -11,7 +11,7 @@ use Rattle.register_records.specs.declared.reading.EntryFault.{EntryFault}
 use Rattle.register_records.specs.declared.reading.EntryFault.TheVariants as fault
 use Rattle.register_records.specs.declared.setups.Form.TheVariants.{Sealed}
 use Rattle.register_records.specs.declared.ends.Cause.TheVariants as cause
-use Rattle.register_run.specs.JoinedThreads.{IsOfThreads, Sends}
+use Rattle.register_run.specs.JoinedThreads.{IsOfThreads, MaySend}
 
 -- the faults of reading that these causes are
 fault_of_cause : (f : EntryFault) (c : Cause) → c ≡ entry_fault_cause f
@@ -20,13 +20,31 @@ fault_of_cause : (f : EntryFault) (c : Cause) → c ≡ entry_fault_cause f
 fault_of_cause fault.OutOfMemory c is = (λ e. cc, λ e. cc, λ e. cc)
 fault_of_cause f c is = (λ e. cc, λ e. cc, λ e. cc)
 
+-- a fault of reading is none of the output, and no thread that did not start
+not_others : (f : EntryFault) (c : Cause) → c ≡ entry_fault_cause f
+    → (c ≡ cause.SinkFault → ⊥) × (c ≡ cause.NoThread → ⊥)
+not_others fault.OutOfMemory c is = (λ e. cc, λ e. cc)
+not_others f c is = (λ e. cc, λ e. cc)
+
 module _ (text : Option (List ℕ)) (reading : Reading) where
   -- the text was not opened
-  pub given_none : (f : EntryFault) (c : Cause) → c ≡ entry_fault_cause f
+  given_none : (f : EntryFault) (c : Cause) → c ≡ entry_fault_cause f
       → (f ≡ fault.BadHeader → IfSome text (λ t. HasNoHeader reading t)) → (f ≡ fault.TooManyRecords → ⊥)
       → (f ≡ fault.NotSealed → ⊥) → (sent : Sent) → (sent.count ≡ 0) × (sent.outcome ≡ Err c)
       → IsGiven text reading sent []
   given_none f c is bad many unsealed sent (none, why) = search (rules, fault_of_cause)
+
+  pub sends_none : (f : EntryFault) (c : Cause) → c ≡ entry_fault_cause f
+      → (f ≡ fault.BadHeader → IfSome text (λ t. HasNoHeader reading t)) → (f ≡ fault.TooManyRecords → ⊥)
+      → (f ≡ fault.NotSealed → ⊥) → (sent : Sent) → (sent.count ≡ 0) × (sent.outcome ≡ Err c)
+      → (senders : List (Sender Entry)) → ((w : World) → AreDealt w 0 [] senders)
+      → MaySend text reading (map sender_lane senders) sent senders
+  sends_none f c is bad many unsealed sent why senders deals = record {
+    lanes = refl;
+    not_of_output = rw why.1 (not_others f c is).0;
+    started = rw why.1 (not_others f c is).1;
+    sends = ∣ ([], given_none f c is bad many unsealed sent why, λ w _. deals w) ∣₁;
+  }
 
   stopped_so : (f : EntryFault) (c : Cause) (given : List Numbered) → c ≡ entry_fault_cause f
       → (f ≡ fault.BadHeader → ⊥)
@@ -89,28 +107,44 @@ module _ (text : Option (List ℕ)) (reading : Reading) where
 
 module _ (text text' : Option (List ℕ)) (d d' : Reading) (same : text' ≡ text) (by : d' ≡ d) (given old : List Numbered)
     (kept : given ≡ old) (numbered : AreNumberedFrom 1 old)
-    (first : ∥ HasFirstEntries d' text' given ∥₁) (senders : List (Sender Entry))
+    (first : ∥ HasFirstEntries d' text' given ∥₁) (senders : List (Sender Entry)) (given_lanes : List Lane)
+    (lanes : map sender_lane senders ≡ given_lanes)
     (deals : (w : World) → w.converters ≡ length senders → AreDealt w 0 old senders) where
   first' : ∥ HasFirstEntries d text old ∥₁
   first' = rw (same, by, kept) at first
 
   pub sends_all : ∥ HasEntries d' text' given ∥₁ → (sent : Sent) (n : ℕ) → n ≡ length old → sent.count ≡ n
-      → sent.outcome ≡ Ok n → ∥ Sends text d sent senders ∥₁
-  sends_all all sent n count counted is =
-      ∥∥₁_map (given_all text d old numbered first' (rw (same, by, kept) at all) sent n count counted is)
-      (λ is'. (old, is', deals))
+      → sent.outcome ≡ Ok n → MaySend text d given_lanes sent senders
+  sends_all all sent n count counted is = record {
+    lanes = lanes;
+    not_of_output = rw is tt;
+    started = rw is tt;
+    sends =
+        ∥∥₁_map (given_all text d old numbered first' (rw (same, by, kept) at all) sent n count counted is)
+        (λ is'. (old, is', deals));
+  }
 
   pub sends_stopped : (f : EntryFault) (c : Cause) → c ≡ entry_fault_cause f → (f ≡ fault.BadHeader → ⊥)
       → (f ≡ fault.TooManyRecords → (length old ≡ record_limit) × ∥ IfSome text' (λ t. HasTooMany d' t) ∥₁)
       → (f ≡ fault.NotSealed → (d'.form ≡ Sealed) × ∥ IfSome text' (λ t. IsNotSealed d' t) ∥₁)
       → (f ≡ fault.NotSealed → ∥ HasAllEntries d' text' given ∥₁) → (sent : Sent)
-      → sent.count ≡ length old → sent.outcome ≡ Err c → ∥ Sends text d sent senders ∥₁
-  sends_stopped f c is bad many unsealed above sent counted why =
-      ∥∥₁_map (given_stopped text d f c old is bad (rw (same, by) at many) (rw (same, by) at unsealed)
-      (rw (same, by, kept) at above) numbered first' sent counted why) (λ is'. (old, is', deals))
+      → sent.count ≡ length old → sent.outcome ≡ Err c → MaySend text d given_lanes sent senders
+  sends_stopped f c is bad many unsealed above sent counted why = record {
+    lanes = lanes;
+    not_of_output = rw why (not_others f c is).0;
+    started = rw why (not_others f c is).1;
+    sends =
+        ∥∥₁_map (given_stopped text d f c old is bad (rw (same, by) at many) (rw (same, by) at unsealed)
+        (rw (same, by, kept) at above) numbered first' sent counted why) (λ is'. (old, is', deals));
+  }
 
-  pub sends_gone : (sent : Sent) → sent.outcome ≡ Err cause.Unconfirmed → ∥ Sends text d sent senders ∥₁
-  sends_gone sent why = ∥∥₁_map (given_gone text d old numbered first' sent why) (λ is. (old, is, deals))
+  pub sends_gone : (sent : Sent) → sent.outcome ≡ Err cause.Unconfirmed → MaySend text d given_lanes sent senders
+  sends_gone sent why = record {
+    lanes = lanes;
+    not_of_output = rw why (λ e. cc);
+    started = rw why (λ e. cc);
+    sends = ∥∥₁_map (given_gone text d old numbered first' sent why) (λ is. (old, is, deals));
+  }
 
 -- an outcome that does not speak of the text says nothing
 pub passed_not : (text : Option (List ℕ)) (d : Reading) (sent : Sent) (c : Cause) (took : Row → Type 0)

@@ -1,10 +1,10 @@
 -- What the threads of a source owe, by the lanes that they were given.
 use Rattle.std.specs.Prelude.{◌≡◌, ◌⊎◌, ⊤, ℕ, List, [], ◌∷◌, length, Option, Some, IfSome, Result, Ok}
-use Rattle.std.specs.Prelude.{Err, IfOk, IfErr, Bool, true, false}
+use Rattle.std.specs.Prelude.{Err, IfOk, IfErr, Bool, map, true, false}
 use Rattle.std.specs.List.{Contains}
 use Rattle.lane_rings.specs.declared.sender.Sender.{Sender}
 use Rattle.lane_rings.specs.declared.sender.Closed.{Closed}
-use Rattle.lane_rings.specs.Lane.{Lane, HasConfirmation, all_sent, closed_lane, receiver_lane, taken}
+use Rattle.lane_rings.specs.Lane.{Lane, HasConfirmation, all_sent, closed_lane, receiver_lane, sender_lane, taken}
 use Rattle.register_records.specs.Entries.{AreNumberedFrom, HasAllEntries, HasEntries, HasFirstEntries}
 use Rattle.register_records.specs.Entries.{HasNoHeader, HasTooMany, IsNotSealed, Numbered, Reading, record_limit}
 use Rattle.register_records.specs.Seen.{entry_seen}
@@ -69,6 +69,14 @@ abbrev pub Sends : Option (List ℕ) → Reading → Sent → List (Sender Entry
 Sends text reading sent senders =
     (given : List Numbered) × IsGiven text reading sent given
     × ((w : World) → w.converters ≡ length senders → AreDealt w 0 given senders)
+
+-- a reader of this text, which was given senders of these lanes, may have sent this with them
+pub record MaySend (text : Option (List ℕ)) (reading : Reading) (given_lanes : List Lane) (sent : Sent)
+    (senders : List (Sender Entry)) : Type 0 where
+  pub lanes : map sender_lane senders ≡ given_lanes
+  pub not_of_output : IsNotOfOutput sent.outcome
+  pub started : HasStarted sent.outcome
+  pub sends : ∥ Sends text reading sent senders ∥₁
 
 -- the same, of lanes that were ended
 abbrev pub HasSent : Option (List ℕ) → Reading → Sent → List (Closed Entry) → Type 0

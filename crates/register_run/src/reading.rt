@@ -3,9 +3,9 @@
 ghost use Rattle.std.specs.Prelude.{◌≡◌, ◌<◌, ◌≤◌, ◌+◌, ◌/◌, ◌%◌, [], All, Err, Ok, map, vec_capacity, vec_len};
 ghost use Rattle.std.specs.List.{AllZip};
 ghost use Rattle.lane_rings.specs.Lane.{sender_lane, sent};
-ghost use Rattle.register_records.specs.Views.{reading_of};
+ghost use Rattle.register_records.specs.Views.{given_of, reading_of, reads_by, text_of};
 ghost use Rattle.register_run.specs.Carried.{HasEnded};
-ghost use Rattle.register_run.specs.JoinedThreads.{IsNotOfOutput, HasStarted, IsReading, Sends};
+ghost use Rattle.register_run.specs.JoinedThreads.{IsReading, MaySend};
 
 use crate::turns::turn_after;
 use lane_rings::{Closed, Sender};
@@ -96,15 +96,31 @@ fn send_entries<R: Read + Drop>(
 ) -> Sent
     requires some { 0 < vec_len senders.old }
     requires fresh { All (λ s. sent s ≡ []) senders.old.items }
-    ensures lanes { map sender_lane senders.new.items ≡ map sender_lane senders.old.items }
-    ensures not_of_output { IsNotOfOutput result.outcome }
-    ensures started { HasStarted result.outcome }
-    ensures sends { ∥ Sends (R.remaining source) (reading_of setup.now) result senders.new.items ∥₁ }
+    ensures { MaySend (R.remaining source) (reading_of setup.now) (map sender_lane senders.old.items) result
+        senders.new.items }
 {
-    let mut entries = match EntryReader::open(alloc, source, setup) {
-        Ok(entries) => entries,
-        Err(fault) => return stopped_after(0, Cause::from(fault)),
-    };
+    match EntryReader::open(alloc, source, setup) {
+        Ok(mut entries) => {
+            let sent = send_opened(rt, &mut entries, senders);
+            drop(entries);
+            sent
+        }
+        Err(fault) => stopped_after(0, Cause::from(fault)),
+    }
+}
+
+/// Sends each entry of a source of which none was read, as `send_entries` does.
+fn send_opened<R: Read + Drop>(
+    rt: &(impl Wait + Clock + CpuClock),
+    entries: &mut EntryReader<R>,
+    senders: &mut Vec<Sender<Entry>>,
+) -> Sent
+    requires some { 0 < vec_len senders.old }
+    requires fresh { All (λ s. sent s ≡ []) senders.old.items }
+    requires none_read { given_of entries.old ≡ [] }
+    ensures { MaySend (text_of entries.old) (reads_by entries.old) (map sender_lane senders.old.items) result
+        senders.new.items }
+{
     let mut entry = Entry::blank();
     let mut count = 0;
     for _ in rt.forever() {

@@ -155,11 +155,7 @@ fn close_all(
     let mut closed = closed;
     let mut turn = 0usize;
     for sender in senders {
-        let last = match outcome {
-            Ok(count) => Some(share_of(count, turn, stripes)),
-            Err(_) => None,
-        };
-        closed.push_reserved(close_one(rt, sender, last));
+        closed.push_reserved(close_one(rt, sender, outcome, turn, stripes));
         turn = turn.saturating_add(1);
     }
     closed
@@ -176,16 +172,19 @@ fn share_of(count: u32, turn: usize, stripes: usize) -> u64
     (count / stripes) as u64 + u64::from(one_more)
 }
 
-/// Ends a lane with this count, or with a stop where there is none.
+/// Ends the lane to the converter with this turn, among so many: with its share of the entries, or with a stop.
 fn close_one(
     rt: &(impl Wait + Clock + CpuClock),
     sender: Sender<Entry>,
-    count: Option<u64>,
+    outcome: Result<u32, Cause>,
+    turn: usize,
+    stripes: usize,
 ) -> Closed<Entry>
+    requires { 0 < stripes }
     ensures { HasEnded sender result }
 {
-    match count {
-        Some(count) => sender.close(rt, count),
-        None => sender.stop(rt),
+    match outcome {
+        Ok(count) => sender.close(rt, share_of(count, turn, stripes)),
+        Err(_) => sender.stop(rt),
     }
 }

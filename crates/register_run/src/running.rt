@@ -208,9 +208,7 @@ fn make_lists<R: Read + Drop, W: Output + Drop>(
 {
     let running_sources = Vec::with_capacity(alloc, count)?;
     let ended_sources = Vec::with_capacity(alloc, count)?;
-    let outputs = Vec::with_capacity(alloc, count)?;
-    let ends = Vec::with_capacity(alloc, count)?;
-    let ran = Vec::with_capacity(alloc, count)?;
+    let (outputs, ends, ran) = make_report_lists(alloc, count)?;
     Ok(Lists {
         count,
         running_sources,
@@ -219,6 +217,21 @@ fn make_lists<R: Read + Drop, W: Output + Drop>(
         ends,
         ran,
     })
+}
+
+/// Makes those of the lists that are reported.
+fn make_report_lists<W: Drop>(
+    alloc: Global,
+    count: usize,
+) -> Result<(Vec<W>, Vec<SourceEnd>, Vec<Ran>), AllocError>
+    ensures empty { IfOk result (λ l. (l.0.items ≡ []) × (l.1.items ≡ []) × (l.2.items ≡ [])) }
+    ensures room { IfOk result (λ l. (count ≤ vec_capacity l.0) × (count ≤ vec_capacity l.1)
+        × (count ≤ vec_capacity l.2)) }
+{
+    let outputs = Vec::with_capacity(alloc, count)?;
+    let ends = Vec::with_capacity(alloc, count)?;
+    let ran = Vec::with_capacity(alloc, count)?;
+    Ok((outputs, ends, ran))
 }
 
 /// Hands the lists back with a fault.

@@ -35,6 +35,24 @@ pub(crate) fn convert_entries<T: Wait + Clock + CpuClock, G: Gate>(
     ensures { IsConverting (receiver_lane entries) (sender_lane rows) result }
 {
     let (mut entries, mut rows) = (entries, rows);
+    let gone = send_rows(rt, gate, setup, &mut entries, &mut rows);
+    end_rows(rt, entries, rows, gone)
+}
+
+/// Sends the row of each entry that it takes, until no entry is next. Returns whether the writer is gone.
+fn send_rows<T: Wait + Clock + CpuClock, G: Gate>(
+    rt: &T,
+    gate: &G,
+    setup: &Setup,
+    entries: &mut Receiver<Entry>,
+    rows: &mut Sender<Row>,
+) -> bool
+    requires { (sent rows.old ≡ []) × (taken entries.old ≡ []) }
+    ensures from { receiver_lane entries.new ≡ receiver_lane entries.old }
+    ensures into { sender_lane rows.new ≡ sender_lane rows.old }
+    ensures rows { AreOfTaken (taken entries.new) (sent rows.new) }
+    ensures all { result ≡ false → AreOfAllTaken (taken entries.new) (sent rows.new) }
+{
     let mut row = Row::blank();
     let mut gone = false;
     for _ in rt.forever() {
@@ -52,7 +70,7 @@ pub(crate) fn convert_entries<T: Wait + Clock + CpuClock, G: Gate>(
             gone = rows.send_copy(rt, &row).is_err();
         }
     }
-    end_rows(rt, entries, rows, gone)
+    gone
 }
 
 /// Takes what is next, if anything is, and ends the lane of rows: with the count of an end, and with a stop where there

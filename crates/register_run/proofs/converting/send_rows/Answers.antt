@@ -3,7 +3,7 @@ use Rattle.register_run.proofs.Common.{sent}
 use Rattle.lane_rings.specs.declared.item.Item.TheVariants as item
 use Rattle.register_run.proofs.CarriedLemmas.{first_of_all, none_taken, row_left, row_sent}
 use Rattle.register_run.proofs.ItemLemmas.{took_next}
-use Rattle.register_run.proofs.converting.convert_entries.Goals as goal
+use Rattle.register_run.proofs.converting.send_rows.Goals as goal
 
 pub loop-init : goal.loop-init
 loop-init g c = search (rules, none_taken, first_of_all)

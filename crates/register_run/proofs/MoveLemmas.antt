@@ -1,5 +1,5 @@
 -- Items that are moved from the front of one list to the end of another.
-use Rattle.std.proofs.Common.{rules, ◌≡◌, ◌∙◌, ◌+◌, ◌++◌, ◌∷◌, [], ℕ, List, ap, append_assoc, arith, length, map}
+use Rattle.std.proofs.Common.{rules, ◌≡◌, ◌∙◌, ◌+◌, ◌++◌, ◌∷◌, [], ℕ, List, ap, append_assoc, arith, length, map, refl}
 use Rattle.std.proofs.Common.{replicate, get_or, set, subst, sym, All, append-nil}
 use Rattle.std.proofs.Math.Seq.{map-set_same}
 use Rattle.std.proofs.lemmas.List.{map-append, replicate-append-replicate}
@@ -21,6 +21,11 @@ seen_more h all done new one left rest item n s l e = rw (n, append_assoc, s) (r
 pub set_same : {X Z : Type 0} (f : X → Z) (xs : List X) (i : ℕ) (new was : X) → f new ≡ f was → was ≡ get_or xs i was
     → map f (set xs i new) ≡ map f xs
 set_same f xs i new was same here = map-set_same f xs i new was (same ∙ ap f here)
+
+-- before the first, none is made
+pub none_made : {Y Z : Type 0} (h : Y → Z) (all left : List Y) (done : List Z) → done ≡ [] → left ≡ all
+    → done ++ map h left ≡ map h all
+none_made h all left done none is = rw (none, is) refl
 
 -- once none is left, all are made
 pub all_made : {Y Z : Type 0} (h : Y → Z) (all done : List Z) (left : List Y) → length left ≡ 0

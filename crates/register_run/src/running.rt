@@ -135,7 +135,6 @@ fn finish_all<R: Read + Drop, W: Output + Drop>(
 }
 
 /// The outputs and the ends, in the order of the sources.
-#[tactic(auto, using(crate::proofs::MoveLemmas::seen_more, crate::proofs::MoveLemmas::all_made))]
 fn report<R: Read + Drop, W: Output + Drop>(
     ended_sources: Vec<EndedSource<R, W>>,
     outputs: Vec<W>,

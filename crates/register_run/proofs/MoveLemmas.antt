@@ -27,6 +27,10 @@ pub none_made : {Y Z : Type 0} (h : Y → Z) (all left : List Y) (done : List Z)
     → done ++ map h left ≡ map h all
 none_made h all left done none is = rw (none, is) refl
 
+pub none_made_yet : {X Y Z : Type 0} (f : X → Z) (h : Y → Z) (all left : List Y) (done : List X) → done ≡ []
+    → left ≡ all → map f done ++ map h left ≡ map h all
+none_made_yet f h all left done none is = rw (none, is) refl
+
 -- once none is left, all are made
 pub all_made : {Y Z : Type 0} (h : Y → Z) (all done : List Z) (left : List Y) → length left ≡ 0
     → done ++ map h left ≡ all → done ≡ all

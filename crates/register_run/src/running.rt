@@ -116,7 +116,6 @@ fn visit_until_ended<R: Read + Drop, W: Output + Drop>(
 }
 
 /// Joins the threads of each source and decides how it ended.
-#[tactic(auto, using(crate::proofs::MoveLemmas::made_more, crate::proofs::MoveLemmas::all_made))]
 fn finish_all<R: Read + Drop, W: Output + Drop>(
     rt: &impl Threads,
     running_sources: Vec<RunningSource<R, W>>,

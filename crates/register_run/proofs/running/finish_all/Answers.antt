@@ -1,0 +1,28 @@
+use Rattle.std.proofs.Common.{◌≡◌, ◌∙◌, length, rules, sym}
+use Rattle.std.specs.Vec.Iter.{into_iter_items}
+use Rattle.register_run.proofs.MoveLemmas.{all_made, made_more, none_made_yet}
+use Rattle.register_run.proofs.running.finish_all.Goals as goal
+
+pub loop-running_source-init : goal.loop-running_source-init
+loop-running_source-init g c = record {
+  room = search rules;
+  len = search rules;
+  cases = none_made_yet _ _ _ _ _ c.requires.none c.into_iter-running_source-iterator.ensures.into_iter_gives.0;
+}
+
+pub loop-running_source-preserved : goal.loop-running_source-preserved
+loop-running_source-preserved g c = record {
+  room = search rules;
+  len = search rules;
+  cases =
+      made_more _ _ _ _ _ _ _ _ _ c.push_reserved.ensures.items c.finish.ensures c.in-Some.ensures.steps.0
+      c.loop-running_source.invariant.cases;
+}
+
+pub returns : goal.returns
+returns g c =
+    let none : length (into_iter_items c.loop-running_source.running_source-iterator) ≡ 0 =
+    sym c.loop-running_source.running_source-iterator.rest.ok.0 ∙ c.in-None.ensures.steps.0 in record {
+      len = search rules;
+      cases = all_made _ _ _ _ none c.loop-running_source.invariant.cases;
+    }

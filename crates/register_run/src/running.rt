@@ -48,7 +48,6 @@ fn patience_for(rt: &impl Threads, sources: usize) -> Patience {
 }
 
 /// Starts the threads of each source.
-#[tactic(auto, using(crate::proofs::HeadlineLemmas::starts))]
 fn start_all<'s, 'e, T: Host, R: Read + Send + Drop + 'e, W: Output + Drop, G: Gate + Sync>(
     context: &RunContext<'s, 'e, T, G>,
     sources: Vec<R>,

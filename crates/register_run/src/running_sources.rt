@@ -253,7 +253,6 @@ fn start_threads<'s, 'e, T: Host, R: Read + Send + Drop + 'e, G: Gate + Sync>(
 /// # Errors
 ///
 /// `NoMemory` where a list or a lane is refused its memory, and `NoThread` where a thread does not start.
-#[tactic(auto, using(crate::proofs::MoveLemmas::one_more, crate::proofs::PoppedLemmas::unpopped_more))]
 fn start_stripes<'s, 'e, T: Host, G: Gate + Sync>(
     context: &RunContext<'s, 'e, T, G>,
 ) -> Result<(Vec<Sender<Entry>>, Vec<Stripe>), StartFault>

@@ -176,7 +176,7 @@ impl<R: Read + Drop, W: Output + Drop> RunningSource<R, W> {
     {
         self.turn = next_open(&self.stripes, self.turn);
         self.stopped = self.stopped || by_stop;
-        self.open = self.stripes.iter().any(|stripe| stripe.is_open());
+        self.open = any_open(&self.stripes);
         if !self.open && !self.stopped {
             self.table.write_heading(&mut self.output);
         }
@@ -336,6 +336,11 @@ fn join_stripes(
     } else {
         Err(Unconfirmed)
     }
+}
+
+/// Whether items may still come from one of these stripes.
+fn any_open(stripes: &[Stripe]) -> bool {
+    stripes.iter().any(|stripe| stripe.is_open())
 }
 
 /// Joins the threads of stripes that were never fed.

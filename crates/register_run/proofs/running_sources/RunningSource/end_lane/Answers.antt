@@ -25,3 +25,12 @@ invariant_of-self-clause-untouched g c none kept =
     (false_from_ne_true (has_lost_output s.table) (λ lost.
     let e = sym kept ∙ ap has_lost_output (of_lost _ _ lost head.halted).0 ∙ lost in absurd (cc)))
     ∙ sym head.same.0
+
+pub invariant_of-self-clause-unstarted : goal.invariant_of-self-clause-unstarted
+invariant_of-self-clause-unstarted g c = c.args.self.now.unstarted
+
+pub invariant_of-self-clause-within : goal.invariant_of-self-clause-within
+invariant_of-self-clause-within g c is = rw c.deref.ensures.value at c.next_open-self.ensures.below
+
+pub invariant_of-self-clause-bounded : goal.invariant_of-self-clause-bounded
+invariant_of-self-clause-bounded g c = rw c.write_heading.ensures.waiting c.args.self.now.bounded

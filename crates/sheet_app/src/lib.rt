@@ -13,6 +13,6 @@ mod reports;
 mod sheet_faults;
 mod sheets;
 
-pub use converting::EndedSheet;
 pub use command_lines::{COMPLETE, INCOMPLETE};
+pub use converting::EndedSheet;
 pub use program::{Outcome, answer};

@@ -21,7 +21,8 @@ pub invariant_of-self-clause-untouched : goal.invariant_of-self-clause-untouched
 invariant_of-self-clause-untouched g c none kept =
     let s = c.args.self.now in let head = c.write_heading.ensures in
     head.untouched none kept
-    ∙ s.untouched (false_from_ne_true (is_headed s.table) (λ some. let e = sym none ∙ ap is_headed (head.once some).0 ∙ some in absurd (cc)))
+    ∙ s.untouched (false_from_ne_true (is_headed s.table) (λ some.
+    let e = sym none ∙ ap is_headed (head.once some).0 ∙ some in absurd (cc)))
     (false_from_ne_true (has_lost_output s.table) (λ lost.
     let e = sym kept ∙ ap has_lost_output (of_lost _ _ lost head.halted).0 ∙ lost in absurd (cc)))
     ∙ sym head.same.0

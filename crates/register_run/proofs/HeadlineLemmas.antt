@@ -40,8 +40,6 @@ module _ {R W : Type 0} {o : outputs.Ghosts W} where
       → map case_of running_sources ++ cases setup left outs ≡ cases setup sources outputs
   start_begin setup left sources outs outputs l m running_sources n = rw (l, m, n) refl
 
-pub ruleset starts = (start_begin, start_more, start_end)
-
 -- what is known of a source
 abbrev pub Known : {R W : Type 0} → reads.Ghosts R → outputs.Ghosts W → Setup → R → W → W → SourceEnd → Type 0
 Known r o setup source before after e =

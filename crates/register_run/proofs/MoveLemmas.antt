@@ -51,5 +51,3 @@ each_more P xs new x n each one = subst (All P) (sym n) (All-push P xs x each on
 pub all_more : {X Z : Type 0} (f : X → Z) (xs new : List X) (x : X) (z : Z) (n : ℕ) → new ≡ xs ++ x ∷ [] → f x ≡ z
     → map f xs ≡ replicate n z → map f new ≡ replicate (n + 1) z
 all_more f xs new x z n more is all = rw (more, map-append, all, is) (replicate-append-replicate n 1 z)
-
-pub ruleset one_more = (both_more, each_more, all_more)

@@ -1,6 +1,5 @@
 -- What a source's table holds, as rows are taken from its stripes.
-use Rattle.std.proofs.Common.{rules, ◌≡◌, ◌≢◌, ◌⊎◌, ℕ, List, [], ◌∷◌, ◌++◌, None, Option, inl, inr, Err, IfOk, IfSome, Ok, Result}
-use Rattle.std.proofs.Common.{true}
+use Rattle.std.proofs.Common.{rules, ◌≡◌, ◌≢◌, ◌⊎◌, ℕ, List, [], ◌∷◌, ◌++◌, None, Option, inl, inr, Err, IfOk, Ok, Result}
 use Rattle.std.proofs.Math.Logic.{∥∥₁_map}
 use Rattle.register_run.proofs.Common.{Row, Cause, Reading, reading_of, Stripe, Sent, Table, Carries, AnyTook}
 use Rattle.register_run.proofs.Common.{HasPassed, Holds}
@@ -9,11 +8,8 @@ use Rattle.register_run.specs.Stripes.{start_fault_cause}
 use Rattle.register_run.specs.declared.stripes.StartFault.{StartFault}
 use Rattle.register_run.specs.declared.stripes.StartFault.TheVariants as fault
 use Rattle.register_run.proofs.GivenLemmas.{passed_not}
-use Rattle.register_records.specs.TableStates.{fault_of, lost_output}
 use Rattle.register_records.specs.TablesWritten.{table_fault}
 use Rattle.register_records.specs.declared.ends.Cause.TheVariants as cause
-use Rattle.register_records.specs.declared.tables.TableState.{TableState}
-use Rattle.register_records.specs.declared.tables.TableState.TheVariants as state
 use Rattle.register_run.specs.Written.{Concludes, Wrote}
 use Rattle.register_records.proofs.TableLemmas.{fault_cases, targets_row}
 
@@ -34,12 +30,6 @@ pub why_unstarted : (f : StartFault) (outcome : Result ℕ Cause) → outcome �
     → (outcome ≡ Err cause.NoMemory) ⊎ (outcome ≡ Err cause.NoThread)
 why_unstarted fault.NoMemory outcome why = inl why
 why_unstarted fault.NoThread outcome why = inr why
-
--- what holds of a table that is halted holds of one that has lost its output
-pub of_lost : (state : TableState) (P : Type 0) → lost_output state ≡ true → IfSome (fault_of state) (λ c. P) → P
-of_lost (state.OutputFailed c) P lost is = is
-of_lost state.Open P lost is = absurd (search rules)
-of_lost (state.Halted c) P lost is = absurd (search rules)
 
 module _ {W : Type 0} (o : outputs.Ghosts W) where
   -- more was taken, and the same rows are written

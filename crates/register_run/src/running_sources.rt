@@ -177,9 +177,10 @@ impl<R: Read + Drop, W: Output + Drop> RunningSource<R, W> {
         self.turn = next_open(&self.stripes, self.turn);
         self.stopped = self.stopped || by_stop;
         self.open = any_open(&self.stripes);
-        if !self.open && !self.stopped {
-            self.table.write_heading(&mut self.output);
+        if self.open || self.stopped {
+            return;
         }
+        self.table.write_heading(&mut self.output);
     }
 
     /// Writes the lines that wait, joins the threads, confirms all lanes and decides how the source ended.

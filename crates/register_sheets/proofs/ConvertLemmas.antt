@@ -1,14 +1,14 @@
 -- The sheet that comes back, of what was sent.
 use Rattle.std.proofs.Common.{◌≡◌, ◌<◌, ◌∙◌, ◌++◌, ℕ, List, [], ◌∷◌, Option, ap, arith, get_or, drop, inl, inr, length, subst}
 use Rattle.std.proofs.Common.{take, refl}
-use Rattle.std.specs.Prelude.{◌⊎◌, Bool, Err, IfErr, IfOk, Ok, Result, false, map, true}
+use Rattle.std.specs.Prelude.{◌⊎◌, ◌≢◌, Bool, Err, IfErr, IfOk, Ok, Result, false, map, true}
 use Rattle.std.proofs.KnownBytes.{Appends-nil}
 use Rattle.register_records.specs.Entries.{Fields, record_limit}
 use Rattle.register_records.specs.Outcomes.{TableRow}
 use Rattle.register_records.specs.Sources.{Gains}
 use Rattle.register_sheets.specs.Converted.{AreFirstRows, ArePartOfSheet, IsFullSheet, IsWholeSheet, below}
 use Rattle.register_sheets.specs.Converted.{IfBroken, IfWhole, body_records, sheet_records}
-use Rattle.register_sheets.specs.Sending.{CountsAll, HasBody, HasFront, IsSent, end_of}
+use Rattle.register_sheets.specs.Sending.{CountsAll, Ends, HasBody, HasFront, IsSent, end_of}
 use Rattle.register_sheets.specs.Sheets.{filled, records_text, widest}
 use Rattle.register_sheets.specs.declared.choices.SheetChoice.{SheetChoice}
 use Rattle.register_sheets.specs.declared.lines.SheetLines.{SheetLines}
@@ -143,3 +143,17 @@ if_full (Ok (rows, false)) refused unread P more causes = tt
 if_full (Ok (rows, true)) refused unread P more causes = λ is. more refl
 if_full (Err c) refused unread P more causes =
     λ is. elim causes [ inl other ↦ absurd (cc (is, other)) | inr other ↦ absurd (cc (is, other)) ]
+
+-- how far the output has failed
+pub if_failed : (written : Result (ℕ × Bool) SheetCause) (refused : List ℕ) (unread : UnreadDates) (failed fails : Bool)
+    (mark new_mark : ℕ) → Ends written failed fails mark new_mark
+    → IfWhole (end_of written refused unread) (λ rows all_refused all_unread. fails ≡ failed)
+    × IfBroken (end_of written refused unread) (λ c. (c ≢ SinkFault) → fails ≡ failed)
+    × IfBroken (end_of written refused unread) (λ c. c ≡ SinkFault → fails ≡ true)
+if_failed (Ok (rows, false)) refused unread failed fails mark new_mark e = (e.good, tt, tt)
+if_failed (Ok (rows, true)) refused unread failed fails mark new_mark e = (tt, (λ _. e.good), λ is. absurd (cc))
+if_failed (Err c) refused unread failed fails mark new_mark e = (
+  tt,
+  (λ other. elim e.causes [ inl memory ↦ e.memory memory | inr sink ↦ absurd (other sink) ]),
+  e.sink,
+)

@@ -248,7 +248,8 @@ fn write_top<W: Output>(
     Ok(())
 }
 
-/// Writes the sheet that comes back, of which no record is read yet, and sends all of it; returns what `write_body` does.
+/// Writes the sheet that comes back of one of which no record is read yet, and sends all of it; returns what
+/// `write_body` does.
 fn write_sheet<W: Output>(
     records: &mut Reader<&[u8]>,
     record: &mut ByteRecord,
@@ -264,7 +265,8 @@ fn write_sheet<W: Output>(
     requires count { length (rows_seen rows.old) ≡ length setup.now.choice.dates.now }
     requires none { (place : ℕ) → get_or rows.old.refused place 0 ≡ 0 }
     requires all_read { NoneUnread rows.old.unread }
-    requires unsent { (begun : Option (List ℕ)) → HasMade setup.now.choice.delimiter begun begun sender.old.lines [] [] }
+    requires unsent { (begun : Option (List ℕ))
+        → HasMade setup.now.choice.delimiter begun begun sender.old.lines [] [] }
     requires delimiter { sender.old.delimiter ≡ setup.now.choice.delimiter }
     ensures whole { IfOk result (λ r. r.1 ≡ false → Gains (W.contents output.old) (W.contents output.new)
         (IsWholeSheet setup.now.choice (left_of records.old) r.0 rows.new.refused)) }

@@ -147,8 +147,8 @@ fn write_lines<W: Output>(
     write_entries(records, record, choice, column, date, sender, output)
 }
 
-/// Writes the register of a sheet of which no record is read yet, and sends all of it; returns what `write_entries` does,
-/// or `None` where the sheet has no record with names.
+/// Writes the register of a sheet of which no record is read yet, and sends all of it; returns what `write_entries`
+/// does, or `None` where the sheet has no record with names.
 fn write_all<W: Output>(
     records: &mut Reader<&[u8]>,
     record: &mut ByteRecord,

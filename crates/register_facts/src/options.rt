@@ -78,7 +78,11 @@ impl OptionFacts {
         without: &Setup,
         value: &str,
     ) -> Result<bool, AllocError> {
-        let arguments = [["--", self.name.as_str(), "=", value].concat(alloc)?];
+        let mut argument = String::from_str(alloc, "--")?;
+        argument.push_str(self.name.as_str())?;
+        argument.push_str("=")?;
+        argument.push_str(value)?;
+        let arguments = [argument];
         let Some(setup) = asked_by(alloc, &arguments) else {
             return Ok(false);
         };

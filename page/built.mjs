@@ -1,6 +1,7 @@
-// What the built page has in place of unbuilt.mjs. page/build-page puts the module and the text of the worker here.
+// What the built page has in place of unbuilt.mjs. page/build-page puts the text of the worker here.
 
-const REGISTER_WASM = '{module}';
+import { REGISTER_WASM } from './built-start.mjs';
+
 const WORKER_TEXT = '{worker}';
 
 export const packedModule = async () => REGISTER_WASM;

@@ -3,36 +3,22 @@
 import { newWorker, packedModule } from './unbuilt.mjs';
 import { dateView } from './date-view.mjs';
 import { doorView } from './door-view.mjs';
-import { byId, clear, element, putWords, setText } from './elements.mjs';
-import { NAMES_OF_LANGUAGES, WORDS, likelyLanguage, speak } from './language.mjs';
+import { byId, clear, element, putWords } from './elements.mjs';
+import { NAMES_OF_LANGUAGES, likelyLanguage, speak } from './language.mjs';
 import { registersView } from './registers-view.mjs';
 import { sheetView } from './sheet-view.mjs';
 import { Page } from './state.mjs';
-
-async function compile() {
-  const packed = Uint8Array.from(atob(await packedModule()), (byte) => byte.charCodeAt(0));
-  // @ts-ignore: the checker of today knows no DecompressionStream.
-  const bytes = new Blob([packed]).stream().pipeThrough(new DecompressionStream('gzip'));
-  return WebAssembly.compile(await new Response(bytes).arrayBuffer());
-}
+import { sayNoModule, unpacked } from './unpack.mjs';
 
 const now = () => performance.now();
-const compiled = compile();
+const compiled = packedModule().then(unpacked).then((it) => it.arrayBuffer()).then((bytes) => WebAssembly.compile(bytes));
+compiled.catch((fault) => sayNoModule(fault.message));
 
 const views = {};
 const draw = (state) => Object.entries(views).forEach(([part, drawPart]) => drawPart(state[part]));
 const page = new Page({ newWorker, compiled, processors: navigator.hardwareConcurrency || 2, now, draw });
 const stepOf = (part) => (step, ...words) => page.step(part, step, ...words);
 const main = document.querySelector('main'), undrawn = /** @type {HTMLElement} */ (main.cloneNode(true));
-
-let whyNoModule = '';
-function drawNoModule() {
-  if (whyNoModule) setText(byId('no-module'), WORDS.noModule(whyNoModule)).hidden = false;
-}
-compiled.catch((fault) => {
-  whyNoModule = fault.message;
-  drawNoModule();
-});
 
 // Draws the page anew in a language. What is known of it stays, and so does what is unfolded.
 function open(language) {
@@ -43,7 +29,6 @@ function open(language) {
   main.append(...undrawn.cloneNode(true).childNodes);
   main.querySelectorAll('details').forEach((it, i) => { it.open = isOpen[i]; });
   putWords();
-  drawNoModule();
   for (const button of byId('languages').children) button.setAttribute('aria-pressed', String(button.lang === language));
   views.date = dateView(stepOf('date'));
   views.door = doorView(stepOf('door'));

@@ -147,7 +147,7 @@ class SheetTrials:
 
     def try_church(self):
         """A church book in UTF-16 with title lines, and an estate, as their owners wrote them; each date has its day."""
-        self.page.go(self.address)
+        self.open()
         with open(f"{ROOT}/examples/church.csv", encoding="utf-8") as it:
             text = it.read()
         with open(f"{HERE}/church.days", encoding="utf-8") as it:
@@ -190,7 +190,7 @@ class SheetTrials:
 
     def try_two_dates(self):
         """Columns of dates are added and removed by keys, and each has its own calendars."""
-        self.page.go(self.address)
+        self.open()
         lines = "Born,Style,Died,Kalender\n1700-2-29,julian,1701-3-1,gregorian\n1700-2-29,gregorian,1701-3-1,hijri\n"
         self.choose_sheet(self.file("two.csv", lines))
         self.wait_for_sheet()
@@ -244,7 +244,7 @@ class SheetTrials:
 
     def try_names(self):
         """Names and words that are not known are shown with what they can mean, and stay where they are."""
-        self.page.go(self.address)
+        self.open()
         rows = ["Xyz,1.1.1700", "julian,früh 2. Mai 1700", "roman,Kalx. Mart. 1500", "julian,2.1.1700",
             "Xyz,3.1.1700"]
         self.choose_sheet(self.file("names.csv", "\n".join(["Kalender,Datum", *rows])))
@@ -285,7 +285,7 @@ class SheetTrials:
 
     def try_kept_choices(self):
         """Choices that were saved are filled in for the next sheet."""
-        self.page.go(self.address)
+        self.open()
         self.choose_sheet(self.file("one.csv", "Book 1\nNr;Datum;Stil\n1;früh 2.5.06;Xyz\n"))
         self.wait_for_sheet()
         self.label_of("sheet-order", "day")
@@ -298,7 +298,7 @@ class SheetTrials:
         self.click("#sheet-keep")
         [(name, kept)] = self.saved_files(1).items()
         self.check("the name of the choices", "one.choices.json", name)
-        self.page.go(self.address)
+        self.open()
         self.choose_sheet(self.file(name, kept), self.file("next.csv",
             "Book 2\nStil;Ort;Datum\nXyz;Bonn;früh 3.5.07\n"))
         self.wait_for_sheet()
@@ -311,11 +311,11 @@ class SheetTrials:
         self.choose_sheet(self.file("none.json", "{}"))
         self.check("choices that are none", re.compile("none.json, 2 bytes: .*is none that this page saved"), self.text("#files-list"))
         self.check("the sheet stays", re.compile("^next.csv"), self.text("#sheet-chosen"))
-        self.page.go(self.address)
+        self.open()
 
     def try_proposals(self):
         """What a sheet looks like is chosen and said; a choice of one's own stays."""
-        self.page.go(self.address)
+        self.open()
         chosen = (
             "return [document.querySelector('#sheet-encoding').value,"
             "document.querySelector('input[name=sheet-delimiter]:checked').value]"
@@ -334,11 +334,11 @@ class SheetTrials:
         self.give(f"{ROOT}/page/book.csv")
         wait_for("the next sheet", lambda: "4 records of 5 columns" in self.text("#sheet-said"))
         self.check("what is proposed for the next", ["utf-8", "59"], self.page.run(chosen))
-        self.page.go(self.address)
+        self.open()
 
     def try_sorted(self):
         """A family tree comes back by the days of its dates where that is chosen, by keys, and stays so when it is saved."""
-        self.page.go(self.address)
+        self.open()
         tree = subprocess.run(["node", f"{HERE}/trees.cjs", "7.0", "40"], capture_output=True, check=True).stdout
         self.choose_sheet(self.file("tree.ged", tree))
         self.wait_for_sheet()
@@ -361,7 +361,7 @@ class SheetTrials:
         self.page.press("\ue013")
         wait_for("as it stands", lambda: self.text("#sheet-results [role=status]") == "")
         self.check("as it stands again", stands, self.save("#sheet-results", 1)["tree.dates.csv"].decode().split("\n"))
-        self.page.go(self.address)
+        self.open()
 
     def paste(self, text):
         """Pastes by keys what was copied by keys."""
@@ -376,7 +376,7 @@ class SheetTrials:
 
     def try_paste(self):
         """Cells of a spreadsheet are the sheet from when they are pasted."""
-        self.page.go(self.address)
+        self.open()
         self.sheet(f"{ROOT}/page/book.csv", "utf-8", 59, 0, 2, 3)
         self.paste("Nr\tDatum\n1\t30.11.1699\n")
         wait_for("the pasted cells", lambda: "1 record of 2 columns" in self.text("#sheet-said"))
@@ -409,4 +409,4 @@ class SheetTrials:
         self.check("nothing is lost of pasted cells", wanted, saved)
         self.give(f"{ROOT}/page/book.csv")
         wait_for("a file behind pasted cells", lambda: "book.csv" in self.text("#sheet-chosen"))
-        self.page.go(self.address)
+        self.open()

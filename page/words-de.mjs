@@ -37,7 +37,7 @@ export const WORDS = {
   about: 'Rechnet historische Daten von Kalender zu Kalender um: eines oder ein ganzes Register. Nichts, was Sie ' +
     'eingeben oder wählen, verlässt diesen Rechner.',
   noScript: 'Diese Seite braucht JavaScript und WebAssembly, die hier abgeschaltet sind.',
-  noModule: (why) => ['Die Umrechnung ließ sich in diesem Browser nicht starten: ', own(why)],
+  noModule: 'Die Umrechnung ließ sich in diesem Browser nicht starten:',
   parts: 'Teile dieser Seite',
 
   // ---- What is proved ----

@@ -34,7 +34,7 @@ export const WORDS = {
   about: 'Converts historical dates from calendar to calendar: one, or a whole register. Nothing that you type or ' +
     'choose leaves this machine.',
   noScript: 'This page needs JavaScript and WebAssembly, which are switched off here.',
-  noModule: (why) => ['The converter could not be started in this browser: ', own(why)],
+  noModule: 'The converter could not be started in this browser:',
   parts: 'Parts of this page',
 
   // ---- What is proved ----

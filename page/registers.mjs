@@ -26,10 +26,11 @@ const SMALL = 2 ** 20, SHARE = 64;
  */
 
 /**
- * Whether the days of what is converted are found at the same time, where so many workers can be busy: the page has one
- * processor, and the conversion another.
+ * Whether the days of what is converted are found at the same time, where so many workers can be busy: the conversion has
+ * one processor, and the page is seldom busy meanwhile. Its table is later by a fourth then where there are but two, and its
+ * picture there with it, which else takes seconds.
  */
-export const isEarlyBy = (processors) => processors > 2;
+export const isEarlyBy = (processors) => processors > 1;
 
 /**
  * `processors` says how many workers can be busy at the same time.

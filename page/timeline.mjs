@@ -85,11 +85,7 @@ function binned({ days, calendars }, /** @type {number[]} */ [from, to]) {
 }
 
 // The places of entries on these days, of each the first.
-function placesOfDays(days, wanted) {
-  const found = new Map(wanted.map((day) => [day, -1]));
-  for (let i = 0; wanted.length && i < days.length; i += 1) if (found.get(days[i]) === -1) found.set(days[i], i);
-  return found;
-}
+const placesOfDays = (days, wanted) => new Map(wanted.map((day) => [day, days.indexOf(day)]));
 
 /**
  * The days of entries that have one, in order. They are counted: there are not many more days than in 20,000 years.

@@ -15,13 +15,13 @@ export const MOST_BYTES = 2 ** 28;
  * `proposed` has what was for this file. `kept` has choices of an earlier sheet, and null in them until their file is
  * read, and `isFilled` once they were filled in; `fit` says what of them did not fit. `listed` has the names that are not
  * known, and those that have a meaning of the user's own; a count is null while it is not known. A result of `picks`,
- * `columns` or `source` holds what it came from. `gathered` counts the columns of dates whose days were gathered, which a
- * picture takes long for: at the same time as the conversion where the state `isEarly`, once its text is `told`.
+ * `columns` or `source` holds what it came from. `gathered` has what a picture shows of the first columns of dates, whose days
+ * take long to find: at the same time as the conversion where the state `isEarly`, once its text is `told`.
  * @typedef {import('./choices.mjs').Picks} Picks
  * @typedef {{ encoding: string | null, delimiter: number | null, above: number | null }} Proposed
  * @typedef {{ file: File | null, isTree: boolean | null } & Proposed} Source
  * @typedef {{ source: Source, picks: Picks, columns: string[], status: 'runs' | 'ended' | 'stopped', key: string,
- *   reply: any, told: any, isSaved: boolean, gathered: number, sorted: { place: number, reply: any } | null,
+ *   reply: any, told: any, isSaved: boolean, gathered: any[], sorted: { place: number, reply: any } | null,
  *   registers: Record<number, { reply: any }>, pictures: Record<number, { reply: any }> }} Run
  * @typedef {{ name: string, where: string, count: number | null }} Listed
  * @typedef {{ source: Source, proposed: Proposed, kept: { file: File, choices: any, isFilled: boolean } | null,
@@ -210,7 +210,7 @@ export function started(state) {
   const { source, picks, columns } = state, runs = state.runs + 1;
   const run = {
     source, picks, columns, status: /** @type {'runs'} */ ('runs'), key: `sheet ${runs}`, reply: null, told: null,
-    isSaved: false, gathered: 0, sorted: null, registers: {}, pictures: {},
+    isSaved: false, gathered: [], sorted: null, registers: {}, pictures: {},
   };
   return { ...state, runs, run, notice: '' };
 }
@@ -231,10 +231,10 @@ const isWhole = (run) => run !== null && run.status === 'ended' && Boolean(run.r
 // What is made of a column of dates when it is wanted, by the task that makes it.
 const PARTS = { registers: 'sheetRegister', pictures: 'sheetPicture' };
 
-function partWanted(state, part, place) {
+function partWanted(state, part, place, found = null) {
   const run = shownRun(state);
   if (!isWhole(run) || run[part][place]) return state;
-  return { ...state, run: { ...run, [part]: { ...run[part], [place]: { reply: null } } } };
+  return { ...state, run: { ...run, [part]: { ...run[part], [place]: { reply: found } } } };
 }
 
 /**
@@ -249,7 +249,7 @@ export const registerWanted = (state, place) => partWanted(state, 'registers', p
  * @param {SheetState} state
  * @returns {SheetState}
  */
-export const pictureWanted = (state, place) => partWanted(state, 'pictures', place);
+export const pictureWanted = (state, place) => partWanted(state, 'pictures', place, state.run && state.run.gathered[place]);
 
 /**
  * The sheet is wanted with its records by the days of a column of dates; or as they stand, for null.
@@ -310,13 +310,13 @@ function sortTasks(state) {
   return [daysTask(state, run, sortKey(run), 'sortedSheet', run.sorted.place, { table, behind })];
 }
 
-const gatherKey = (run) => `${run.key} gathers ${run.gathered}`;
+const gatherKey = (run) => `${run.key} gathers ${run.gathered.length}`;
 
 // The days of the next column of dates are gathered while nothing else is wanted of its worker.
 function gatherTasks(state) {
   const run = shownRun(state);
-  if (run === null || !textOf(run) || run.gathered === run.picks.dates.length) return [];
-  return [daysTask(state, run, gatherKey(run), 'sheetPicture', run.gathered)];
+  if (run === null || !textOf(run) || run.gathered.length === run.picks.dates.length) return [];
+  return [daysTask(state, run, gatherKey(run), 'sheetPicture', run.gathered.length)];
 }
 
 /** What the worker of the sheet is to be asked now. */
@@ -408,19 +408,19 @@ function unknownReplied(state, reply) {
   return { ...state, unknown, listed: [...stays, ...found.filter((it) => !isIn(stays, it))] };
 }
 
-const gatherReplied = ({ run, ...state }) => ({ ...state, run: { ...run, gathered: run.gathered + 1 } });
+const gatherReplied = ({ run, ...state }, reply) => ({ ...state, run: { ...run, gathered: [...run.gathered, reply] } });
 
 // While a sheet is converted, its text may be told, and days be gathered.
 function replyWhileRuns(state, key, reply) {
   const { run } = state;
   if (key === run.key) return reply.news ? { ...state, run: { ...run, told: reply.news } } : runReplied(state, reply);
-  return run.told && key === gatherKey(run) ? gatherReplied(state) : state;
+  return run.told && key === gatherKey(run) ? gatherReplied(state, reply) : state;
 }
 
 function partReplied(state, key, reply) {
   const found = wantedParts(state).find((it) => it.key === key), run = shownRun(state);
   if (isSorting(run) && key === sortKey(run)) return { ...state, run: { ...run, sorted: { ...run.sorted, reply } } };
-  if (run !== null && key === gatherKey(run)) return gatherReplied(state);
+  if (run !== null && key === gatherKey(run)) return gatherReplied(state, reply);
   if (!found) return state;
   return { ...state, run: { ...run, [found.part]: { ...run[found.part], [found.place]: { reply } } } };
 }

@@ -1,8 +1,10 @@
-// What the trials in Node share: they count what passed and what failed.
+// What the trials in Node share: they count what passed and what failed. With --until WHAT the parts of a trial that have a
+// check of this name go first, and the trial ends where one fails: page/try-edits asks no more of an edit.
 'use strict';
 require('./read-files.cjs');
 
 let passed = 0, failed = 0;
+const at = process.argv.indexOf('--until'), until = at < 0 ? null : process.argv[at + 1];
 
 const shown = (it) => (Buffer.isBuffer(it) ? it.toString() : JSON.stringify(it) || '').slice(0, 400);
 
@@ -11,7 +13,15 @@ function check(what, wanted, came) {
   passed += is ? 1 : 0;
   failed += is ? 0 : 1;
   if (!is) console.log(`FAILED: ${what}\n  expected: ${shown(wanted)}\n  came:     ${shown(came)}`);
+  if (!is && until !== null && what.startsWith(until)) process.exit(1);
   return is;
+}
+
+async function tryAll(parts) {
+  const has = (part) => until !== null && String(part).includes(until);
+  for (const part of [...parts.filter(has), ...parts.filter((it) => !has(it))]) {
+    await part().catch((fault) => check(part.name, 'an end', String(fault.stack)));
+  }
 }
 
 function end() {
@@ -19,4 +29,4 @@ function end() {
   process.exitCode = failed ? 1 : 0;
 }
 
-module.exports = { check, end };
+module.exports = { check, end, tryAll };

@@ -18,16 +18,15 @@ async function useModule(built) {
 }
 
 // A worker as a browser has it: with a memory of its own, and deaf once it was ended. `all` has those that were started.
-async function workerMaker() {
+function workerMaker() {
   const all = [];
-  const bodies = await Promise.all([...Array(48)].map(() => load(`worker.mjs?${instances += 1}`)));
   const newWorker = () => {
     const worker = { isEnded: false, asked: [], onmessage: null, onerror: null };
     const port = { postMessage: (data) => setTimeout(() => worker.isEnded || worker.onmessage({ data })) };
-    bodies[all.length].serve(port);
+    const served = load(`worker.mjs?${instances += 1}`).then(({ serve }) => serve(port));
     worker.postMessage = (data) => {
       worker.asked.push(data.task);
-      setTimeout(() => worker.isEnded || port.onmessage({ data }));
+      served.then(() => setTimeout(() => worker.isEnded || port.onmessage({ data })));
     };
     worker.terminate = () => { worker.isEnded = true; };
     all.push(worker);
@@ -94,7 +93,7 @@ const linesOf = async (blob) => (await blob.text()).replace(/^\ufeff/, '').split
 
 // The page without a document.
 async function page(processors = 4) {
-  const { Page } = await load('state.mjs'), { all, newWorker } = await workerMaker();
+  const { Page } = await load('state.mjs'), { all, newWorker } = workerMaker();
   const it = new Page({ newWorker, compiled: Promise.resolve(compiled), processors, now: () => 0, draw() {} });
   const until = async (what) => {
     for (let i = 0; i < 2000; i += 1) {

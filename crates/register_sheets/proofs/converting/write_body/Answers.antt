@@ -1,6 +1,7 @@
 use Rattle.std.proofs.Common.{◌≡◌, ◌≤◌, ◌∙◌, ◌+◌, ◌++◌, [], ◌∷◌, List, append-nil, append_assoc, ap, arith, length}
 use Rattle.std.proofs.Common.{length-append, refl, rules, subst, sym, true, false}
 use Rattle.std.specs.Prelude.{Ok}
+use Rattle.std.proofs.lemmas.Bool.{false≢true}
 use Rattle.csv.specs.Records.{fields_of}
 use Rattle.register_records.specs.Entries.{Fields, record_limit}
 use Rattle.register_records.proofs.StepLemmas.{passed_on}
@@ -33,7 +34,7 @@ returns-then-not-branch g c =
         counted,
         counts,
         (λ _. omega (arith, ap length whole, length-append done left, ap length none)),
-        (λ e. absurd (cc)),
+        (λ e. absurd (false≢true e)),
         λ begun head h.
             subst (λ (records : List Fields). HasMade c.args.sender.now.delimiter begun (g.W.Output.contents c.records.output)
             c.records.sender.lines (head ++ records) [])
@@ -65,7 +66,7 @@ returns-then-number-eq-MAX_RECORDS g c =
         has_body choice done left all rows whole same limited are,
         counted,
         counts,
-        (λ e. absurd (cc)),
+        (λ e. absurd (false≢true (sym e))),
         (λ _. (omega arith, omega (arith, ap length whole, length-append done left, ap length found))),
         λ begun head h.
             subst (λ (records : List Fields). HasMade c.args.sender.now.delimiter begun (g.W.Output.contents c.records.output)
@@ -74,7 +75,7 @@ returns-then-number-eq-MAX_RECORDS g c =
             ∙ body_front c.args.width choice.columns.now done left rows same))
             (made begun head h),
       );
-      unread = λ e. absurd (cc);
+      unread = λ e. absurd (false≢true (sym e));
       part = tt;
       output = record { good = inv.failed; causes = tt; memory = tt; sink = tt; marked = inv.mark };
     }

@@ -1,6 +1,7 @@
 use Rattle.std.proofs.Common.{◌≡◌, ◌∙◌, ◌++◌, [], List, append-nil, ap, arith, length, length-drop, refl, rules, subst}
 use Rattle.std.proofs.Common.{sym, take, true, false}
 use Rattle.std.specs.Prelude.{Ok}
+use Rattle.std.proofs.lemmas.Bool.{false≢true}
 use Rattle.csv.specs.Records.{fields_of}
 use Rattle.register_records.specs.Entries.{Fields}
 use Rattle.register_sheets.specs.Reading.{left_of}
@@ -88,7 +89,7 @@ returns-then-not-branch g c =
       written = record {
         few = inv.limited;
         all = λ _. omega (arith, inv.within, length-drop c.records.number all, ap length (sym inv.left ∙ none));
-        more = λ e. absurd (cc);
+        more = λ e. absurd (false≢true e);
         made = inv.made;
         part = tt;
       };
@@ -105,7 +106,7 @@ returns-then-number-eq-MAX_RECORDS g c =
       kept = inv.delimiter;
       written = record {
         few = inv.limited;
-        all = λ e. absurd (cc);
+        all = λ e. absurd (false≢true (sym e));
         more = λ _. (omega arith, omega (arith, length-drop c.records.number all, ap length (sym inv.left ∙ found)));
         made = inv.made;
         part = tt;

@@ -1,50 +1,9 @@
-use Rattle.std.proofs.Common.{◌≡◌, ◌≤◌, ◌<◌, ◌∙◌, List, ap, inl, inr, length, rules, subst, true, false}
+use Rattle.std.proofs.Common.{◌≡◌, ◌≤◌, ◌∙◌, List, ap, length, rules, subst, true}
 use Rattle.std.specs.Prelude.{Ok}
 use Rattle.register_records.specs.Entries.{Fields, record_limit}
-use Rattle.register_records.proofs.StepLemmas.{passed_on}
 use Rattle.register_sheets.specs.FoundViews.{HasFound}
 use Rattle.register_sheets.specs.UnknownNames.{all_dates}
-use Rattle.register_sheets.proofs.SendingLemmas.{no_value}
 use Rattle.register_sheets.proofs.stopped_dates.Found.add_sheet.Goals as goal
-
-pub returns-in_err-pass_names : goal.returns-in_err-pass_names
-returns-in_err-pass_names c =
-    let is = c.from_residual.ensures.1 in
-    record {
-      found = no_value c.from_residual.result _ _ is;
-      no_names = passed_on _ _ _ is (λ other. absurd (cc));
-      too_many = passed_on _ _ _ is (λ other. absurd (cc));
-      no_sink = passed_on _ _ _ is (λ other. absurd (cc));
-    }
-
-pub returns-then-not-branch : goal.returns-then-not-branch
-returns-then-not-branch c =
-    let no : c.in_ok-pass_names.field-0 ≡ false = search rules in
-    record {
-      found = tt;
-      no_names = λ same. c.pass_names.ensures.none (c.in_ok-pass_names.was ∙ ap Ok no);
-      too_many = λ other. absurd (cc);
-      no_sink = λ other. absurd (cc);
-    }
-
-pub returns-in_err-add_records : goal.returns-in_err-add_records
-returns-in_err-add_records c =
-    let is = c.from_residual-in_err-add_records.ensures.1 in
-    let causes = c.in_err-add_records.ensures.causes in
-    let yes : c.in_ok-pass_names.field-0 ≡ true = search rules in
-    let left = c.pass_names.ensures.left (c.in_ok-pass_names.was ∙ ap Ok yes) in
-    record {
-      found = no_value c.from_residual-in_err-add_records.result _ _ is;
-      no_names = passed_on _ _ _ is (λ other.
-          elim causes [ inl memory ↦ absurd (cc (memory, other)) | inr more ↦ absurd (cc (more.0, other)) ]);
-      too_many = passed_on _ _ _ is (λ many.
-          elim causes [
-            | inl memory ↦ absurd (cc (memory, many))
-            | inr more ↦ subst (λ (records : List Fields). record_limit < length records) left more.1
-          ]);
-      no_sink = passed_on _ _ _ is (λ other.
-          elim causes [ inl memory ↦ absurd (cc (memory, other)) | inr more ↦ absurd (cc (more.0, other)) ]);
-    }
 
 pub returns-clause-found : goal.returns-clause-found
 returns-clause-found c =

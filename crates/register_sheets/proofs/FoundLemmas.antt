@@ -2,7 +2,7 @@
 use Rattle.std.proofs.Common.{◌≡◌, ◌≤◌, ◌<◌, ◌+◌, ◌*◌, ◌^◌, ◌∙◌, ◌++◌, ◌↔◌, ℕ, zero, suc, Bool, true, List, [], ◌∷◌}
 use Rattle.std.proofs.Common.{Option, None, Some}
 use Rattle.std.proofs.Common.{ap, append-nil, append_assoc, arith, cond, get_or, length, map, refl, subst, sym, take}
-use Rattle.std.specs.Prelude.{if◌then◌else◌, option_to_list}
+use Rattle.std.specs.Prelude.{Err, IfErr, IfOk, Ok, OnOk, Result, if◌then◌else◌, option_to_list}
 use Rattle.std.specs.List.{AllZip}
 use Rattle.std.proofs.Math.Seq.{take-nil}
 use Rattle.std.proofs.lemmas.List.{flat_map_more, length-append, length-map, map-append, take_more}
@@ -10,6 +10,7 @@ use Rattle.std.proofs.lemmas.List.Concat.{flat_map-append}
 use Rattle.std.proofs.lemmas.List.Sums.{count_by-le-length, sum_by_push}
 use Rattle.register_records.specs.Entries.{Fields}
 use Rattle.register_records.specs.Lines.{line_text}
+use Rattle.register_sheets.specs.FoundViews.{unknown_of}
 use Rattle.register_sheets.specs.Sheets.{records_text}
 use Rattle.register_sheets.specs.UnknownNames.{AreNames, HasCount, IsFound, IsKept, NameCount, NameStop, SheetDate}
 use Rattle.register_sheets.specs.UnknownNames.{all_dates, counted, dates_of, firsts, is_alike, is_other, is_short}
@@ -18,6 +19,8 @@ use Rattle.register_sheets.specs.UnknownNames.{stop_of, stops_in}
 use Rattle.register_sheets.specs.UnknownViews.{HasNames, HasRoom}
 use Rattle.register_sheets.specs.declared.choices.DateColumn.{DateColumn}
 use Rattle.register_sheets.specs.declared.choices.SheetChoice.{SheetChoice}
+use Rattle.register_sheets.specs.declared.sheet_ends.SheetCause.{SheetCause}
+use Rattle.register_sheets.specs.declared.stopped_dates.Unknown.{Unknown}
 use Rattle.register_sheets.specs.declared.stopped_names.StoppedNames.{StoppedNames}
 use Rattle.register_sheets.specs.declared.stopped_names.UnknownName.{UnknownName}
 
@@ -180,3 +183,14 @@ listed_more names k name lt is =
     ∙ ap (λ (x : UnknownName). map name_record (map name_seen done) ++ name_record (name_seen x) ∷ []) (sym is) in
     flat_map_more (line_text 44) [] (list_head ∷ map name_record (map name_seen done)) (name_record (name_seen name))
     ∙ ap (λ (xs : List Fields). records_text 44 (list_head ∷ xs)) (sym next)
+
+-- what holds of what is not known, and of why that is not said
+pub if_found : (added : Result Unit SheetCause) (unknown : Unknown) (P : Unknown → Type 0) → OnOk added (P unknown)
+    → IfOk (unknown_of added unknown) P
+if_found (Ok v) unknown P h = h
+if_found (Err c) unknown P h = tt
+
+pub if_stopped : (added : Result Unit SheetCause) (unknown : Unknown) (P : SheetCause → Type 0) → IfErr added P
+    → IfErr (unknown_of added unknown) P
+if_stopped (Ok v) unknown P h = tt
+if_stopped (Err c) unknown P h = h

@@ -1,7 +1,8 @@
 -- The register of a column of dates is written record by record.
 use Rattle.std.proofs.Common.{◌≡◌, ◌≤◌, ◌<◌, ◌+◌, ◌∙◌, ◌++◌, ℕ, zero, suc, List, [], ◌∷◌, Option, refl, sym, ap, subst}
-use Rattle.std.proofs.Common.{append_assoc, arith, drop, inl, inr, length, take}
+use Rattle.std.proofs.Common.{IsErrAnd, append_assoc, arith, drop, inl, inr, length, take}
 use Rattle.std.specs.Prelude.{◌⊎◌, ◌≢◌, Bool, Err, IfErr, IfNone, IfOk, IfSome, None, Ok, OnOk, Result, Some, false, true}
+use Rattle.std.proofs.lemmas.Result.{IfErr-weaker, IfOk-weaker}
 use Rattle.std.proofs.lemmas.List.{length-drop, length-take, take-append-drop, take_all}
 use Rattle.register_records.specs.Entries.{Fields, record_limit}
 use Rattle.register_records.specs.Sources.{Gains}
@@ -9,7 +10,7 @@ use Rattle.register_sheets.specs.Choices.{register_record}
 use Rattle.register_sheets.specs.Converted.{below}
 use Rattle.register_sheets.specs.Registers.{IsFrontOfRegister, IsFullRegister, IsRegister, register_head}
 use Rattle.register_sheets.specs.Registers.{register_records}
-use Rattle.register_sheets.specs.Sending.{Ends, HasFront, HasMade, IsSent, count_of}
+use Rattle.register_sheets.specs.Sending.{Ends, HasEntries, HasFront, HasMade, IsSent, count_of}
 use Rattle.register_sheets.specs.Sheets.{records_text}
 use Rattle.register_sheets.specs.declared.choices.DateColumn.{DateColumn}
 use Rattle.register_sheets.specs.declared.choices.SheetChoice.{SheetChoice}
@@ -71,6 +72,37 @@ head_taken : (n m : ℕ) (x : Fields) (xs : List Fields) → m ≡ n + 1 → tak
 head_taken n zero x xs e = absurd (omega arith)
 head_taken n (suc m) x xs e = ap (λ (k : ℕ). x ∷ take k xs) (omega arith)
 
+-- where the entries did not end well
+pub entries_broken : (choice : SheetChoice) (column : DateColumn) (records first : List Fields) (d : ℕ)
+    (old now : Option (List ℕ)) (before after : SheetLines) (r : Result (ℕ × Bool) SheetCause) (c : SheetCause)
+    → IsErrAnd r (λ e. e ≡ c)
+    → (c ≡ NoMemory → (begun : Option (List ℕ)) (head : List Fields) → HasMade d begun old before head []
+    → HasFront d begun now (head ++ (first ++ register_records choice column 0 records)))
+    → HasEntries choice column records first d old now before after r
+entries_broken choice column records first d old now before after (Ok w) c is part = absurd is
+entries_broken choice column records first d old now before after (Err e) c is part =
+    record { few = tt; all = tt; more = tt; made = tt; part = λ memory. part (sym is ∙ memory) }
+
+-- where they stand behind one line more
+pub entries_below : (choice : SheetChoice) (column : DateColumn) (records : List Fields) (line : Fields) (d : ℕ)
+    (old middle now : Option (List ℕ)) (before between after : SheetLines) (r : Result (ℕ × Bool) SheetCause)
+    → HasEntries choice column records [] d middle now between after r
+    → ((begun : Option (List ℕ)) (head : List Fields) → HasMade d begun old before head []
+    → HasMade d begun middle between (head ++ line ∷ []) [])
+    → HasEntries choice column records (line ∷ []) d old now before after r
+entries_below choice column records line d old middle now before between after r h step =
+    record {
+      few = h.few;
+      all = h.all;
+      more = h.more;
+      made = IfOk-weaker r _ _ (λ w made begun head none.
+          subst (λ (xs : List Fields). HasMade d begun now after xs []) (append_assoc head (line ∷ []) _)
+          (made begun (head ++ line ∷ []) (step begun head none))) h.made;
+      part = IfErr-weaker r _ _ (λ c part memory begun head none.
+          subst (HasFront d begun now) (append_assoc head (line ∷ []) _)
+          (part memory begun (head ++ line ∷ []) (step begun head none))) h.part;
+    }
+
 -- all of it was sent
 pub register_sent : (choice : SheetChoice) (column : DateColumn) (all rest : List Fields) (number : ℕ)
     (begun now : Option (List ℕ)) (lines : SheetLines)
@@ -127,10 +159,10 @@ register_begun choice column all rest begun now is (count, sent) = (
   sent,
 )
 
--- nothing was sent yet
-pub none_sent : (d : ℕ) (begun now : Option (List ℕ)) (lines : SheetLines) (rest : List Fields)
-    → HasMade d begun now lines [] [] → HasFront d begun now rest
-none_sent d begun now lines rest h = front_more d begun now [] rest (front_made d begun now lines [] [] h)
+-- nothing more was sent
+pub none_sent : (d : ℕ) (begun now : Option (List ℕ)) (lines : SheetLines) (head rest : List Fields)
+    → HasMade d begun now lines head [] → HasFront d begun now (head ++ rest)
+none_sent d begun now lines head rest h = front_more d begun now head rest (front_made d begun now lines head [] h)
 
 -- what holds of a register that was written whole, of a part, of all that it may have and of none
 pub if_whole : (written : Result (Option (ℕ × Bool)) SheetCause) (P : ℕ → Type 0)

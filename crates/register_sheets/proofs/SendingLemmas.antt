@@ -1,6 +1,7 @@
 -- How far records are written to an output.
 use Rattle.std.proofs.Common.{◌≡◌, ◌≤◌, ◌∙◌, ◌++◌, ℕ, List, [], ◌∷◌, Option, ap, append-nil, append_assoc, arith, drop, length}
-use Rattle.std.proofs.Common.{min, refl, subst, suc, sym, take, zero}
+use Rattle.std.proofs.Common.{IsErrAnd, inl, min, refl, subst, suc, sym, take, zero}
+use Rattle.std.specs.Prelude.{Bool, Err, IfOk, Ok, Result}
 use Rattle.std.specs.Io.KnownBytes.{Appends}
 use Rattle.std.proofs.KnownBytes.{Appends-nil, Appends-trans}
 use Rattle.std.proofs.Math.Seq.{take-append_seam}
@@ -9,9 +10,11 @@ use Rattle.std.proofs.lemmas.List.Concat.{flat_map-append}
 use Rattle.register_records.specs.Entries.{Fields}
 use Rattle.register_records.specs.Lines.{line_text}
 use Rattle.register_sheets.specs.LineViews.{Begins, EndsLine, GainsFields}
-use Rattle.register_sheets.specs.Sending.{HasFront, HasMade, IsSent}
+use Rattle.register_sheets.specs.Sending.{Ends, HasFront, HasMade, IsSent}
 use Rattle.register_sheets.specs.Sheets.{records_text}
 use Rattle.register_sheets.specs.declared.lines.SheetLines.{SheetLines}
+use Rattle.register_sheets.specs.declared.sheet_ends.SheetCause.{SheetCause}
+use Rattle.register_sheets.specs.declared.sheet_ends.SheetCause.TheVariants.{NoMemory}
 
 pub text_both : (d : ℕ) (xs ys : List Fields) → records_text d (xs ++ ys) ≡ records_text d xs ++ records_text d ys
 text_both d xs ys = flat_map-append (line_text d) xs ys
@@ -103,3 +106,35 @@ front_taken d begun now lines made all k n low h =
     subst (λ xs. HasFront d begun now (made ++ xs)) (sym parts)
     (subst (HasFront d begun now) (append_assoc made (take k all) (drop k (take n all)))
     (front_more d begun now (made ++ take k all) (drop k (take n all)) (front_made d begun now lines _ [] h)))
+
+-- where it is a fault, nothing is said of a value
+pub no_value : {T E : Type 0} (r : Result T E) (e : E) (P : T → Type 0) → IsErrAnd r (λ x. x ≡ e) → IfOk r P
+no_value (Ok v) e P is = absurd is
+no_value (Err c) e P is = tt
+
+-- how far the output has failed where memory ran out, and where a step stopped
+pub ends_memory : {A : Type 0} (r : Result A SheetCause) (failed fails : Bool) (mark new_mark : ℕ)
+    → IsErrAnd r (λ c. c ≡ NoMemory) → fails ≡ failed → new_mark ≡ mark → Ends r failed fails mark new_mark
+ends_memory (Ok v) failed fails mark new_mark is same marked = absurd is
+ends_memory (Err c) failed fails mark new_mark is same marked =
+    record { good = tt; causes = inl is; memory = λ _. same; sink = λ sink. absurd (cc (is, sink)); marked = marked }
+
+pub ends_passed : {A B : Type 0} (r : Result A SheetCause) (c : SheetCause) (failed middle fails : Bool)
+    (mark middle_mark new_mark : ℕ) → IsErrAnd r (λ e. e ≡ c) → Ends {A = B} (Err c) middle fails middle_mark new_mark
+    → middle ≡ failed → middle_mark ≡ mark → Ends r failed fails mark new_mark
+ends_passed (Ok v) c failed middle fails mark middle_mark new_mark is ends same marked = absurd is
+ends_passed (Err e) c failed middle fails mark middle_mark new_mark is ends same marked =
+    record {
+      good = tt;
+      causes = rw is ends.causes;
+      memory = λ memory. ends.memory (sym is ∙ memory) ∙ same;
+      sink = λ sink. ends.sink (sym is ∙ sink);
+      marked = ends.marked ∙ marked;
+    }
+
+-- where it had not failed in a step before
+pub ends_on : {A : Type 0} (r : Result A SheetCause) (failed middle fails : Bool) (mark middle_mark new_mark : ℕ)
+    → Ends r middle fails middle_mark new_mark → middle ≡ failed → middle_mark ≡ mark → Ends r failed fails mark new_mark
+ends_on r failed middle fails mark middle_mark new_mark ends same marked =
+    subst (λ (before : Bool). Ends r before fails mark new_mark) same
+    (subst (λ (before : ℕ). Ends r middle fails before new_mark) marked ends)

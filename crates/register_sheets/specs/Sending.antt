@@ -1,12 +1,14 @@
 -- How far records are written to an output. No public contract cites this file.
-use Rattle.std.specs.Prelude.{◌≡◌, ◌⊎◌, ◌≤◌, ◌++◌, ℕ, Bool, true, false, List, [], Option, Result, Ok, Err, IfErr, OnOk}
+use Rattle.std.specs.Prelude.{◌≡◌, ◌⊎◌, ◌≤◌, ◌<◌, ◌++◌, ℕ, Bool, true, false, List, [], Option, Result, Ok, Err, IfErr, IfOk, OnOk}
 use Rattle.std.specs.Prelude.{◌∷◌, None, Some, count_by, drop, get_or, length, map, take}
 use Rattle.std.specs.Io.KnownBytes.{Appends}
 use Rattle.register_records.specs.Entries.{Fields, record_limit}
 use Rattle.register_records.specs.Outcomes.{TableRow}
 use Rattle.register_sheets.specs.Converted.{AreRowsFrom, column_rows, is_refused}
 use Rattle.register_sheets.specs.LineViews.{Begins}
+use Rattle.register_sheets.specs.Registers.{register_records}
 use Rattle.register_sheets.specs.Sheets.{filled, records_text}
+use Rattle.register_sheets.specs.declared.choices.DateColumn.{DateColumn}
 use Rattle.register_sheets.specs.declared.choices.SheetChoice.{SheetChoice}
 use Rattle.register_sheets.specs.declared.lines.SheetLines.{SheetLines}
 use Rattle.register_sheets.specs.declared.sheet_ends.SheetCause.{SheetCause}
@@ -41,6 +43,19 @@ pub record Ends {A : Type 0} (result : Result A SheetCause) (failed fails : Bool
   pub memory : IfErr result (λ c. c ≡ cause.NoMemory → fails ≡ failed)
   pub sink : IfErr result (λ c. c ≡ cause.SinkFault → fails ≡ true)
   pub marked : new_mark ≡ mark
+
+-- what a register has of these records is written behind the first lines: of so many of them, and whether there are more
+-- than may be; or, where memory ran out, a front of it
+pub record HasEntries (choice : SheetChoice) (column : DateColumn) (records first : List Fields) (delimiter : ℕ)
+    (old now : Option (List ℕ)) (before after : SheetLines) (result : Result (ℕ × Bool) SheetCause) : Type 0 where
+  pub few : IfOk result (λ r. r.0 ≤ record_limit)
+  pub all : IfOk result (λ r. r.1 ≡ false → r.0 ≡ length records)
+  pub more : IfOk result (λ r. r.1 ≡ true → (r.0 ≡ record_limit) × (record_limit < length records))
+  pub made : IfOk result (λ r. (begun : Option (List ℕ)) (head : List Fields) → HasMade delimiter begun old before head []
+      → HasMade delimiter begun now after (head ++ (first ++ register_records choice column 0 (take r.0 records))) [])
+  pub part : IfErr result (λ c. c ≡ cause.NoMemory → (begun : Option (List ℕ)) (head : List Fields)
+      → HasMade delimiter begun old before head []
+      → HasFront delimiter begun now (head ++ (first ++ register_records choice column 0 records)))
 
 -- these are the rows of the first of these records
 pub record HasBody (choice : SheetChoice) (records : List Fields) (rows : List (List TableRow)) : Type 0 where

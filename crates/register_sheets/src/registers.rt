@@ -1,15 +1,15 @@
 //! The register of a column of dates, as a text.
 
-ghost use Rattle.std.specs.Prelude.{◌≡◌, ◌≢◌, ◌≤◌, ◌<◌, ◌+◌, ◌++◌, ◌∷◌, [], ℕ, List, Option, drop, length, take, true, false};
+ghost use Rattle.std.specs.Prelude.{◌≡◌, ◌≢◌, ◌≤◌, ◌++◌, ◌∷◌, [], ℕ, List, Option, length, true, false};
 ghost use Rattle.std.specs.Prelude.{IfErr, IfNone, IfOk, IfSome, OnOk, Ok};
 ghost use Rattle.csv.specs.Records.{fields_of};
-ghost use Rattle.register_records.specs.Entries.{Fields, record_limit, text_records};
+ghost use Rattle.register_records.specs.Entries.{Fields, text_records};
 ghost use Rattle.register_records.specs.Sources.{Gains};
 ghost use Rattle.register_sheets.specs.Choices.{register_record};
 ghost use Rattle.register_sheets.specs.LineViews.{GainsFields};
 ghost use Rattle.register_sheets.specs.Reading.{IsReading, left_of};
-ghost use Rattle.register_sheets.specs.Registers.{IsFrontOfRegister, IsFullRegister, IsRegister, register_head, register_records};
-ghost use Rattle.register_sheets.specs.Sending.{Ends, HasFront, HasMade, count_of};
+ghost use Rattle.register_sheets.specs.Registers.{IsFrontOfRegister, IsFullRegister, IsRegister, register_head};
+ghost use Rattle.register_sheets.specs.Sending.{Ends, HasEntries, HasMade, count_of};
 
 use crate::choices::{DateColumn, SheetChoice, SheetSetup};
 use crate::lines::SheetLines;
@@ -89,17 +89,8 @@ fn write_entries<W: Output>(
 ) -> Result<(u32, bool), SheetCause>
     requires reading { IsReading records.old }
     ensures kept { sender.new.delimiter ≡ sender.old.delimiter }
-    ensures few { IfOk result (λ r. r.0 ≤ record_limit) }
-    ensures all { IfOk result (λ r. r.1 ≡ false → r.0 ≡ length (left_of records.old)) }
-    ensures more { IfOk result (λ r. r.1 ≡ true → (r.0 ≡ record_limit) × (record_limit < length (left_of records.old))) }
-    ensures made { IfOk result (λ r. (begun : Option (List ℕ)) (head : List Fields)
-        → HasMade sender.old.delimiter begun (W.contents output.old) sender.old.lines head []
-        → HasMade sender.old.delimiter begun (W.contents output.new) sender.new.lines
-        (head ++ register_records choice.now column.now 0 (take r.0 (left_of records.old))) []) }
-    ensures part { IfErr result (λ c. c ≡ SheetCause.NoMemory → (begun : Option (List ℕ)) (head : List Fields)
-        → HasMade sender.old.delimiter begun (W.contents output.old) sender.old.lines head []
-        → HasFront sender.old.delimiter begun (W.contents output.new)
-        (head ++ register_records choice.now column.now 0 (left_of records.old))) }
+    ensures written { HasEntries choice.now column.now (left_of records.old) [] sender.old.delimiter
+        (W.contents output.old) (W.contents output.new) sender.old.lines sender.new.lines result }
     ensures output { Ends result (W.has_failed output.old) (W.has_failed output.new) (W.own_mark output.old)
         (W.own_mark output.new) }
 {
@@ -128,17 +119,8 @@ fn write_lines<W: Output>(
 ) -> Result<(u32, bool), SheetCause>
     requires reading { IsReading records.old }
     ensures kept { sender.new.delimiter ≡ sender.old.delimiter }
-    ensures few { IfOk result (λ r. r.0 ≤ record_limit) }
-    ensures all { IfOk result (λ r. r.1 ≡ false → r.0 ≡ length (left_of records.old)) }
-    ensures more { IfOk result (λ r. r.1 ≡ true → (r.0 ≡ record_limit) × (record_limit < length (left_of records.old))) }
-    ensures made { IfOk result (λ r. (begun : Option (List ℕ))
-        → HasMade sender.old.delimiter begun (W.contents output.old) sender.old.lines [] []
-        → HasMade sender.old.delimiter begun (W.contents output.new) sender.new.lines
-        (register_head ∷ register_records choice.now column.now 0 (take r.0 (left_of records.old))) []) }
-    ensures part { IfErr result (λ c. c ≡ SheetCause.NoMemory → (begun : Option (List ℕ))
-        → HasMade sender.old.delimiter begun (W.contents output.old) sender.old.lines [] []
-        → HasFront sender.old.delimiter begun (W.contents output.new)
-        (register_head ∷ register_records choice.now column.now 0 (left_of records.old))) }
+    ensures written { HasEntries choice.now column.now (left_of records.old) (register_head ∷ []) sender.old.delimiter
+        (W.contents output.old) (W.contents output.new) sender.old.lines sender.new.lines result }
     ensures output { Ends result (W.has_failed output.old) (W.has_failed output.new) (W.own_mark output.old)
         (W.own_mark output.new) }
 {

@@ -6,7 +6,7 @@ ghost use Rattle.csv.specs.Records.{fields_of};
 ghost use Rattle.register_records.specs.Entries.{record_limit, text_records};
 ghost use Rattle.register_sheets.specs.Choices.{date_limit};
 ghost use Rattle.register_sheets.specs.Converted.{below};
-ghost use Rattle.register_sheets.specs.FoundViews.{HasFound, HasSpace};
+ghost use Rattle.register_sheets.specs.FoundViews.{HasFound, HasSpace, unknown_of};
 ghost use Rattle.register_sheets.specs.LineViews.{GainsFields};
 ghost use Rattle.register_sheets.specs.Reading.{IsReading, left_of};
 ghost use Rattle.register_sheets.specs.UnknownNames.{IsNoDate, IsUnknown, SheetDate, StaysWritten, all_dates, dates_of};
@@ -246,6 +246,16 @@ impl Unknown {
     }
 }
 
+/// What is not known in a sheet, or why that is not said.
+fn unknown_of(added: Result<(), SheetCause>, unknown: Unknown) -> Result<Unknown, SheetCause>
+    ensures { result ≡ unknown_of added unknown }
+{
+    match added {
+        Ok(()) => Ok(unknown),
+        Err(cause) => Err(cause),
+    }
+}
+
 /// The first names in a sheet that are not known, at most so many, and how many dates each stopped. Two names are one
 /// where they stopped dates of one calendar, or stand for a calendar, and are the same but for the case of A to Z.
 ///
@@ -278,11 +288,12 @@ pub fn unknown_names(
         },
         dates: DateCounts { short: 0, kept: 0 },
     };
-    found.add_sheet(alloc, choice, &mut records, &mut record, most)?;
-    Ok(Unknown {
+    let added = found.add_sheet(alloc, choice, &mut records, &mut record, most);
+    let unknown = Unknown {
         names: found.names.listed,
         more: found.names.more,
         short: found.dates.short,
         kept: found.dates.kept,
-    })
+    };
+    unknown_of(added, unknown)
 }

@@ -1,9 +1,13 @@
-use Rattle.std.proofs.Common.{arith, get_or}
+use Rattle.std.proofs.Common.{[], arith, get_or, refl}
+use Rattle.std.proofs.lemmas.List.{drop_all}
 use Rattle.register_records.specs.Views.{row_seen}
 use Rattle.register_sheets.specs.declared.choices.AskedColumn.TheVariants.{DayNumber}
 use Rattle.register_sheets.proofs.AskedLemmas.{asked_step, few_taken}
-use Rattle.register_sheets.proofs.LineLemmas.{both_gained}
+use Rattle.register_sheets.proofs.LineLemmas.{both_gained, gained_at_last, none_gained}
 use Rattle.register_sheets.proofs.asked.push_each.Goals as goal
+
+pub columns-init : goal.columns-init
+columns-init c = record { few = omega arith; line = ([], none_gained c.args.lines.now, refl) }
 
 pub columns-preserved : goal.columns-preserved
 columns-preserved c =
@@ -19,3 +23,11 @@ columns-preserved c =
             made _ c.columns-test.true taken whole,
       );
     }
+
+pub returns : goal.returns
+returns c =
+    let (made, gains, whole) = c.columns.invariant.line in
+    let columns = c.args.columns.now in
+    let last = drop_all c.columns.column-index columns (omega (arith, c.columns-test.false)) in
+    gained_at_last c.push_refusal.result made _ _ c.args.lines.now c.columns.lines c.push_refusal.new.lines gains
+    c.push_refusal.ensures (rw last at whole)

@@ -8,7 +8,7 @@ use Rattle.register_sheets.specs.Reading.{left_of}
 use Rattle.register_sheets.specs.Sending.{HasMade}
 use Rattle.register_sheets.specs.Sheets.{filled}
 use Rattle.register_sheets.proofs.ListLemmas.{one_taken}
-use Rattle.register_sheets.proofs.SendingLemmas.{fields_made, front_taken}
+use Rattle.register_sheets.proofs.SendingLemmas.{ends_memory, ends_passed, fields_made, front_taken, no_value}
 use Rattle.register_sheets.proofs.WidthLemmas.{none_filled}
 use Rattle.register_sheets.proofs.converting.copy_records.Goals as goal
 
@@ -42,42 +42,55 @@ records-preserved g c =
 none_left : (all : List Fields) (k n : ℕ) → k < n → n < length all → drop k all ≡ [] → ⊥
 none_left all k n lt room e = omega (arith, length-drop k all, ap length e)
 
-pub returns-in_err-read_next-clause-part : goal.returns-in_err-read_next-clause-part
-returns-in_err-read_next-clause-part g c =
-    passed_on _ _ _ c.from_residual.ensures.1 (λ is begun made h.
-    front_taken _ begun _ _ made (left_of c.args.records.now) c.records.counter c.args.count (omega arith)
-    (c.records.invariant.made begun made h))
+pub returns-in_err-read_next : goal.returns-in_err-read_next
+returns-in_err-read_next g c =
+    let inv = c.records.invariant in
+    let is = c.from_residual.ensures.1 in
+    record {
+      reading = no_value c.from_residual.result _ _ is;
+      left = no_value c.from_residual.result _ _ is;
+      kept = inv.delimiter;
+      made = no_value c.from_residual.result _ _ is;
+      part = passed_on _ _ _ is (λ memory begun made h.
+          front_taken _ begun _ _ made (left_of c.args.records.now) c.records.counter c.args.count (omega arith)
+          (inv.made begun made h));
+      output = ends_memory _ _ _ _ _ is inv.failed inv.mark;
+    }
 
-pub returns-then-not-branch-clause-reading : goal.returns-then-not-branch-clause-reading
-returns-then-not-branch-clause-reading g c =
+pub returns-then-not-branch : goal.returns-then-not-branch
+returns-then-not-branch g c =
     let no : c.in_ok-read_next.field-0 ≡ false = search rules in
     let none = c.read_next.ensures.none (c.in_ok-read_next.was ∙ ap Ok no) in
     absurd (none_left (left_of c.args.records.now) c.records.counter c.args.count c.records-test.true c.requires.more
     (sym c.records.invariant.left ∙ none))
 
-pub returns-then-not-branch-clause-left : goal.returns-then-not-branch-clause-left
-returns-then-not-branch-clause-left g c =
-    let no : c.in_ok-read_next.field-0 ≡ false = search rules in
-    let none = c.read_next.ensures.none (c.in_ok-read_next.was ∙ ap Ok no) in
-    absurd (none_left (left_of c.args.records.now) c.records.counter c.args.count c.records-test.true c.requires.more
-    (sym c.records.invariant.left ∙ none))
+pub returns-in_err-push_own : goal.returns-in_err-push_own
+returns-in_err-push_own g c =
+    let inv = c.records.invariant in
+    let is = c.from_residual-in_err-push_own.ensures.1 in
+    record {
+      reading = no_value c.from_residual-in_err-push_own.result _ _ is;
+      left = no_value c.from_residual-in_err-push_own.result _ _ is;
+      kept = inv.delimiter;
+      made = no_value c.from_residual-in_err-push_own.result _ _ is;
+      part = passed_on _ _ _ is (λ memory begun made h.
+          front_taken _ begun _ _ made (left_of c.args.records.now) c.records.counter c.args.count (omega arith)
+          (inv.made begun made h));
+      output = ends_memory _ _ _ _ _ is inv.failed inv.mark;
+    }
 
-pub returns-then-not-branch-clause-made : goal.returns-then-not-branch-clause-made
-returns-then-not-branch-clause-made g c =
-    let no : c.in_ok-read_next.field-0 ≡ false = search rules in
-    let none = c.read_next.ensures.none (c.in_ok-read_next.was ∙ ap Ok no) in
-    absurd (none_left (left_of c.args.records.now) c.records.counter c.args.count c.records-test.true c.requires.more
-    (sym c.records.invariant.left ∙ none))
-
-pub returns-in_err-push_own-clause-part : goal.returns-in_err-push_own-clause-part
-returns-in_err-push_own-clause-part g c =
-    passed_on _ _ _ c.from_residual-in_err-push_own.ensures.1 (λ is begun made h.
-    front_taken _ begun _ _ made (left_of c.args.records.now) c.records.counter c.args.count (omega arith)
-    (c.records.invariant.made begun made h))
-
-pub returns-in_err-end-clause-part : goal.returns-in_err-end-clause-part
-returns-in_err-end-clause-part g c =
-    passed_on _ _ _ c.from_residual-in_err-end.ensures.1 (λ is begun made h.
-    rw (c.in_err-end.ensures.memory is)
-    (front_taken _ begun _ _ made (left_of c.args.records.now) c.records.counter c.args.count (omega arith)
-    (c.records.invariant.made begun made h)))
+pub returns-in_err-end : goal.returns-in_err-end
+returns-in_err-end g c =
+    let inv = c.records.invariant in
+    let is = c.from_residual-in_err-end.ensures.1 in
+    record {
+      reading = no_value c.from_residual-in_err-end.result _ _ is;
+      left = no_value c.from_residual-in_err-end.result _ _ is;
+      kept = c.in_err-end.ensures.kept ∙ inv.delimiter;
+      made = no_value c.from_residual-in_err-end.result _ _ is;
+      part = passed_on _ _ _ is (λ memory begun made h.
+          rw (c.in_err-end.ensures.memory memory)
+          (front_taken _ begun _ _ made (left_of c.args.records.now) c.records.counter c.args.count (omega arith)
+          (inv.made begun made h)));
+      output = ends_passed _ _ _ _ _ _ _ _ is c.in_err-end.ensures.output inv.failed inv.mark;
+    }

@@ -14,21 +14,43 @@ records-preserved c =
     let (taken, left) = one_taken all c.records.counter (fields_of c.read_next.new.record) _ (sym inv.left ∙ found) in
     record { reading = c.read_next.ensures.reading (c.in_ok-read_next.was ∙ ap Ok yes); left = sym left }
 
-pub returns-then-not-branch-clause-none : goal.returns-then-not-branch-clause-none
-returns-then-not-branch-clause-none c _ =
+pub returns-in_err-read_next : goal.returns-in_err-read_next
+returns-in_err-read_next c =
+    let is = c.from_residual.ensures.1 in
+    record {
+      reading = λ there. absurd (rw there at is);
+      named = λ there. absurd (rw there at is);
+      left = λ there. absurd (rw there at is);
+      found = λ there. absurd (rw there at is);
+      none = λ end. absurd (rw end at is);
+    }
+
+pub returns-then-not-branch : goal.returns-then-not-branch
+returns-then-not-branch c =
     let no : c.in_ok-read_next.field-0 ≡ false = search rules in
     let none = c.read_next.ensures.none (c.in_ok-read_next.was ∙ ap Ok no) in
-    none_below (left_of c.args.records.now) c.records.counter c.args.above (omega arith)
-    (sym c.records.invariant.left ∙ none)
+    record {
+      reading = λ there. absurd (cc);
+      named = λ there. absurd (cc);
+      left = λ there. absurd (cc);
+      found = λ there. absurd (cc);
+      none = λ end.
+          none_below (left_of c.args.records.now) c.records.counter c.args.above (omega arith)
+          (sym c.records.invariant.left ∙ none);
+    }
 
-pub returns-clause-left : goal.returns-clause-left
-returns-clause-left c there =
-    let next = sym c.records.invariant.left ∙ c.read_next-2.ensures.found there in
-    let (lt, left, same) = stands_below (left_of c.args.records.now) c.records.counter c.args.above
-    (fields_of c.read_next-2.new.record) [] _ (omega arith) next in
-    sym left
-
-pub returns-clause-none : goal.returns-clause-none
-returns-clause-none c end =
-    none_below (left_of c.args.records.now) c.records.counter c.args.above (omega arith)
-    (sym c.records.invariant.left ∙ c.read_next-2.ensures.none end)
+pub returns : goal.returns
+returns c =
+    let inv = c.records.invariant in
+    let read = c.read_next-2.ensures in
+    let all = left_of c.args.records.now in
+    let stands = λ (there : c.read_next-2.result ≡ Ok true).
+    stands_below all c.records.counter c.args.above (fields_of c.read_next-2.new.record) [] _ (omega arith)
+    (sym inv.left ∙ read.found there) in
+    record {
+      reading = read.reading;
+      named = λ there. (stands there).0;
+      left = λ there. sym (stands there).1;
+      found = λ there. sym (stands there).2;
+      none = λ end. none_below all c.records.counter c.args.above (omega arith) (sym inv.left ∙ read.none end);
+    }

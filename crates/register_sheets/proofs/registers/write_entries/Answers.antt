@@ -1,14 +1,15 @@
 use Rattle.std.proofs.Common.{◌≡◌, ◌∙◌, ◌++◌, [], List, append-nil, ap, arith, length, length-drop, refl, rules, subst}
 use Rattle.std.proofs.Common.{sym, take, true, false}
 use Rattle.std.specs.Prelude.{Ok}
+use Rattle.std.proofs.lemmas.Bool.{false≢true}
 use Rattle.csv.specs.Records.{fields_of}
 use Rattle.register_records.specs.Entries.{Fields}
-use Rattle.register_records.proofs.StepLemmas.{passed_on}
 use Rattle.register_sheets.specs.Reading.{left_of}
 use Rattle.register_sheets.specs.Registers.{register_records}
 use Rattle.register_sheets.specs.Sending.{HasMade}
 use Rattle.register_sheets.proofs.ListLemmas.{one_taken}
-use Rattle.register_sheets.proofs.RegisterLemmas.{register_front, register_more}
+use Rattle.register_sheets.proofs.RegisterLemmas.{entries_broken, register_front, register_more}
+use Rattle.register_sheets.proofs.SendingLemmas.{ends_memory, ends_passed}
 use Rattle.register_sheets.proofs.registers.write_entries.Goals as goal
 
 pub records-init : goal.records-init
@@ -53,23 +54,62 @@ records-preserved g c =
       mark = step.output.marked ∙ inv.mark;
     }
 
-pub returns-in_err-read_next-clause-part : goal.returns-in_err-read_next-clause-part
-returns-in_err-read_next-clause-part g c =
-    passed_on _ _ _ c.from_residual.ensures.1 (λ is begun head h.
-    register_front c.args.choice.now c.args.column.now (left_of c.args.records.now) c.records.number _ begun _ _ head
-    (c.records.invariant.made begun head h))
+pub returns-in_err-read_next : goal.returns-in_err-read_next
+returns-in_err-read_next g c =
+    let inv = c.records.invariant in
+    record {
+      kept = inv.delimiter;
+      written = entries_broken _ _ _ [] _ _ _ _ _ _ _ c.from_residual.ensures.1 (λ is begun head h.
+          register_front c.args.choice.now c.args.column.now (left_of c.args.records.now) c.records.number _ begun _ _ head
+          (inv.made begun head h));
+      output = ends_memory _ _ _ _ _ c.from_residual.ensures.1 inv.failed inv.mark;
+    }
 
-pub returns-in_err-write_entry-clause-part : goal.returns-in_err-write_entry-clause-part
-returns-in_err-write_entry-clause-part g c =
-    passed_on _ _ _ c.from_residual-in_err-write_entry.ensures.1 (λ is begun head h.
-    rw (c.in_err-write_entry.ensures.memory is)
-    (register_front c.args.choice.now c.args.column.now (left_of c.args.records.now) c.records.number _ begun _ _ head
-    (c.records.invariant.made begun head h)))
+pub returns-in_err-write_entry : goal.returns-in_err-write_entry
+returns-in_err-write_entry g c =
+    let inv = c.records.invariant in
+    let step = c.in_err-write_entry.ensures in
+    record {
+      kept = step.kept ∙ inv.delimiter;
+      written = entries_broken _ _ _ [] _ _ _ _ _ _ _ c.from_residual-in_err-write_entry.ensures.1 (λ is begun head h.
+          rw (step.memory is)
+          (register_front c.args.choice.now c.args.column.now (left_of c.args.records.now) c.records.number _ begun _ _ head
+          (inv.made begun head h)));
+      output = ends_passed _ _ _ _ _ _ _ _ c.from_residual-in_err-write_entry.ensures.1 step.output inv.failed inv.mark;
+    }
 
-pub returns-then-not-branch-clause-all : goal.returns-then-not-branch-clause-all
-returns-then-not-branch-clause-all g c _ =
+pub returns-then-not-branch : goal.returns-then-not-branch
+returns-then-not-branch g c =
     let inv = c.records.invariant in
     let all = left_of c.args.records.now in
     let no : c.in_ok-read_next.field-0 ≡ false = search rules in
     let none = c.read_next.ensures.none (c.in_ok-read_next.was ∙ ap Ok no) in
-    omega (arith, inv.within, length-drop c.records.number all, ap length (sym inv.left ∙ none))
+    record {
+      kept = inv.delimiter;
+      written = record {
+        few = inv.limited;
+        all = λ _. omega (arith, inv.within, length-drop c.records.number all, ap length (sym inv.left ∙ none));
+        more = λ e. absurd (false≢true e);
+        made = inv.made;
+        part = tt;
+      };
+      output = record { good = inv.failed; causes = tt; memory = tt; sink = tt; marked = inv.mark };
+    }
+
+pub returns-then-number-eq-MAX_RECORDS : goal.returns-then-number-eq-MAX_RECORDS
+returns-then-number-eq-MAX_RECORDS g c =
+    let inv = c.records.invariant in
+    let all = left_of c.args.records.now in
+    let yes : c.in_ok-read_next.field-0 ≡ true = search rules in
+    let found = c.read_next.ensures.found (c.in_ok-read_next.was ∙ ap Ok yes) in
+    record {
+      kept = inv.delimiter;
+      written = record {
+        few = inv.limited;
+        all = λ e. absurd (false≢true (sym e));
+        more = λ _. (omega arith, omega (arith, length-drop c.records.number all, ap length (sym inv.left ∙ found)));
+        made = inv.made;
+        part = tt;
+      };
+      output = record { good = inv.failed; causes = tt; memory = tt; sink = tt; marked = inv.mark };
+    }

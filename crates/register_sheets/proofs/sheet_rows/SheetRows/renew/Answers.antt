@@ -1,17 +1,18 @@
-use Rattle.std.proofs.Common.{◌≡◌, ◌∙◌, ◌<◌, ◌+◌, List, ap, arith, length, length-set, length-take, map, rules, subst, sym, take, take_all}
+use Rattle.std.proofs.Common.{◌≡◌, ◌∙◌, ◌<◌, ◌+◌, List, ap, arith, length, length-set, length-take, map, refl, rules, subst, sym, take, take_all}
 use Rattle.std.proofs.lemmas.List.{length-map}
 use Rattle.std.specs.List.{AllZip}
 use Rattle.csv.specs.Records.{fields_of}
 use Rattle.register_records.specs.Outcomes.{IsRowOf, TableRow}
 use Rattle.register_records.specs.Views.{row_seen}
 use Rattle.register_sheets.specs.Choices.{asked_targets, register_entry}
-use Rattle.register_sheets.specs.RowViews.{CountsMore}
+use Rattle.register_sheets.specs.RowViews.{CountsMore, rows_seen}
 use Rattle.register_sheets.specs.UnknownNames.{SheetDate}
 use Rattle.register_sheets.specs.declared.choices.CalendarField.TheVariants.{Column}
 use Rattle.register_sheets.specs.declared.choices.SheetChoice.{SheetChoice}
 use Rattle.register_sheets.specs.declared.choices.DateColumn.{DateColumn}
 use Rattle.register_sheets.proofs.RowLemmas.{seen_count, seen_few, seen_set, zip_at}
-use Rattle.register_sheets.proofs.UnreadLemmas.{column_counted, place_left}
+use Rattle.register_sheets.proofs.SendingLemmas.{no_value}
+use Rattle.register_sheets.proofs.UnreadLemmas.{column_counted, none_counted, place_left}
 use Rattle.register_sheets.proofs.sheet_rows.SheetRows.renew.Goals as goal
 
 abbrev none : DateColumn
@@ -41,6 +42,48 @@ dates-preserved c =
       unread = column_counted choice dates (fields_of c.args.record.now) place none c.args.self.now.unread c.dates.self.unread
           c.renew_row.new.unread c.dates-test.true inv.unread c.in_ok-renew_row.ensures.unread;
     }
+
+pub dates-init : goal.dates-init
+dates-init c =
+    record {
+      rows = tt;
+      count = refl;
+      room = refl;
+      refused = refl;
+      unread = none_counted c.args.setup.now.choice c.args.self.now.unread;
+    }
+
+pub returns-in_err-renew_row : goal.returns-in_err-renew_row
+returns-in_err-renew_row c =
+    let inv = c.dates.invariant in
+    let is = c.from_residual.ensures.1 in
+    record {
+      rows = no_value c.from_residual.result _ _ is;
+      unread = no_value c.from_residual.result _ _ is;
+      kept = inv.refused;
+      count = seen_count row_seen c.dates.self.count c.args.self.now.count _ c.args.self.now.rows inv.count
+          (length-set c.dates.self.rows c.dates.place c.renew_row.new.row ∙ inv.room);
+    }
+
+pub returns-clause-rows : goal.returns-clause-rows
+returns-clause-rows c =
+    let inv = c.dates.invariant in
+    let place = c.dates.place in
+    let choice = c.args.setup.now.choice in
+    let columns = c.choice.result.dates.now in
+    let seen = rows_seen c.dates.self in
+    let R : DateColumn → TableRow → Type 0
+    = λ column row. IsRowOf (asked_targets choice.columns.now)
+    (register_entry choice column c.args.number (fields_of c.args.record.now)) row in
+    let same = ap (λ (choice : SheetChoice). choice.dates.now) c.choice.ensures in
+    let many = seen_count row_seen c.dates.self.count c.args.self.now.count c.dates.self.rows c.args.self.now.rows inv.count
+    inv.room in
+    let every : take place columns ≡ choice.dates.now
+    = take_all place columns (omega (arith, c.dates-test.false)) ∙ same in
+    let rows : take place seen ≡ seen
+    = take_all place seen (omega (arith, many, c.requires.count, ap length same, c.dates-test.false)) in
+    subst (λ (ys : List TableRow). AllZip R choice.dates.now ys) rows
+    (subst (λ (xs : List DateColumn). AllZip R xs (take place seen)) every inv.rows)
 
 pub returns-clause-count : goal.returns-clause-count
 returns-clause-count c =

@@ -1,13 +1,15 @@
-use Rattle.std.proofs.Common.{◌≡◌, ◌∙◌, ap, arith, length, length-drop, length-take, rules, subst, sym, take, take_all}
-use Rattle.std.proofs.Common.{true, false, List}
+use Rattle.std.proofs.Common.{◌≡◌, ◌≤◌, ◌∙◌, ap, arith, length, length-drop, length-take, rules, subst, sym, take, take_all}
+use Rattle.std.proofs.Common.{true, false, List, inl, inr, refl}
 use Rattle.std.specs.Prelude.{Ok}
 use Rattle.csv.specs.Records.{fields_of}
 use Rattle.register_records.specs.Entries.{Fields}
+use Rattle.register_records.proofs.StepLemmas.{passed_on}
 use Rattle.register_sheets.specs.FoundViews.{HasFound}
 use Rattle.register_sheets.specs.Reading.{left_of}
 use Rattle.register_sheets.specs.UnknownNames.{SheetDate, all_dates}
 use Rattle.register_sheets.proofs.FoundLemmas.{dates_few, dates_more}
 use Rattle.register_sheets.proofs.ListLemmas.{one_taken}
+use Rattle.register_sheets.proofs.SendingLemmas.{no_value}
 use Rattle.register_sheets.proofs.stopped_dates.Found.add_records.Goals as goal
 
 pub add_record-requires : goal.add_record-requires
@@ -47,21 +49,48 @@ records-preserved c =
           (c.in_ok-add_record.ensures (all_dates choice (take c.records.number all)) inv.found);
     }
 
-pub returns-then-not-branch-clause-found : goal.returns-then-not-branch-clause-found
-returns-then-not-branch-clause-found c =
-    let inv = c.records.invariant in
-    let all = left_of c.args.records.now in
-    let no_more : c.in_ok-read_next.field-0 ≡ false = search rules in
-    let none = c.read_next.ensures.none (c.in_ok-read_next.was ∙ ap Ok no_more) in
-    let whole = take_all c.records.number all
-    (omega (arith, length-drop c.records.number all, ap length (sym inv.left ∙ none))) in
-    subst (λ (records : List Fields). HasFound c.args.choice.now (all_dates c.args.choice.now records) c.args.most
-    c.records.self) whole inv.found
+pub returns-in_err-read_next : goal.returns-in_err-read_next
+returns-in_err-read_next c =
+    let is = c.from_residual.ensures.1 in
+    record {
+      found = no_value c.from_residual.result _ _ is;
+      limited = no_value c.from_residual.result _ _ is;
+      causes = passed_on _ _ _ is (inl refl);
+    }
 
-pub returns-then-not-branch-clause-limited : goal.returns-then-not-branch-clause-limited
-returns-then-not-branch-clause-limited c =
+pub returns-in_err-add_record : goal.returns-in_err-add_record
+returns-in_err-add_record c =
+    let is = c.from_residual-in_err-add_record.ensures.1 in
+    record {
+      found = no_value c.from_residual-in_err-add_record.result _ _ is;
+      limited = no_value c.from_residual-in_err-add_record.result _ _ is;
+      causes = passed_on _ _ _ is (inl refl);
+    }
+
+pub returns-then-not-branch : goal.returns-then-not-branch
+returns-then-not-branch c =
     let inv = c.records.invariant in
+    let choice = c.args.choice.now in
     let all = left_of c.args.records.now in
     let no_more : c.in_ok-read_next.field-0 ≡ false = search rules in
     let none = c.read_next.ensures.none (c.in_ok-read_next.was ∙ ap Ok no_more) in
-    omega (arith, length-drop c.records.number all, ap length (sym inv.left ∙ none), inv.limited)
+    let few : length all ≤ c.records.number
+    = omega (arith, length-drop c.records.number all, ap length (sym inv.left ∙ none)) in
+    record {
+      found = subst (λ (records : List Fields). HasFound choice (all_dates choice records) c.args.most c.records.self)
+          (take_all c.records.number all few) inv.found;
+      limited = omega (arith, few, inv.limited);
+      causes = tt;
+    }
+
+pub returns-then-number-eq-MAX_RECORDS : goal.returns-then-number-eq-MAX_RECORDS
+returns-then-number-eq-MAX_RECORDS c =
+    let inv = c.records.invariant in
+    let all = left_of c.args.records.now in
+    let yes : c.in_ok-read_next.field-0 ≡ true = search rules in
+    let found = c.read_next.ensures.found (c.in_ok-read_next.was ∙ ap Ok yes) in
+    record {
+      found = tt;
+      limited = tt;
+      causes = inr (refl, omega (arith, length-drop c.records.number all, ap length (sym inv.left ∙ found)));
+    }

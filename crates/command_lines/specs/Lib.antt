@@ -1,4 +1,5 @@
 pub mod Rules
+pub mod ArgumentRules
 pub mod Values
 pub mod FileLists
 pub mod Meanings

@@ -1,8 +1,9 @@
 //! The arguments of a command line, as clap takes them, and what it finds of them.
 
-ghost use Rattle.std.specs.Prelude.{◌≡◌, IfOk, map, option_map, unwrap_or, [], false};
+ghost use Rattle.std.specs.Prelude.{◌≡◌, IfOk, fold, map, option_map, unwrap_or, [], false};
 ghost use Rattle.clap.specs.Words.{all_of, app_of, first_of, found_of, one_of, rows_of, rule_of};
 ghost use Rattle.command_lines.specs.Rules.{bare_command, files_rule, flag_rule, is_set, option_rule, repeated_rule};
+ghost use Rattle.command_lines.specs.ArgumentRules.{rule_by, with_argument};
 
 use clap::{Arg, ArgAction, ArgMatches, Command};
 use std::alloc::{AllocError, Global};
@@ -42,6 +43,52 @@ pub fn files_argument<'a>(alloc: Global, name: &'a str, value: &'a str) -> Arg<'
     Arg::new(alloc, name)
         .value_name(value)
         .action(ArgAction::Append)
+}
+
+/// An argument of a command line: its name, and what the page of usage calls its value.
+#[derive(Clone, Copy)]
+pub enum Argument<'a> {
+    /// An option that takes a value.
+    Valued(&'a str, &'a str),
+    /// The same, as often as wanted.
+    Repeated(&'a str, &'a str),
+    /// A flag.
+    Flag(&'a str),
+    /// The arguments that are no options, as many as there are.
+    Files(&'a str, &'a str),
+}
+
+/// An argument, as clap takes it.
+fn made<'a>(alloc: Global, argument: Argument<'a>) -> Arg<'a>
+    ensures rule { rule_of result ≡ rule_by argument.entry }
+    ensures local { result.global ≡ false }
+{
+    match argument {
+        Argument::Valued(name, value) => option(alloc, name, value),
+        Argument::Repeated(name, value) => repeated_option(alloc, name, value),
+        Argument::Flag(name) => flag(alloc, name),
+        Argument::Files(name, value) => files_argument(alloc, name, value),
+    }
+}
+
+/// The command of this name with these arguments. A loop over them, since an exit at each cost the prover much.
+///
+/// # Errors
+///
+/// Memory ran out.
+pub fn command_with<'a>(
+    alloc: Global,
+    name: &'a str,
+    version: &'a str,
+    arguments: &[Argument<'a>],
+) -> Result<Command<'a>, AllocError>
+    ensures { IfOk result (λ c. app_of c ≡ fold with_argument (bare_command name.entry.now) arguments.now) }
+{
+    let mut whole = empty_command(alloc, name, version);
+    'arguments: for &argument in arguments {
+        whole = whole.arg(made(alloc, argument))?;
+    }
+    Ok(whole)
 }
 
 /// The command of this name with none of its arguments.

@@ -8,8 +8,8 @@ mod statuses;
 mod values;
 
 pub use arguments::{
-    empty_command, files_argument, flag, is_given, option, repeated_option, value_given,
-    values_given,
+    Argument, command_with, empty_command, files_argument, flag, is_given, option, repeated_option,
+    value_given, values_given,
 };
 pub use files::{FilesFault, MAX_FILES, check_files};
 pub use statuses::{COMPLETE, INCOMPLETE};

@@ -14,9 +14,7 @@ use crate::option_values::{chosen_delimiter, chosen_ring, chosen_stripes, read_t
 use crate::request_faults::RequestFault;
 use clap::error::ErrorKind;
 use clap::{ArgMatches, Command};
-use command_lines::{
-    check_files, empty_command, files_argument, flag, is_given, option, value_given, values_given,
-};
+use command_lines::{Argument, check_files, command_with, is_given, value_given, values_given};
 use date_texts::Target;
 use date_texts::laws::{default_targets, one_target};
 use register_records::{Form, Setup};
@@ -24,6 +22,17 @@ use std::alloc::{AllocError, Global};
 
 /// The version of the program.
 pub const VERSION: &str = "1.2.0";
+
+/// The options and flags, and the files.
+const ARGUMENTS: [Argument<'static>; 7] = [
+    Argument::Valued("to", "LIST"),
+    Argument::Valued("ring", "N"),
+    Argument::Valued("stripes", "N"),
+    Argument::Valued("delimiter", "comma|semicolon|tab"),
+    Argument::Flag("sealed"),
+    Argument::Flag("summary"),
+    Argument::Files("file", "FILE"),
+];
 
 /// A conversion that the arguments ask for.
 #[derive(Drop)]
@@ -67,14 +76,7 @@ struct Options<'a> {
 pub fn command<'a>(alloc: Global) -> Result<Command<'a>, AllocError>
     ensures { IfOk result (λ c. app_of c ≡ command_line) }
 {
-    empty_command(alloc, "register", VERSION)
-        .arg(option(alloc, "to", "LIST"))?
-        .arg(option(alloc, "ring", "N"))?
-        .arg(option(alloc, "stripes", "N"))?
-        .arg(option(alloc, "delimiter", "comma|semicolon|tab"))?
-        .arg(flag(alloc, "sealed"))?
-        .arg(flag(alloc, "summary"))?
-        .arg(files_argument(alloc, "file", "FILE"))
+    command_with(alloc, "register", VERSION, &ARGUMENTS)
 }
 
 /// What clap finds in the arguments.

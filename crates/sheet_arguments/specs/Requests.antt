@@ -21,8 +21,10 @@ use Rattle.sheet_arguments.specs.declared.requests.CalendarsAsked.{CalendarsAske
 use Rattle.sheet_arguments.specs.declared.requests.CalendarsAsked.TheVariants as asked
 use Rattle.sheet_arguments.specs.declared.requests.Job.{Job}
 use Rattle.sheet_arguments.specs.declared.requests.Options.{Options}
+use Rattle.sheet_arguments.specs.declared.requests.Reading.{Reading}
 use Rattle.sheet_arguments.specs.declared.requests.Request.{Request}
 use Rattle.sheet_arguments.specs.declared.requests.Request.TheVariants as request
+use Rattle.sheet_arguments.specs.declared.requests.Words.{Words}
 
 -- where the calendars of the dates are: in these columns, or all dates of a column have one; one for all columns of
 -- dates, or one for each
@@ -170,16 +172,55 @@ values_by options = record {
   calendars = map (λ v. v.now) options.calendars.items;
   all = map (λ v. v.now) options.all.items;
   id = option_map (λ v. v.now) options.id;
-  order = option_map (λ v. v.now) options.order;
+  order = option_map (λ v. v.now) options.words.order;
   names = option_map (λ v. v.now) options.names;
-  short_years = option_map (λ v. v.now) options.short_years;
-  short_hebrew_years = option_map (λ v. v.now) options.short_hebrew_years;
+  short_years = option_map (λ v. v.now) options.words.short_years;
+  short_hebrew_years = option_map (λ v. v.now) options.words.short_hebrew_years;
   charter_years = options.charter_years;
-  skip = option_map (λ v. v.now) options.skip;
-  delimiter = option_map (λ v. v.now) options.delimiter;
+  skip = option_map (λ v. v.now) options.words.skip;
+  delimiter = option_map (λ v. v.now) options.words.delimiter;
   to = option_map (λ v. v.now) options.to;
   register = options.register;
   unknown = options.unknown;
   summary = options.summary;
   files = map (λ f. f.now) options.files.items;
 }
+
+-- ---- what the parts of a request promise
+
+-- the words are those of these values
+abbrev pub WordsAre : Words → Values → Type 0
+WordsAre words values =
+    (option_map (λ w. w.now) words.order ≡ values.order)
+    × (option_map (λ w. w.now) words.short_years ≡ values.short_years)
+    × (option_map (λ w. w.now) words.short_hebrew_years ≡ values.short_hebrew_years)
+    × (option_map (λ w. w.now) words.skip ≡ values.skip) × (option_map (λ w. w.now) words.delimiter ≡ values.delimiter)
+
+-- there are columns of dates, few enough, and as many calendars as wanted
+abbrev pub FewDates : Values → Type 0
+FewDates values =
+    ((length values.dates == 0) ≡ false) × (nat_lt date_limit (length values.dates) ≡ false)
+    × (are_misfits (length values.dates) (length values.calendars) (length values.all) ≡ false)
+
+-- the words say to read so
+abbrev pub AreSaidBy : Words → Reading → Type 0
+AreSaidBy words reading =
+    IsValueOf order_option (option_map (λ w. w.now) words.order) (order_number reading.order)
+    × IsValueOf short_option (option_map (λ w. w.now) words.short_years) (short_number reading.short_years)
+    × IsValueOf short_hebrew_option (option_map (λ w. w.now) words.short_hebrew_years)
+    (short_number reading.short_hebrew_years)
+    × IsValueOf skip_option (option_map (λ w. w.now) words.skip) reading.skip
+    × IsValueOf delimiter_option (option_map (λ w. w.now) words.delimiter) reading.delimiter
+
+-- the checks of words, and of files, as they stand among those of values
+abbrev pub word_checks : Words → List (Check Fault)
+word_checks words =
+    option_check order_option unknown_order (option_map (λ w. w.now) words.order)
+    ∷ option_check short_option bad_short_years (option_map (λ w. w.now) words.short_years)
+    ∷ option_check short_hebrew_option bad_short_hebrew_years (option_map (λ w. w.now) words.short_hebrew_years)
+    ∷ option_check skip_option bad_skip (option_map (λ w. w.now) words.skip)
+    ∷ option_check delimiter_option unknown_delimiter (option_map (λ w. w.now) words.delimiter) ∷ []
+
+abbrev pub output_checks : Bool → List Text → List (Check Fault)
+output_checks register files =
+    false_check (register && (length files == 0)) register_of_input ∷ file_check too_many_files file_twice files ∷ []

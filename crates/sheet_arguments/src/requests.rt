@@ -1,7 +1,7 @@
 //! What the arguments ask for.
 
-ghost use Rattle.std.specs.Prelude.{◌≡◌, ◌==◌, Err, IfErr, IfOk, IfSome, IsSomeAnd, Ok, OnErr, OnOk, map, option_map};
-ghost use Rattle.std.specs.Prelude.{false, length, nat_lt, true, ◌&&◌};
+ghost use Rattle.std.specs.Prelude.{◌≡◌, ◌==◌, ◌&&◌, Err, IfErr, IfOk, IfSome, IsSomeAnd, Ok, OnOk, false, length, map};
+ghost use Rattle.std.specs.Prelude.{option_map, take};
 ghost use Rattle.std.specs.String.{string_bytes};
 ghost use Rattle.clap.specs.Words.{FailsBy, HasKind, app_of, fault_of, found_of, matches_of, rows_of};
 ghost use Rattle.command_lines.specs.FileLists.{AreFilesToConvert, IsFileFault};
@@ -15,7 +15,8 @@ ghost use Rattle.sheet_arguments.specs.OptionValues.{order_number, order_option,
 ghost use Rattle.sheet_arguments.specs.OptionValues.{short_option, skip_option};
 ghost use Rattle.sheet_arguments.specs.Requests.{Ask, MeanJust, are_misfits as misfits_spec, calendars_wanted};
 ghost use Rattle.sheet_arguments.specs.Requests.{is_misfit as misfit_spec, meaning_of, sheet_line, task_of};
-ghost use Rattle.sheet_arguments.specs.Requests.{value_checks, values_by, wanted_by};
+ghost use Rattle.sheet_arguments.specs.Requests.{AreSaidBy, FewDates, WordsAre, output_checks, value_checks, values_by};
+ghost use Rattle.sheet_arguments.specs.Requests.{wanted_by, word_checks};
 
 use crate::column_lists::chosen_columns;
 use crate::named_calendars::named_calendars;
@@ -25,17 +26,34 @@ use crate::option_values::{
 use crate::request_faults::RequestFault;
 use clap::error::ErrorKind;
 use clap::{ArgMatches, Command};
-use command_lines::{
-    check_files, empty_command, files_argument, flag, is_given, option, repeated_option,
-    value_given, values_given,
-};
+use command_lines::{Argument, check_files, command_with, is_given, value_given, values_given};
 use date_texts::Calendar;
 use register_sheets::{AskedColumn, MAX_DATES};
 use std::alloc::{AllocError, Global};
-use written_dates::Choice;
+use written_dates::{Choice, Order, Short};
 
 /// The version of the program.
 pub const VERSION: &str = "1.2.0";
+
+/// The options and flags, and the files.
+const ARGUMENTS: [Argument<'static>; 16] = [
+    Argument::Repeated("date", "COLUMN"),
+    Argument::Repeated("calendar", "COLUMN"),
+    Argument::Repeated("all", "CALENDAR"),
+    Argument::Valued("id", "COLUMN"),
+    Argument::Valued("order", "year|day|month"),
+    Argument::Valued("names", "FILE"),
+    Argument::Valued("short-years", "refuse|keep|CENTURY"),
+    Argument::Valued("short-hebrew-years", "refuse|keep|5000"),
+    Argument::Flag("charter-years"),
+    Argument::Valued("skip", "N"),
+    Argument::Valued("delimiter", "comma|semicolon|tab"),
+    Argument::Valued("to", "LIST"),
+    Argument::Flag("register"),
+    Argument::Flag("unknown"),
+    Argument::Flag("summary"),
+    Argument::Files("file", "FILE"),
+];
 
 /// Where the calendars of the dates are: one for all columns of dates, or one for each.
 #[derive(Drop)]
@@ -86,6 +104,16 @@ pub enum Request<'a> {
     Convert(Job<'a>),
 }
 
+/// The words of how a sheet and its dates are read, as the arguments have them.
+#[derive(Clone, Copy)]
+struct Words<'a> {
+    order: Option<&'a str>,
+    short_years: Option<&'a str>,
+    short_hebrew_years: Option<&'a str>,
+    skip: Option<&'a str>,
+    delimiter: Option<&'a str>,
+}
+
 /// The values of the options and the files, as the arguments have them.
 #[derive(Drop)]
 struct Options<'a> {
@@ -93,13 +121,9 @@ struct Options<'a> {
     calendars: Vec<&'a str>,
     all: Vec<&'a str>,
     id: Option<&'a str>,
-    order: Option<&'a str>,
     names: Option<&'a str>,
-    short_years: Option<&'a str>,
-    short_hebrew_years: Option<&'a str>,
+    words: Words<'a>,
     charter_years: bool,
-    skip: Option<&'a str>,
-    delimiter: Option<&'a str>,
     to: Option<&'a str>,
     register: bool,
     unknown: bool,
@@ -115,23 +139,7 @@ struct Options<'a> {
 pub fn command<'a>(alloc: Global) -> Result<Command<'a>, AllocError>
     ensures { IfOk result (λ c. app_of c ≡ command_line) }
 {
-    empty_command(alloc, "register-sheet", VERSION)
-        .arg(repeated_option(alloc, "date", "COLUMN"))?
-        .arg(repeated_option(alloc, "calendar", "COLUMN"))?
-        .arg(repeated_option(alloc, "all", "CALENDAR"))?
-        .arg(option(alloc, "id", "COLUMN"))?
-        .arg(option(alloc, "order", "year|day|month"))?
-        .arg(option(alloc, "names", "FILE"))?
-        .arg(option(alloc, "short-years", "refuse|keep|CENTURY"))?
-        .arg(option(alloc, "short-hebrew-years", "refuse|keep|5000"))?
-        .arg(flag(alloc, "charter-years"))?
-        .arg(option(alloc, "skip", "N"))?
-        .arg(option(alloc, "delimiter", "comma|semicolon|tab"))?
-        .arg(option(alloc, "to", "LIST"))?
-        .arg(flag(alloc, "register"))?
-        .arg(flag(alloc, "unknown"))?
-        .arg(flag(alloc, "summary"))?
-        .arg(files_argument(alloc, "file", "FILE"))
+    command_with(alloc, "register-sheet", VERSION, &ARGUMENTS)
 }
 
 /// What clap finds in the arguments.
@@ -147,6 +155,19 @@ fn read_arguments<'a>(alloc: Global, arguments: &'a [String]) -> Result<ArgMatch
     command(alloc)?.try_get_matches_from(arguments)
 }
 
+/// The words that clap found.
+fn words_found<'a>(matches: &ArgMatches<'a>) -> Words<'a>
+    ensures { WordsAre result (values_of (rows_of (found_of matches.now))) }
+{
+    Words {
+        order: value_given(matches, "order"),
+        short_years: value_given(matches, "short-years"),
+        short_hebrew_years: value_given(matches, "short-hebrew-years"),
+        skip: value_given(matches, "skip"),
+        delimiter: value_given(matches, "delimiter"),
+    }
+}
+
 /// The values of the options that clap found, and the files.
 fn options_found<'a>(alloc: Global, matches: &ArgMatches<'a>) -> Result<Options<'a>, AllocError>
     ensures { IfOk result (λ options. values_by options ≡ values_of (rows_of (found_of matches.now))) }
@@ -160,13 +181,9 @@ fn options_found<'a>(alloc: Global, matches: &ArgMatches<'a>) -> Result<Options<
         calendars,
         all,
         id: value_given(matches, "id"),
-        order: value_given(matches, "order"),
         names: value_given(matches, "names"),
-        short_years: value_given(matches, "short-years"),
-        short_hebrew_years: value_given(matches, "short-hebrew-years"),
+        words: words_found(matches),
         charter_years: is_given(matches, "charter-years"),
-        skip: value_given(matches, "skip"),
-        delimiter: value_given(matches, "delimiter"),
         to: value_given(matches, "to"),
         register: is_given(matches, "register"),
         unknown: is_given(matches, "unknown"),
@@ -216,24 +233,28 @@ fn are_misfits(dates: usize, columns: usize, calendars: usize) -> bool
     }
 }
 
-/// Whether registers are asked for, and none of so many files.
-fn is_of_input(register: bool, files: usize) -> bool
-    ensures { result ≡ (register && (files == 0)) }
-{
-    register && files == 0
-}
-
-/// Refuses the arguments with this fault, if so.
+/// Finds what is wrong with how many columns of dates there are, and where their calendars are.
 ///
 /// # Errors
 ///
-/// The fault.
-fn refuse_if<'a>(holds: bool, fault: RequestFault<'a>) -> Result<(), RequestFault<'a>>
-    ensures fine { OnOk result (holds ≡ false) }
-    ensures refused { OnErr result (holds ≡ true) }
-    ensures fault { IfErr result (λ error. error ≡ fault.entry) }
+/// `NoDate`, `TooManyDates` and `CalendarCount`, whichever applies first.
+fn dates_fit<'a>(options: &Options<'a>) -> Result<(), RequestFault<'a>>
+    ensures fine { OnOk result (FewDates (values_by options.now)) }
+    ensures fault { IfErr result (λ error. IfSome (fault_of_error error)
+        (FailFirst (take 3 (value_checks (values_by options.now))))) }
 {
-    if holds { Err(fault) } else { Ok(()) }
+    let dates = count_of(options.dates.as_slice());
+    let columns = count_of(options.calendars.as_slice());
+    let all = count_of(options.all.as_slice());
+    if dates == 0 {
+        Err(RequestFault::NoDate)
+    } else if dates > MAX_DATES {
+        Err(RequestFault::TooManyDates)
+    } else if are_misfits(dates, columns, all) {
+        Err(RequestFault::CalendarCount)
+    } else {
+        Ok(())
+    }
 }
 
 /// Where the calendars of the dates are.
@@ -260,6 +281,39 @@ fn chosen_calendars<'a>(
     }
 }
 
+/// How a sheet and its dates are read.
+#[derive(Clone, Copy)]
+struct Reading {
+    order: Order,
+    short_years: Short,
+    short_hebrew_years: Short,
+    skip: u32,
+    delimiter: u8,
+}
+
+/// How a sheet and its dates are read, by the words of the arguments.
+///
+/// # Errors
+///
+/// The first that applies: `UnknownOrder`, `BadShortYears`, `BadShortHebrewYears`, `BadSkip` and `UnknownDelimiter`.
+fn chosen_reading<'a>(words: &Words<'a>) -> Result<Reading, RequestFault<'a>>
+    ensures value { IfOk result (AreSaidBy words.now) }
+    ensures fault { IfErr result (λ error. IfSome (fault_of_error error) (FailFirst (word_checks words.now))) }
+{
+    let order = chosen_order(words.order)?;
+    let short_years = chosen_short_years(words.short_years)?;
+    let short_hebrew_years = chosen_short_hebrew_years(words.short_hebrew_years)?;
+    let skip = chosen_skip(words.skip)?;
+    let delimiter = chosen_delimiter(words.delimiter)?;
+    Ok(Reading {
+        order: order.order,
+        short_years: short_years.rule,
+        short_hebrew_years: short_hebrew_years.rule,
+        skip: skip.count,
+        delimiter: delimiter.byte(),
+    })
+}
+
 /// Finds what is wrong with the files.
 ///
 /// # Errors
@@ -271,6 +325,24 @@ fn files_fit<'a>(files: &[&'a str]) -> Result<(), RequestFault<'a>>
         (IsFileFault too_many_files file_twice (map (λ f. f.now) files.now))) }
 {
     Ok(check_files(files)?)
+}
+
+/// Finds what is wrong with the files where registers are asked for, or are not.
+///
+/// # Errors
+///
+/// `RegisterOfInput`, and the faults of the files as [`files_fit`] has them.
+fn outputs_fit<'a>(register: bool, files: &[&'a str]) -> Result<(), RequestFault<'a>>
+    ensures fine { OnOk result (((register && (length (map (λ f. f.now) files.now) == 0)) ≡ false)
+        × AreFilesToConvert (map (λ f. f.now) files.now)) }
+    ensures fault { IfErr result (λ error. IfSome (fault_of_error error)
+        (FailFirst (output_checks register (map (λ f. f.now) files.now)))) }
+{
+    if register && count_of(files) == 0 {
+        Err(RequestFault::RegisterOfInput)
+    } else {
+        files_fit(files)
+    }
 }
 
 /// The conversion that the options ask for.
@@ -286,38 +358,25 @@ fn chosen_job<'a>(alloc: Global, options: Options<'a>) -> Result<Job<'a>, Reques
     ensures fault { IfErr result (λ error. IfSome (fault_of_error error)
         (FailFirst (value_checks (values_by options.entry)))) }
 {
-    let dates = count_of(options.dates.as_slice());
-    refuse_if(dates == 0, RequestFault::NoDate)?;
-    refuse_if(dates > MAX_DATES, RequestFault::TooManyDates)?;
-    let columns = count_of(options.calendars.as_slice());
-    let all = count_of(options.all.as_slice());
-    let misfits = are_misfits(dates, columns, all);
-    refuse_if(misfits, RequestFault::CalendarCount)?;
+    dates_fit(&options)?;
     let calendars = chosen_calendars(alloc, options.calendars, options.all.as_slice())?;
-    let order = chosen_order(options.order)?;
-    let short_years = chosen_short_years(options.short_years)?;
-    let short_hebrew_years = chosen_short_hebrew_years(options.short_hebrew_years)?;
-    let skip = chosen_skip(options.skip)?;
-    let delimiter = chosen_delimiter(options.delimiter)?;
+    let reading = chosen_reading(&options.words)?;
     let columns = chosen_columns(alloc, options.to)?;
-    let files = count_of(options.files.as_slice());
-    let of_input = is_of_input(options.register, files);
-    refuse_if(of_input, RequestFault::RegisterOfInput)?;
-    files_fit(options.files.as_slice())?;
+    outputs_fit(options.register, options.files.as_slice())?;
     Ok(Job {
         dates: options.dates,
         calendars,
         id: options.id,
         columns,
         reading: Choice {
-            order: order.order,
-            short_years: short_years.rule,
-            short_hebrew_years: short_hebrew_years.rule,
+            order: reading.order,
+            short_years: reading.short_years,
+            short_hebrew_years: reading.short_hebrew_years,
             charters: options.charter_years,
         },
         names: options.names,
-        skip: skip.count,
-        delimiter: delimiter.byte(),
+        skip: reading.skip,
+        delimiter: reading.delimiter,
         register: options.register,
         unknown: options.unknown,
         summary: options.summary,

@@ -1,5 +1,5 @@
 -- How sheets end.
-use Rattle.std.proofs.Common.{◌≡◌, ℕ, List, Option, map}
+use Rattle.std.proofs.Common.{◌≡◌, ℕ, List, Option, map, refl}
 use Rattle.std.specs.Prelude.{Err, IsErrAnd, Ok, Result}
 use Rattle.register_records.specs.Sources.{Gains}
 use Rattle.register_records.specs.declared.outputs.Output as outputs
@@ -35,10 +35,11 @@ makes_choices task lines sheet known asked task_is is listed = λ choice by.
 
 -- a fault that was handed on
 pub ended_fault : {W : Type 0} (o : outputs.Ghosts W) (task : Task) (lines : List NameLine) (most : ℕ) (sheet : List ℕ)
-    (given written : W) (r : Result SheetDone SheetFault) (fault : SheetFault) → IsErrAnd r (λ why. why ≡ fault)
-    → IsBroken o task lines sheet given written fault → IsEndedBy o task lines most sheet given written r
-ended_fault o task lines most sheet given written (Ok done) fault handed broken = absurd handed
-ended_fault o task lines most sheet given written (Err why) fault handed broken = rw handed broken
+    (given written : W) (new : List W) (r : Result SheetDone SheetFault) (fault : SheetFault)
+    → IsErrAnd r (λ why. why ≡ fault) → IsBroken o task lines sheet given written fault
+    → IsEndedBy o task lines most sheet given written new new r
+ended_fault o task lines most sheet given written new (Ok done) fault handed broken = absurd handed
+ended_fault o task lines most sheet given written new (Err why) fault handed broken = (rw handed broken, refl)
 
 -- what was made by a choice is what a task asks
 pub asked_sheet : (task : Task) (lines : List NameLine) (sheet : List ℕ) (choice : SheetChoice) (known : WholeSheet)

@@ -4,10 +4,12 @@
 --   ListLemmas: the sheets of files, one after the other, for `answered`.
 --   NameLemmas: the names of outputs, for `answered`.
 --   RefusedLemmas: `refused` and `reported`.
+--   RegisterLemmas: the outputs of registers, for `answered`.
 mod ColumnLemmas
 mod EndLemmas
 mod LineLemmas
 mod ListLemmas
 mod NameLemmas
 mod RefusedLemmas
+mod RegisterLemmas
 mod TaskLemmas

@@ -13,7 +13,7 @@ use Rattle.register_records.specs.declared.outputs.Output as outputs
 use Rattle.register_sheets.specs.declared.name_lists.NameLine.{NameLine}
 use Rattle.sheet_arguments.specs.Requests.{Task}
 use Rattle.sheet_app.specs.EndedSheets.{IsEndOf, IsEndedSheet, ended_name}
-use Rattle.sheet_app.specs.FileSheets.{IsNewSheet, sheet_name}
+use Rattle.sheet_app.specs.FileSheets.{IsNewSheet, register_endings, sheet_name}
 use Rattle.sheet_app.specs.declared.converting.EndedSheet.{EndedSheet}
 use Rattle.sheet_app.specs.declared.file_sheets.FileSheet.{FileSheet}
 
@@ -41,7 +41,7 @@ none_or_some [] = inl refl
 none_or_some (x ∷ xs) = inr (λ e. cc)
 
 -- with one item more, and its end
-zip_pushed : {X Y : Type 0} (R : X → Y → Type 0) (xs : List X) (ys : List Y) (x : X) (y : Y) → AllZip R xs ys → R x y
+pub zip_pushed : {X Y : Type 0} (R : X → Y → Type 0) (xs : List X) (ys : List Y) (x : X) (y : Y) → AllZip R xs ys → R x y
     → AllZip R (xs ++ x ∷ []) (ys ++ y ∷ [])
 zip_pushed R [] [] x y zip one = (one, tt)
 zip_pushed R [] (b ∷ ys) x y zip one = absurd zip
@@ -66,23 +66,24 @@ ends_named r o task lines (sheet ∷ sheets) (end ∷ ended) zip =
 
 pub ends_all : {R W : Type 0} (r : reads.Ghosts R) (o : outputs.Ghosts W) (IsOpened : Text → R → Type 0)
     (IsMade : Text → ℕ → W → Type 0) (task : Task) (lines : List NameLine) (sheets : List (FileSheet R W))
-    (ended : List (EndedSheet W)) → All (IsNewSheet o IsOpened IsMade task) sheets
+    (ended : List (EndedSheet W)) → All (IsNewSheet o IsOpened IsMade task (register_endings task)) sheets
     → AllZip (IsEndOf r o task lines) sheets ended → All (IsEndedSheet r o IsOpened IsMade task lines) ended
 ends_all r o IsOpened IsMade task lines [] [] new zip = All-nil (IsEndedSheet r o IsOpened IsMade task lines)
 ends_all r o IsOpened IsMade task lines [] (end ∷ ended) new zip = absurd zip
 ends_all r o IsOpened IsMade task lines (sheet ∷ sheets) [] new zip = absurd zip
 ends_all r o IsOpened IsMade task lines (sheet ∷ sheets) (end ∷ ended) new zip =
-    let one = All-head (IsNewSheet o IsOpened IsMade task) sheet sheets new in
+    let New = IsNewSheet o IsOpened IsMade task (register_endings task) in
+    let one = All-head New sheet sheets new in
     let name = zip.0.named in
     All-cons (IsEndedSheet r o IsOpened IsMade task lines) end ended (record {
       source = sheet.source;
       opened = rw name one.opened;
       given = sheet.output;
-      mark = one.mark;
-      made = rw name one.made;
+      output = rw name one.output;
+      new = sheet.registers.items;
+      registers = rw name one.registers;
       converted = zip.0.converted;
-    }) (ends_all r o IsOpened IsMade task lines sheets ended (All-tail (IsNewSheet o IsOpened IsMade task) sheet sheets new)
-    zip.1)
+    }) (ends_all r o IsOpened IsMade task lines sheets ended (All-tail New sheet sheets new) zip.1)
 
 -- one more, of the name at its index
 pub named_more : {X : Type 0} (f : X → Text) (names : List (Bor Text)) (done new : List X) (one : X) (i : ℕ) (d : Bor Text)

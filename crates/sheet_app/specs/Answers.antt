@@ -61,7 +61,7 @@ pub record IsInputConverted {R W E : Type 0} (r : reads.Ghosts R) (o : outputs.G
   pub ended : EndedSheet W
   pub named : ended_name ended ≡ INPUT.now
   pub output : ended.output ≡ written
-  pub converted : IsConverted r o task lines input given written ended.done
+  pub converted : IsConverted r o task lines input given written [] ended.registers.items ended.done
   pub complete : (status ≡ 0) ↔ (is_complete ended ≡ true)
   pub reported : AreReported e task (ended ∷ []) before after
 

@@ -1,14 +1,13 @@
 -- The sheets of a command line, as they have ended.
 use Rattle.std.specs.Prelude.{◌≡◌, ◌++◌, ◌&&◌, ◌⊎◌, ℕ, All, Bool, List, IfSome, false, length, true}
 use Rattle.std.specs.Io.KnownBytes.{Appends}
-use Rattle.std.specs.List.{flat_map}
+use Rattle.std.specs.List.{AllZip, flat_map}
 use Rattle.std.specs.declared.io.traits.Read as reads
 use Rattle.clap.specs.Words.{Text}
-use Rattle.register_files.specs.Openings.{IsNewlyMade}
 use Rattle.register_records.specs.declared.outputs.Output as outputs
 use Rattle.register_sheets.specs.declared.name_lists.NameLine.{NameLine}
 use Rattle.sheet_arguments.specs.Requests.{Task}
-use Rattle.sheet_app.specs.FileSheets.{ending_of, sheet_name}
+use Rattle.sheet_app.specs.FileSheets.{IsMadeFor, ending_of, register_endings, sheet_name}
 use Rattle.sheet_app.specs.Lines.{lines_on}
 use Rattle.sheet_app.specs.Sheets.{IsEnded}
 use Rattle.sheet_app.specs.declared.converting.EndedSheet.{EndedSheet}
@@ -22,12 +21,13 @@ use Rattle.sheet_app.specs.declared.sheets.TheConstants.{MOST_UNKNOWN}
 abbrev pub Gives : {R : Type 0} → reads.Ghosts R → R → List ℕ → Type 0
 Gives r source text = IfSome (r.remaining source) (λ left. text ≡ left)
 
--- a sheet was read and has ended so, with what its output has gained; or it could not be read, and that has gained nothing
-abbrev pub IsConverted : {R W : Type 0} → reads.Ghosts R → outputs.Ghosts W → Task → List NameLine → R → W → W
-    → SheetDone → Type 0
-IsConverted r o task lines source given written how =
-    ((how ≡ done.Broken fault.Unread) × (written ≡ given))
-    ⊎ ((text : List ℕ) × Gives r source text × IsEnded o task lines MOST_UNKNOWN text given written how)
+-- a sheet was read and has ended so, with what its outputs have gained; or it could not be read, and they have gained
+-- nothing
+abbrev pub IsConverted : {R W : Type 0} → reads.Ghosts R → outputs.Ghosts W → Task → List NameLine → R → W → W → List W
+    → List W → SheetDone → Type 0
+IsConverted r o task lines source given written new registers how =
+    ((how ≡ done.Broken fault.Unread) × (written ≡ given) × (registers ≡ new))
+    ⊎ ((text : List ℕ) × Gives r source text × IsEnded o task lines MOST_UNKNOWN text given written new registers how)
 
 abbrev pub ended_name : {W : Type 0} → EndedSheet W → Text
 ended_name sheet = sheet.name.now
@@ -57,14 +57,16 @@ pub record AreReported {W E : Type 0} (e : outputs.Ghosts E) (task : Task) (shee
 pub record IsEndOf {R W : Type 0} (r : reads.Ghosts R) (o : outputs.Ghosts W) (task : Task) (lines : List NameLine)
     (sheet : FileSheet R W) (ended : EndedSheet W) : Type 0 where
   pub named : ended_name ended ≡ sheet_name sheet
-  pub converted : IsConverted r o task lines sheet.source sheet.output ended.output ended.done
+  pub converted : IsConverted r o task lines sheet.source sheet.output ended.output sheet.registers.items
+      ended.registers.items ended.done
 
--- a sheet of a file was converted from the file of its name, to an output that was made by that name with the ending
+-- a sheet of a file was converted from the file of its name, to outputs that were made by that name with their endings
 pub record IsEndedSheet {R W : Type 0} (r : reads.Ghosts R) (o : outputs.Ghosts W) (IsOpened : Text → R → Type 0)
     (IsMade : Text → ℕ → W → Type 0) (task : Task) (lines : List NameLine) (sheet : EndedSheet W) : Type 0 where
   pub source : R
   pub opened : IsOpened (ended_name sheet) source
   pub given : W
-  pub mark : ℕ
-  pub made : IsNewlyMade o IsMade (ended_name sheet ++ ending_of task) mark given
-  pub converted : IsConverted r o task lines source given sheet.output sheet.done
+  pub output : IsMadeFor o IsMade (ended_name sheet) (ending_of task) given
+  pub new : List W
+  pub registers : AllZip (IsMadeFor o IsMade (ended_name sheet)) (register_endings task) new
+  pub converted : IsConverted r o task lines source given sheet.output new sheet.registers.items sheet.done

@@ -2,7 +2,7 @@
 use Rattle.std.specs.Prelude.{◌==◌, ◌&&◌, ◌++◌, ◌∷◌, [], ℕ, All, AllPairs, IfSome, List, codes, flat_map, if◌then◌else◌}
 use Rattle.std.specs.Prelude.{length, map, not}
 use Rattle.std.specs.Fmt.{decimal}
-use Rattle.std.specs.List.{range_with_len}
+use Rattle.std.specs.List.{AllZip, range_with_len}
 use Rattle.clap.specs.Words.{Text}
 use Rattle.register_files.specs.Openings.{IsNewlyMade}
 use Rattle.register_records.specs.declared.outputs.Output as outputs
@@ -48,9 +48,13 @@ source_name opened = opened.name.now
 abbrev pub sheet_name : {R W : Type 0} → FileSheet R W → Text
 sheet_name sheet = sheet.name.now
 
--- the sheet comes from the file of its name, and its output was made by that name with the ending, and is fresh
+-- the output was made by the name of a file with this ending, and is fresh
+abbrev pub IsMadeFor : {W : Type 0} → outputs.Ghosts W → (Text → ℕ → W → Type 0) → Text → List ℕ → W → Type 0
+IsMadeFor o IsMade file ending output = (mark : ℕ) × IsNewlyMade o IsMade (file ++ ending) mark output
+
+-- the sheet comes from the file of its name, and its output and those of its registers, which end so, were made for it
 pub record IsNewSheet {R W : Type 0} (o : outputs.Ghosts W) (IsOpened : Text → R → Type 0)
-    (IsMade : Text → ℕ → W → Type 0) (task : Task) (sheet : FileSheet R W) : Type 0 where
+    (IsMade : Text → ℕ → W → Type 0) (task : Task) (endings : List (List ℕ)) (sheet : FileSheet R W) : Type 0 where
   pub opened : IsOpened (sheet_name sheet) sheet.source
-  pub mark : ℕ
-  pub made : IsNewlyMade o IsMade (sheet_name sheet ++ ending_of task) mark sheet.output
+  pub output : IsMadeFor o IsMade (sheet_name sheet) (ending_of task) sheet.output
+  pub registers : AllZip (IsMadeFor o IsMade (sheet_name sheet)) endings sheet.registers.items

@@ -21,10 +21,12 @@ AsksFor task lines sheet known =
     (choice : SheetChoice) → IsChoiceBy known choice → IsChoice choice → IsChoiceFor task lines sheet choice
 
 -- how a sheet has ended, or why it broke off
-abbrev pub IsEndedBy : {W : Type 0} → outputs.Ghosts W → Task → List NameLine → ℕ → List ℕ → W → W
+abbrev pub IsEndedBy : {W : Type 0} → outputs.Ghosts W → Task → List NameLine → ℕ → List ℕ → W → W → List W → List W
     → Result SheetDone SheetFault → Type 0
-IsEndedBy o task lines most sheet given written (Ok done) = IsEnded o task lines most sheet given written done
-IsEndedBy o task lines most sheet given written (Err fault) = IsBroken o task lines sheet given written fault
+IsEndedBy o task lines most sheet given written new registers (Ok done) =
+    IsEnded o task lines most sheet given written new registers done
+IsEndedBy o task lines most sheet given written new registers (Err fault) =
+    IsBroken o task lines sheet given written fault × (registers ≡ new)
 
 -- an output that has not failed had not failed before, and has gained this text, if that was said
 pub record Says {E : Type 0} (e : outputs.Ghosts E) (before after : E) (said : Bool) (text : List ℕ) : Type 0 where

@@ -1,12 +1,16 @@
 -- What a task asks of a sheet, and what comes of it.
-use Rattle.std.specs.Prelude.{◌≡◌, ◌≤◌, ◌<◌, ◌++◌, ◌⊎◌, ⊤, ℕ, List, [], Option, None, Some, get_or, length, false, true}
+use Rattle.std.specs.Prelude.{◌≡◌, ◌≤◌, ◌<◌, ◌++◌, ◌⊎◌, ⊤, ℕ, List, [], IfSome, Option, None, Some, get_or, length}
+use Rattle.std.specs.Prelude.{false, slice_get, true}
+use Rattle.register_files.specs.Openings.{AreMatched}
 use Rattle.register_records.specs.Entries.{Fields, record_limit, text_records}
 use Rattle.register_records.specs.Sources.{Gains}
 use Rattle.register_records.specs.declared.outputs.Output as outputs
 use Rattle.register_sheets.specs.AskedOfSheets.{IsChoice, IsListedChoice, SheetAsked}
 use Rattle.register_sheets.specs.Converted.{ArePartOfSheet, below, IsFullSheet, IsWholeSheet}
 use Rattle.register_sheets.specs.NameLists.{IsListOf}
+use Rattle.register_sheets.specs.Registers.{IsFrontOfRegister, IsFullRegister, IsRegister}
 use Rattle.register_sheets.specs.UnknownNames.{AreUnreadIn, IsUnknown, NameCount, list_text}
+use Rattle.register_sheets.specs.declared.choices.DateColumn.{DateColumn}
 use Rattle.register_sheets.specs.declared.choices.SheetChoice.{SheetChoice}
 use Rattle.register_sheets.specs.declared.name_lists.NameLine.{NameLine}
 use Rattle.sheet_arguments.specs.Requests.{Task}
@@ -104,16 +108,52 @@ IsBroken o task lines sheet given written fault =
     ((written ≡ given) × IsEarly task sheet fault)
     ⊎ ((choice : SheetChoice) × IsChoiceFor task lines sheet choice × IsBrokenBy o choice sheet given written fault)
 
--- what the output of a sheet has gained, by how it has ended; a list is of at most so many names
-abbrev pub IsEnded : {W : Type 0} → outputs.Ghosts W → Task → List NameLine → ℕ → List ℕ → W → W → SheetDone → Type 0
-IsEnded o task lines most sheet given written (done.Whole whole) =
+-- an output has gained the register of a column of dates by a choice
+abbrev pub HasRegister : {W : Type 0} → outputs.Ghosts W → SheetChoice → List ℕ → DateColumn → W → W → Type 0
+HasRegister o choice sheet column given written =
+    (count : ℕ)
+    × Gains (o.contents given) (o.contents written) (IsRegister choice column (records_by choice sheet) count)
+    × (o.is_flushed written ≡ true)
+
+-- or it has broken off, and why
+abbrev pub IsCutRegister : {W : Type 0} → outputs.Ghosts W → SheetChoice → List ℕ → DateColumn → W → W → SheetFault
+    → Type 0
+IsCutRegister o choice sheet column given written fault.OutOfMemory =
+    Gains (o.contents given) (o.contents written) (IsFrontOfRegister choice column (records_by choice sheet))
+IsCutRegister o choice sheet column given written fault.Unwritten = o.has_failed written ≡ true
+IsCutRegister o choice sheet column given written fault.NoNames =
+    (written ≡ given) × (length (records_by choice sheet) ≤ choice.above)
+IsCutRegister o choice sheet column given written fault.TooManyRecords =
+    Gains (o.contents given) (o.contents written) (IsFullRegister choice column (records_by choice sheet))
+IsCutRegister o choice sheet column given written other = ⊥
+
+-- each output has gained the register of the column of dates at its place
+abbrev pub HaveRegisters : {W : Type 0} → outputs.Ghosts W → SheetChoice → List ℕ → List W → List W → Type 0
+HaveRegisters o choice sheet =
+    AreMatched (λ place given written. IfSome (slice_get choice.dates.now place)
+    (λ column. HasRegister o choice sheet column given written))
+
+-- or it has gained nothing, or that has broken off for this reason
+abbrev pub AreCutRegisters : {W : Type 0} → outputs.Ghosts W → SheetChoice → List ℕ → SheetFault → List W → List W → Type 0
+AreCutRegisters o choice sheet fault =
+    AreMatched (λ place given written. IfSome (slice_get choice.dates.now place)
+    (λ column. HasRegister o choice sheet column given written ⊎ (written ≡ given)
+    ⊎ IsCutRegister o choice sheet column given written fault))
+
+-- what the outputs of a sheet and of its registers have gained, by how it has ended; a list is of at most so many names
+abbrev pub IsEnded : {W : Type 0} → outputs.Ghosts W → Task → List NameLine → ℕ → List ℕ → W → W → List W → List W
+    → SheetDone → Type 0
+IsEnded o task lines most sheet given written new registers (done.Whole whole) =
     Gains (o.contents given) (o.contents written) (IsAskedSheet task lines sheet whole)
     × (o.is_flushed written ≡ true) × (task.unknown ≡ false)
-IsEnded o task lines most sheet given written (done.WholeBut fault) =
+    × (choice : SheetChoice) × IsChoiceFor task lines sheet choice × HaveRegisters o choice sheet new registers
+IsEnded o task lines most sheet given written new registers (done.WholeBut fault) =
     (whole : WholeSheet)
     × Gains (o.contents given) (o.contents written) (IsAskedSheet task lines sheet whole)
     × (o.is_flushed written ≡ true) × (task.unknown ≡ false)
-IsEnded o task lines most sheet given written done.Listed =
+    × (choice : SheetChoice) × IsChoiceFor task lines sheet choice × AreCutRegisters o choice sheet fault new registers
+IsEnded o task lines most sheet given written new registers done.Listed =
     Gains (o.contents given) (o.contents written) (IsAskedList task lines most sheet)
-    × (o.is_flushed written ≡ true) × (task.unknown ≡ true)
-IsEnded o task lines most sheet given written (done.Broken fault) = IsBroken o task lines sheet given written fault
+    × (o.is_flushed written ≡ true) × (task.unknown ≡ true) × (registers ≡ new)
+IsEnded o task lines most sheet given written new registers (done.Broken fault) =
+    IsBroken o task lines sheet given written fault × (registers ≡ new)

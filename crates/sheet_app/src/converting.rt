@@ -44,7 +44,8 @@ fn convert_source<'b, R: Read, W: Output>(
     registers: &mut [W],
 ) -> SheetDone<'b>
     requires { IsTask (task_of job.now) }
-    ensures { IsConverted R.Read W.Output (task_of job.now) list.now.lines.items source.old output.old output.new result }
+    ensures { IsConverted R.Read W.Output (task_of job.now) list.now.lines.items source.old output.old output.new
+        registers.old registers.new result }
 {
     let mut text = Vec::new(alloc);
     if source.read_to_end(&mut text).is_err() {
@@ -126,8 +127,8 @@ pub fn convert_input<'a, R: Read + Drop, W: Output + Drop, E: Output>(
 ) -> EndedSheet<'a, W>
     requires { IsTask (task_of job.now) }
     ensures name { ended_name result ≡ INPUT.now }
-    ensures converted { IsConverted R.Read W.Output (task_of job.now) list.now.lines.items input output result.output
-        result.done }
+    ensures converted { IsConverted R.Read W.Output (task_of job.now) list.now.lines.items input output result.output []
+        result.registers.items result.done }
     ensures lines { Says E.Output errors.old errors.new result.is_reported (ended_lines (task_of job.now) result) }
     ensures errors_mark { E.own_mark errors.new ≡ E.own_mark errors.old }
 {

@@ -1,12 +1,11 @@
 //! The sheets of a command line: opens the files, and makes the outputs of each.
 
-ghost use Rattle.std.specs.Prelude.{◌≡◌, ◌++◌, ◌∷◌, [], ℕ, All, AllPairs, IfOk, IfSome, OnOk, false, flat_map, map};
+ghost use Rattle.std.specs.Prelude.{◌≡◌, ◌++◌, ◌∷◌, [], All, AllPairs, IfOk, IfSome, OnOk, false, flat_map, map};
 ghost use Rattle.std.specs.Prelude.{option_map};
-ghost use Rattle.std.specs.List.{range_with_len};
+ghost use Rattle.std.specs.List.{AllZip, range_with_len};
 ghost use Rattle.std.specs.String.{string_bytes};
-ghost use Rattle.register_files.specs.Openings.{IsNewlyMade};
 ghost use Rattle.sheet_arguments.specs.Requests.{task_of};
-ghost use Rattle.sheet_app.specs.FileSheets.{AreApartOutputs, IsNewSheet, IsNoInput, ending_of, names_ending};
+ghost use Rattle.sheet_app.specs.FileSheets.{AreApartOutputs, IsMadeFor, IsNewSheet, IsNoInput, ending_of, names_ending};
 ghost use Rattle.sheet_app.specs.FileSheets.{register_ending, register_endings, sheet_name, source_name};
 
 use itoa::Buffer;
@@ -233,8 +232,7 @@ fn make_output<'a, R, W: Output + Drop, P: FileStore<R, W>>(
     file: &str,
     ending: &str,
 ) -> Result<W, FileFault<'a>>
-    ensures made { IfOk result (λ output. (mark : ℕ)
-        × IsNewlyMade W.Output (P.is_made store.now) (file.now ++ ending.now) mark output) }
+    ensures made { IfOk result (IsMadeFor W.Output (P.is_made store.now) file.now ending.now) }
     ensures noted { IfOk result (λ output. map string_bytes names.new.items
         ≡ map string_bytes names.old.items ++ (file.now ++ ending.now) ∷ []) }
     ensures apart { IfOk result (λ output. AllPairs (P.are_apart store.now) (map string_bytes names.old.items)
@@ -265,6 +263,8 @@ fn make_registers<'a, R, W: Output + Drop, P: FileStore<R, W>>(
     file: &str,
     endings: &[String],
 ) -> Result<Vec<W>, FileFault<'a>>
+    ensures made { IfOk result (λ outputs. AllZip (IsMadeFor W.Output (P.is_made store.now) file.now)
+        (map string_bytes endings.now) outputs.items) }
     ensures noted { IfOk result (λ outputs. map string_bytes names.new.items
         ≡ map string_bytes names.old.items ++ map (λ ending. file.now ++ string_bytes ending) endings.now) }
     ensures apart { IfOk result (λ outputs. AllPairs (P.are_apart store.now) (map string_bytes names.old.items)
@@ -291,7 +291,8 @@ fn make_sheet<'a, R: Drop, W: Output + Drop, P: FileStore<R, W>>(
 ) -> Result<FileSheet<'a, R, W>, FileFault<'a>>
     ensures named { IfOk result (λ sheet. sheet_name sheet ≡ source_name opened.entry) }
     ensures made { P.is_opened store.now opened.entry.name.now opened.entry.source
-        → IfOk result (IsNewSheet W.Output (P.is_opened store.now) (P.is_made store.now) (task_of job.now)) }
+        → IfOk result (IsNewSheet W.Output (P.is_opened store.now) (P.is_made store.now) (task_of job.now)
+        (map string_bytes endings.now)) }
     ensures noted { IfOk result (λ sheet. map string_bytes names.new.items ≡ map string_bytes names.old.items
         ++ names_ending (ending_of (task_of job.now)) string_bytes endings.now (source_name opened.entry)) }
     ensures apart { IfOk result (λ sheet. AllPairs (P.are_apart store.now) (map string_bytes names.old.items)
@@ -317,8 +318,8 @@ fn make_sheets<'a, R: Drop, W: Output + Drop, P: FileStore<R, W>>(
 ) -> Result<Vec<FileSheet<'a, R, W>>, FileFault<'a>>
     requires opened { All (λ opened. P.is_opened store.now opened.name.now opened.source) sources.items }
     ensures named { IfOk result (λ sheets. map sheet_name sheets.items ≡ map source_name sources.entry.items) }
-    ensures made { IfOk result (λ sheets.
-        All (IsNewSheet W.Output (P.is_opened store.now) (P.is_made store.now) (task_of job.now)) sheets.items) }
+    ensures made { IfOk result (λ sheets. All (IsNewSheet W.Output (P.is_opened store.now) (P.is_made store.now)
+        (task_of job.now) (map string_bytes endings.now)) sheets.items) }
     ensures apart { IfOk result (λ sheets. AllPairs (P.are_apart store.now)
         (flat_map (λ opened. names_ending (ending_of (task_of job.now)) string_bytes endings.now (source_name opened))
         sources.entry.items)) }
@@ -347,8 +348,8 @@ pub fn open_sheets<'a, R: Drop, W: Output + Drop, P: FileStore<R, W>>(
     job: &Job<'a>,
 ) -> Result<Vec<FileSheet<'a, R, W>>, FileFault<'a>>
     ensures named { IfOk result (λ sheets. map sheet_name sheets.items ≡ (task_of job.now).files) }
-    ensures made { IfOk result (λ sheets.
-        All (IsNewSheet W.Output (P.is_opened store.now) (P.is_made store.now) (task_of job.now)) sheets.items) }
+    ensures made { IfOk result (λ sheets. All (IsNewSheet W.Output (P.is_opened store.now) (P.is_made store.now)
+        (task_of job.now) (register_endings (task_of job.now))) sheets.items) }
     ensures apart { OnOk result (AreApartOutputs (P.are_apart store.now) (task_of job.now)) }
 {
     let endings = register_endings(alloc, job)?;

@@ -11,7 +11,7 @@ ghost use Rattle.sheet_arguments.specs.Requests.{AreWrong, IsFaultOf, task_of};
 ghost use Rattle.sheet_app.specs.Answers.{AreFilesAnswered, AreNamesOf, IsInputAnswered, IsInputConverted, IsPageAnswered};
 ghost use Rattle.sheet_app.specs.Answers.{IsPrinted, IsReported, version_line};
 ghost use Rattle.sheet_app.specs.EndedSheets.{AreReported, Gives, IsEndedSheet, ended_name, is_complete};
-ghost use Rattle.sheet_app.specs.FileSheets.{AreApartOutputs, IsNewSheet, sheet_name};
+ghost use Rattle.sheet_app.specs.FileSheets.{AreApartOutputs, IsNewSheet, register_endings, sheet_name};
 ghost use Rattle.sheet_app.specs.SheetViews.{IsTask};
 ghost use Rattle.sheet_app.specs.ProgramFaults.{fault_status, request_fault_in};
 
@@ -215,7 +215,7 @@ fn prepare<'a, R: Read + Drop, W: Output + Drop, P: FileStore<R, W>>(
         AreNamesOf R.Read (P.is_opened store.now) (task_of job.now) built.now prepared.list.lines.items) }
     ensures named { IfOk result (λ prepared. map sheet_name prepared.sheets.items ≡ (task_of job.now).files) }
     ensures made { IfOk result (λ prepared. All (IsNewSheet W.Output (P.is_opened store.now) (P.is_made store.now)
-        (task_of job.now)) prepared.sheets.items) }
+        (task_of job.now) (register_endings (task_of job.now))) prepared.sheets.items) }
     ensures apart { OnOk result (AreApartOutputs (P.are_apart store.now) (task_of job.now)) }
     ensures room { IfOk result (λ prepared. (prepared.room.items ≡ [])
         × (vec_len prepared.sheets ≤ vec_capacity prepared.room)) }

@@ -9,14 +9,15 @@ ghost use Rattle.register_sheets.specs.declared.name_lists.NameLine.{NameLine as
 ghost use Rattle.sheet_arguments.specs.Requests.{task_of};
 ghost use Rattle.sheet_app.specs.SheetFaults.{IsOfColumns};
 ghost use Rattle.sheet_app.specs.SheetViews.{AsksFor, IsEndedBy, IsTask, MakesChoices};
-ghost use Rattle.sheet_app.specs.Sheets.{IsAskedOf, IsBrokenBy, IsEnded, IsListBy, IsSheetBy, names_of};
+ghost use Rattle.sheet_app.specs.Sheets.{AreCutRegisters, HasRegister, HaveRegisters, IsAskedOf, IsBrokenBy};
+ghost use Rattle.sheet_app.specs.Sheets.{IsCutRegister, IsEnded, IsListBy, IsSheetBy, names_of};
 
 use crate::columns::{dates_named, id_named};
 use crate::sheet_faults::{SheetFault, fault_of_columns};
 use csv::ByteRecord;
 use register_records::{Output, send};
 use register_sheets::{
-    AskedByNames, AskedOfSheet, MAX_DATES, NameList, SheetCause, SheetEnd, SheetSetup,
+    AskedByNames, AskedOfSheet, DateColumn, MAX_DATES, NameList, SheetEnd, SheetSetup,
     convert_sheet, head_record, unknown_names, write_register,
 };
 use sheet_arguments::Job;
@@ -147,19 +148,38 @@ fn write_sheet<'b, W: Output>(
     }
 }
 
+/// Writes the register of a column of dates.
+fn write_column<'b, W: Output>(
+    alloc: Global,
+    sheet: &[u8],
+    setup: &SheetSetup,
+    column: &DateColumn,
+    output: &mut W,
+) -> Result<(), SheetFault<'b>>
+    ensures whole { OnOk result (HasRegister W.Output setup.now.choice sheet.now column.now output.old output.new) }
+    ensures cut { IfErr result (IsCutRegister W.Output setup.now.choice sheet.now column.now output.old output.new) }
+{
+    write_register(alloc, sheet, setup, column, output)?;
+    Ok(())
+}
+
 /// Writes the registers of the columns of dates.
-fn write_registers<W: Output>(
+fn write_registers<'b, W: Output>(
     alloc: Global,
     sheet: &[u8],
     setup: &SheetSetup,
     registers: &mut [W],
-) -> Result<(), SheetCause> {
+) -> Result<(), SheetFault<'b>>
+    ensures whole { OnOk result (HaveRegisters W.Output setup.now.choice sheet.now registers.old registers.new) }
+    ensures cut { IfErr result (λ fault. AreCutRegisters W.Output setup.now.choice sheet.now fault registers.old
+        registers.new) }
+{
     let choice = setup.choice();
     'registers: for index in 0..registers.len() {
         let Some(column) = choice.dates.get(index) else {
             return Ok(());
         };
-        write_register(alloc, sheet, setup, column, &mut registers[index])?;
+        write_column(alloc, sheet, setup, column, &mut registers[index])?;
     }
     Ok(())
 }
@@ -175,7 +195,8 @@ fn write_known<'b, W: Output>(
 ) -> Result<SheetDone<'b>, SheetFault<'b>>
     requires { MakesChoices known.now }
     ensures { (lines : List NameLineValue) → AsksFor (task_of job.now) lines sheet.now known.now
-        → IsEndedBy W.Output (task_of job.now) lines MOST_UNKNOWN sheet.now output.old output.new result }
+        → IsEndedBy W.Output (task_of job.now) lines MOST_UNKNOWN sheet.now output.old output.new registers.old
+        registers.new result }
 {
     let setup = setup_of(known);
     if job.unknown {
@@ -185,7 +206,7 @@ fn write_known<'b, W: Output>(
     let whole = write_sheet(alloc, sheet, &setup, output)?;
     match write_registers(alloc, sheet, &setup, registers) {
         Ok(()) => Ok(SheetDone::Whole(whole)),
-        Err(cause) => Ok(SheetDone::WholeBut(SheetFault::from(cause))),
+        Err(fault) => Ok(SheetDone::WholeBut(fault)),
     }
 }
 
@@ -200,7 +221,7 @@ fn write_asked<'b, W: Output>(
 ) -> Result<SheetDone<'b>, SheetFault<'b>>
     requires { IsTask (task_of job.now) }
     ensures { IsEndedBy W.Output (task_of job.now) list.now.lines.items MOST_UNKNOWN sheet.now output.old output.new
-        result }
+        registers.old registers.new result }
 {
     let asked = asked_of(alloc, sheet, job)?;
     let names = list.names(alloc)?;
@@ -227,7 +248,7 @@ pub fn convert_text<'b, W: Output>(
 ) -> SheetDone<'b>
     requires { IsTask (task_of job.now) }
     ensures { IsEnded W.Output (task_of job.now) list.now.lines.items MOST_UNKNOWN sheet.now output.old output.new
-        result }
+        registers.old registers.new result }
 {
     match write_asked(alloc, sheet, list, job, output, registers) {
         Ok(done) => done,

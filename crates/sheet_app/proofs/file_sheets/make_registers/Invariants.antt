@@ -1,11 +1,15 @@
 use Rattle.std.proofs.Common.{◌≡◌, ◌++◌, map, take}
 use Rattle.std.specs.Prelude.{AllPairs}
+use Rattle.std.specs.List.{AllZip}
 use Rattle.std.specs.String.{string_bytes}
+use Rattle.sheet_app.specs.FileSheets.{IsMadeFor}
 use Rattle.sheet_app.proofs.file_sheets.make_registers.Given as goal
 
--- the names of the outputs so far stand behind those before, and were told apart
+-- the outputs so far are made, and their names stand behind those before, and were told apart
 abbrev pub invariant-endings : goal.invariant-endings
 invariant-endings g l = record {
+  made : AllZip (IsMadeFor g.W.Output (g.P.FileStore.is_made l.store) l.file)
+      (map string_bytes (take l.ending-index l.endings)) l.outputs.items;
   noted : map string_bytes l.names.items ≡ map string_bytes l.fn.names.items
       ++ map (λ ending. l.file ++ string_bytes ending) (take l.ending-index l.endings);
   apart : AllPairs (g.P.FileStore.are_apart l.store) (map string_bytes l.fn.names.items)

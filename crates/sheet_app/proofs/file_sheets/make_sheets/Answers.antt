@@ -17,7 +17,7 @@ sources-preserved g c =
     let before = c.sources.opened-iterator in
     let IsOpened = λ (file : OpenedFile g.row.R.Denot). g.P.FileStore.is_opened store file.name.now file.source in
     let IsMade = λ (sheet : FileSheet g.row.R.Denot g.row.W.Denot). IsNewSheet g.W.Output (g.P.FileStore.is_opened store)
-    (g.P.FileStore.is_made store) (task_of c.args.job.now) sheet in
+    (g.P.FileStore.is_made store) (task_of c.args.job.now) (map string_bytes c.args.endings.now) sheet in
     let left : into_iter_items before ≡ opened ∷ into_iter_items c.next.new.self = search rules in
     let pushed : c.push.new.self.items ≡ c.sources.sheets.items ++ c.in_ok-sheet.sheet ∷ [] = search rules in
     let first = first_of_left IsOpened (into_iter_items before) (into_iter_items c.next.new.self) opened left

@@ -13,8 +13,8 @@ invariant-sources g l = record {
       ≡ map source_name l.fn.sources.items;
   opened : All (λ opened. g.P.FileStore.is_opened l.store opened.name.now opened.source)
       (into_iter_items l.opened-iterator);
-  made : All (IsNewSheet g.W.Output (g.P.FileStore.is_opened l.store) (g.P.FileStore.is_made l.store) (task_of l.job))
-      l.sheets.items;
+  made : All (IsNewSheet g.W.Output (g.P.FileStore.is_opened l.store) (g.P.FileStore.is_made l.store) (task_of l.job)
+      (map string_bytes l.endings)) l.sheets.items;
   noted : map string_bytes l.names.items
       ++ flat_map (λ opened. names_ending (ending_of (task_of l.job)) string_bytes l.endings (source_name opened))
       (into_iter_items l.opened-iterator)

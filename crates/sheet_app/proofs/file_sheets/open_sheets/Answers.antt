@@ -1,10 +1,10 @@
 -- The names by which outputs were told apart are those of a task.
-use Rattle.std.proofs.Common.{◌≡◌, All, Global, List, map, ℕ, subst}
+use Rattle.std.proofs.Common.{◌≡◌, ◌∙◌, All, ap, Global, List, map, ℕ, subst}
 use Rattle.std.specs.Borrow.{Bor}
-use Rattle.std.specs.Prelude.{AllPairs, flat_map}
+use Rattle.std.specs.Prelude.{AllPairs, IfOk, flat_map}
 use Rattle.std.specs.String.{string_bytes}
 use Rattle.sheet_arguments.specs.Requests.{task_of}
-use Rattle.sheet_app.specs.FileSheets.{IsNoInput, ending_of, names_ending, outputs_of, source_name}
+use Rattle.sheet_app.specs.FileSheets.{IsNewSheet, IsNoInput, ending_of, names_ending, outputs_of, source_name}
 use Rattle.sheet_app.specs.declared.file_sheets.OpenedFile.{OpenedFile}
 use Rattle.sheet_app.proofs.NameLemmas.{on_ok, same_names}
 use Rattle.sheet_app.proofs.file_sheets.open_sheets.Goals as goal
@@ -31,3 +31,9 @@ returns-clause-apart g c =
       kept = subst (All (λ (name : List ℕ). IsNoInput Apart task name)) of_files kept;
       apart = subst (AllPairs Apart) of_opened (rw c.as_slice-4.ensures.value at apart);
     })
+
+pub returns-clause-made : goal.returns-clause-made
+returns-clause-made g c =
+    subst (λ (endings : List (List ℕ)). IfOk c.make_sheets.result (λ sheets. All (IsNewSheet g.W.Output
+    (g.P.FileStore.is_opened c.args.store.now) (g.P.FileStore.is_made c.args.store.now) (task_of c.args.job.now) endings)
+    sheets.items)) (ap (map string_bytes) c.as_slice-4.ensures.value ∙ c.in_ok-endings.ensures) c.make_sheets.ensures.made

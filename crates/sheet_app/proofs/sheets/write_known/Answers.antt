@@ -1,5 +1,5 @@
 -- What was written by the choice that is known is what the task asks.
-use Rattle.std.proofs.Common.{inr}
+use Rattle.std.proofs.Common.{inr, refl}
 use Rattle.sheet_arguments.specs.Requests.{task_of}
 use Rattle.sheet_app.specs.declared.sheets.TheConstants.{MOST_UNKNOWN}
 use Rattle.sheet_app.proofs.EndLemmas.{asked_list, asked_sheet, ended_fault}
@@ -10,7 +10,7 @@ returns-in_err-list_unknown g c = λ lines asks.
     let choice = c.setup_of-setup.result.choice in
     let chosen = asks choice c.setup_of-setup.ensures.0 c.setup_of-setup.ensures.1 in
     ended_fault g.W.Output (task_of c.args.job.now) lines MOST_UNKNOWN c.args.sheet.now c.args.output.now
-    c.list_unknown.new.output c.from_residual.result _ c.from_residual.ensures.1
+    c.list_unknown.new.output c.args.registers.now c.from_residual.result _ c.from_residual.ensures.1
     (inr (choice, chosen, c.in_err-list_unknown.ensures.broken))
 
 pub returns-then-job : goal.returns-then-job
@@ -22,6 +22,7 @@ returns-then-job g c = λ lines asks.
           c.in_ok-list_unknown.ensures.whole,
       c.in_ok-list_unknown.ensures.flushed,
       c.if-job.true,
+      refl,
     )
 
 pub returns-in_err-whole : goal.returns-in_err-whole
@@ -29,7 +30,7 @@ returns-in_err-whole g c = λ lines asks.
     let choice = c.setup_of-setup.result.choice in
     let chosen = asks choice c.setup_of-setup.ensures.0 c.setup_of-setup.ensures.1 in
     ended_fault g.W.Output (task_of c.args.job.now) lines MOST_UNKNOWN c.args.sheet.now c.args.output.now
-    c.write_sheet.new.output c.from_residual-in_err-whole.result _ c.from_residual-in_err-whole.ensures.1
+    c.write_sheet.new.output c.args.registers.now c.from_residual-in_err-whole.result _ c.from_residual-in_err-whole.ensures.1
     (inr (choice, chosen, c.in_err-whole.ensures.broken))
 
 pub returns-in-Ok : goal.returns-in-Ok
@@ -41,6 +42,9 @@ returns-in-Ok g c = λ lines asks.
           c.in_ok-whole.ensures.whole,
       c.in_ok-whole.ensures.flushed,
       c.if-job.false,
+      choice,
+      chosen,
+      c.in-Ok.ensures.whole,
     )
 
 pub returns-in-Err : goal.returns-in-Err
@@ -53,4 +57,7 @@ returns-in-Err g c = λ lines asks.
           c.in_ok-whole.ensures.whole,
       c.in_ok-whole.ensures.flushed,
       c.if-job.false,
+      choice,
+      chosen,
+      c.in-Err.ensures.cut,
     )

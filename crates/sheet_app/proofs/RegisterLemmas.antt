@@ -1,0 +1,148 @@
+-- The outputs of a sheet's registers, one after the other.
+use Rattle.std.proofs.Common.{◌≡◌, ◌≤◌, ◌<◌, ◌∙◌, ◌+◌, ◌⊎◌, ℕ, zero, suc, List, [], ◌∷◌, Some, None, ap, arith, get_or}
+use Rattle.std.proofs.Common.{get_or-set_other, get_or-set_same, inl, inr, length, length-set, refl, set, slice_get, subst}
+use Rattle.std.proofs.Common.{◌++◌, map, sym, take, true}
+use Rattle.std.specs.List.{AllZip}
+use Rattle.std.specs.Prelude.{⊤, Err, IfErr, IfSome, IsErrAnd, Ok, Option, Result}
+use Rattle.std.proofs.lemmas.Bool.{cases_lt}
+use Rattle.std.proofs.lemmas.Bool.Decides.{eqb_tells}
+use Rattle.std.proofs.lemmas.Option.{get_or_from_slice_get, slice_get_past}
+use Rattle.std.proofs.lemmas.List.{map-append, take_more}
+use Rattle.register_files.specs.Openings.{AreMatched}
+use Rattle.register_records.specs.Sources.{Gains}
+use Rattle.register_records.specs.declared.outputs.Output as outputs
+use Rattle.register_sheets.specs.Registers.{IsFrontOfRegister, IsFullRegister}
+use Rattle.register_sheets.specs.declared.choices.DateColumn.{DateColumn}
+use Rattle.register_sheets.specs.declared.choices.SheetChoice.{SheetChoice}
+use Rattle.register_sheets.specs.declared.sheet_ends.SheetCause.{SheetCause}
+use Rattle.register_sheets.specs.declared.sheet_ends.SheetCause.TheVariants as cause
+use Rattle.sheet_app.specs.SheetFaults.{fault_by}
+use Rattle.sheet_app.specs.Sheets.{IsCutRegister, records_by}
+use Rattle.sheet_app.proofs.ListLemmas.{zip_pushed}
+
+-- of the outputs, so many have become what they should, and the others are as they were
+pub record IsDoneTo {W : Type 0} (P : ℕ → W → W → Type 0) (old now : List W) (n : ℕ) : Type 0 where
+  pub long : length now ≡ length old
+  pub done : (i : ℕ) (d : W) → i < n → i < length old → P i (get_or old i d) (get_or now i d)
+  pub left : (i : ℕ) (d : W) → n ≤ i → get_or now i d ≡ get_or old i d
+
+within_list : {X : Type 0} (xs : List X) (i : ℕ) (x : X) → slice_get xs i ≡ Some x → i < length xs
+within_list [] i x e = absurd (cc)
+within_list (y ∷ xs) zero x e = omega arith
+within_list (y ∷ xs) (suc i) x e = let within = within_list xs i x e in omega (arith, within)
+
+module _ {W : Type 0} (P : ℕ → W → W → Type 0) where
+  pub none_done : (old : List W) → IsDoneTo P old old 0
+  none_done old = record { long = refl; done = λ i d before within. absurd (omega (arith, before)); left = λ i d le. refl }
+
+  -- one more: what was there, and what it has become
+  pub one_more : (old now : List W) (n : ℕ) (e x : W) → IsDoneTo P old now n → n < length now
+      → P n (get_or now n e) x → IsDoneTo P old (set now n x) (n + 1)
+  one_more old now n e x so_far within one = record {
+    long = length-set now n x ∙ so_far.long;
+    done = λ i d before inside. elim (eqb_tells i n) [
+      | inl same ↦
+          let before : get_or old n d ≡ get_or now n e
+          = sym (so_far.left n d (omega arith)) ∙ any_default now n d e within in
+          rw (same.1, get_or-set_same now n x d within, before) one
+      | inr other ↦
+          rw (get_or-set_other now n i x d other.1) (so_far.done i d (omega (arith, before, other.1)) inside)
+    ];
+    left = λ i d le. get_or-set_other now n i x d (λ e. absurd (omega (arith, le, e))) ∙ so_far.left i d (omega (arith, le));
+  }
+    where
+      any_default : (xs : List W) (i : ℕ) (d e : W) → i < length xs → get_or xs i d ≡ get_or xs i e
+      any_default [] i d e within = absurd (omega (arith, within))
+      any_default (x ∷ xs) zero d e within = refl
+      any_default (x ∷ xs) (suc i) d e within = any_default xs i d e (omega (arith, within))
+
+  -- in the end, and where all others match as they were
+  pub all_done : (old now : List W) (n : ℕ) → IsDoneTo P old now n
+      → ((i : ℕ) (a : W) → n ≤ i → i < length old → P i a a) → AreMatched P old now
+  all_done old now n so_far others = record {
+    same_length = so_far.long;
+    each = λ i a b was is. at_place i a b was (get_or_from_slice_get old i a a was) (get_or_from_slice_get now i b a is)
+        (cases_lt i n);
+  }
+    where
+      at_place : (i : ℕ) (a b : W) → slice_get old i ≡ Some a → get_or old i a ≡ a → get_or now i a ≡ b
+          → (i < n) ⊎ (n ≤ i) → P i a b
+      at_place i a b was before after (inl done) =
+          subst (λ (y : W). P i a y) after (subst (λ (x : W). P i x (get_or now i a)) before
+          (so_far.done i a done (within_list old i a was)))
+      at_place i a b was before after (inr left) =
+          let same : a ≡ b = sym before ∙ sym (so_far.left i a left) ∙ after in
+          subst (P i a) same (others i a left (within_list old i a was))
+
+-- what follows of each that is done
+weaker : {W : Type 0} (P Q : ℕ → W → W → Type 0) (old now : List W) (n : ℕ)
+    → ((i : ℕ) (a b : W) → P i a b → Q i a b) → IsDoneTo P old now n → IsDoneTo Q old now n
+weaker P Q old now n follows so_far = record {
+  long = so_far.long;
+  done = λ i d before within. follows i (get_or old i d) (get_or now i d) (so_far.done i d before within);
+  left = so_far.left;
+}
+
+-- behind the last column there is none
+pub no_column : {X : Type 0} (columns : List X) (n i : ℕ) (P : X → Type 0) → length columns ≤ n → n ≤ i
+    → IfSome (slice_get columns i) P
+no_column columns n i P none le = rw (slice_get_past columns i (omega (arith, none, le))) tt
+
+-- one has broken off, and the others are written or as they were
+pub cut_there : {W Column Fault : Type 0} (Has : Column → W → W → Type 0) (IsCut : Fault → Column → W → W → Type 0)
+    (columns : List Column) (old now : List W) (n : ℕ) (column : Column) (e written : W) (result : Result ⊤ Fault)
+    (fault : Fault)
+    → IsDoneTo (λ place given written. IfSome (slice_get columns place) (λ column. Has column given written)) old now n
+    → n < length now → slice_get columns n ≡ Some column
+    → IsErrAnd result (λ why. why ≡ fault) → IsCut fault column (get_or now n e) written
+    → IfErr result (λ why. AreMatched (λ place given written. IfSome (slice_get columns place)
+    (λ column. Has column given written ⊎ (written ≡ given) ⊎ IsCut why column given written)) old (set now n written))
+cut_there Has IsCut columns old now n column e written (Ok done) fault so_far within at handed cut = absurd handed
+cut_there {W} {Column} Has IsCut columns old now n column e written (Err why) fault so_far within at handed cut =
+    all_done Ends old (set now n written) (n + 1)
+    (one_more Ends old now n e written (weaker _ Ends old now n kept so_far) within (rw at here))
+    (λ i a le inside. untouched a (slice_get columns i))
+  where
+    Cases : W → W → Column → Type 0
+    Cases given written column = Has column given written ⊎ (written ≡ given) ⊎ IsCut why column given written
+
+    Ends : ℕ → W → W → Type 0
+    Ends place given written = IfSome (slice_get columns place) (Cases given written)
+
+    whole : (a b : W) (found : Option Column) → IfSome found (λ column. Has column a b) → IfSome found (Cases a b)
+    whole a b None has = tt
+    whole a b (Some column) has = inl has
+
+    kept : (i : ℕ) (a b : W) → IfSome (slice_get columns i) (λ column. Has column a b) → Ends i a b
+    kept i a b has = whole a b (slice_get columns i) has
+
+    untouched : (a : W) (found : Option Column) → IfSome found (Cases a a)
+    untouched a None = tt
+    untouched a (Some column) = inr (inl refl)
+
+    here : Cases (get_or now n e) written column
+    here = inr (inr (subst (λ reason. IsCut reason column (get_or now n e) written) (sym handed) cut))
+
+-- one more was made, for the next ending
+pub made_more : {X W : Type 0} (Made : List ℕ → W → Type 0) (text : X → List ℕ) (xs : List X) (i : ℕ) (d : X)
+    (outputs new : List W) (one : W) → i < length xs → new ≡ outputs ++ one ∷ []
+    → AllZip Made (map text (take i xs)) outputs → Made (text (get_or xs i d)) one
+    → AllZip Made (map text (take (i + 1) xs)) new
+made_more Made text xs i d outputs new one within n so_far made =
+    rw (n, take_more xs i d within, map-append)
+    (zip_pushed Made (map text (take i xs)) outputs (text (get_or xs i d)) one so_far made)
+
+-- a register was written, or has broken off for this reason
+pub cut_by : {W : Type 0} (o : outputs.Ghosts W) (choice : SheetChoice) (sheet : List ℕ) (column : DateColumn)
+    (given written : W) (why : SheetCause)
+    → (why ≡ cause.NoMemory → Gains (o.contents given) (o.contents written)
+    (IsFrontOfRegister choice column (records_by choice sheet)))
+    → (why ≡ cause.NoNames → (written ≡ given) × (length (records_by choice sheet) ≤ choice.above))
+    → (why ≡ cause.TooManyRecords → Gains (o.contents given) (o.contents written)
+    (IsFullRegister choice column (records_by choice sheet)))
+    → (why ≡ cause.SinkFault → o.has_failed written ≡ true)
+    → IsCutRegister o choice sheet column given written (fault_by why)
+cut_by o choice sheet column given written cause.NoMemory part none many sink = part refl
+cut_by o choice sheet column given written cause.SinkFault part none many sink = sink refl
+cut_by o choice sheet column given written cause.NoNames part none many sink = none refl
+cut_by o choice sheet column given written cause.TooManyRecords part none many sink = many refl

@@ -1,6 +1,6 @@
 // What the built page has in place of unbuilt.mjs. page/build-page puts the text of the worker here.
 
-import { REGISTER_WASM } from './built-start.mjs';
+import { REGISTER_WASM } from './built-packed.mjs';
 
 const WORKER_TEXT = '{worker}';
 

@@ -1,6 +1,7 @@
 -- LineLemmas serve `lines_of`, TreeLemmas what stands beside and over a line, MarkLemmas
--- `dated`.
+-- `dated`, TreeSheetLemmas `tree_sheet`.
 mod LineLemmas
 pub mod TreeLemmas
 pub mod MarkLemmas
 pub mod DateLemmas
+pub mod TreeSheetLemmas

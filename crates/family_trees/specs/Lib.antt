@@ -3,3 +3,5 @@ pub mod LineViews
 pub mod Trees
 pub mod TreeViews
 pub mod DateViews
+pub mod TreeSheets
+pub mod SheetViews

@@ -1,11 +1,11 @@
 //! Family trees, for a page.
 
 ghost use Rattle.std.specs.Prelude.{◌≡◌, ◌≢◌};
-ghost use Rattle.register_sheets.specs.TreeSheets.{tree_text};
+ghost use Rattle.family_trees.specs.TreeSheets.{tree_text};
 ghost use Rattle.register_page_exports.specs.SheetReports.{PutsText};
 
 use crate::sheets::{TextReport, put_text};
-use register_sheets::tree_sheet;
+use family_trees::tree_sheet;
 use std::alloc::Global;
 
 /// Puts the dates of a family tree in GEDCOM, as a sheet, to the front of `room`: [`tree_sheet`], with a report.

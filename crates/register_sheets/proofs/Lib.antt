@@ -20,4 +20,3 @@ pub mod RegisterLemmas
 pub mod StopLemmas
 pub mod FoundLemmas
 pub mod UnreadLemmas
-pub mod TreeSheetLemmas

@@ -18,4 +18,3 @@ pub mod Registers
 pub mod UnknownNames
 pub mod UnknownViews
 pub mod FoundViews
-pub mod TreeSheets

@@ -27,7 +27,6 @@ mod sheet_rows;
 mod stopped_dates;
 mod stopped_names;
 mod stops;
-mod tree_sheets;
 mod unread_dates;
 mod writing;
 
@@ -46,6 +45,5 @@ pub use registers::write_register;
 pub use sheet_ends::{SheetCause, SheetEnd};
 pub use stopped_dates::{Unknown, unknown_names};
 pub use stopped_names::UnknownName;
-pub use tree_sheets::tree_sheet;
 pub use unread_dates::UnreadDates;
 pub use writing::{WriteFault, write};

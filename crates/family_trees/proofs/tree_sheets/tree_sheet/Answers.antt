@@ -1,0 +1,34 @@
+use Rattle.std.proofs.Common.{◌≡◌, ◌∙◌, ◌∷◌, [], List, ap, append-nil, arith, map, refl, sym, subst, take_all, take}
+use Rattle.csv.specs.Writing.{default_writer, row_text}
+use Rattle.family_trees.specs.DateViews.{date_seen}
+use Rattle.family_trees.specs.SheetViews.{Holds}
+use Rattle.family_trees.specs.Trees.{DateOfTree}
+use Rattle.family_trees.specs.TreeSheets.{date_record, records_text, tree_head}
+use Rattle.family_trees.proofs.TreeSheetLemmas.{one_date_more, text_known}
+use Rattle.family_trees.proofs.tree_sheets.tree_sheet.Goals as goal
+
+pub dates-init : goal.dates-init
+dates-init c =
+    let from = c.from_writer-sheet.ensures in
+    subst (λ text. Holds text c.write_head.new.sheet) (sym (append-nil (row_text default_writer tree_head)))
+    (c.in_ok-write_head.ensures [] (record {
+      written = rw (from.wtr, c.new.ensures.items, from.empty) refl;
+      setup = from.cfg;
+      fields = from.fields;
+      wrote = from.wrote;
+    }))
+
+pub dates-preserved : goal.dates-preserved
+dates-preserved c =
+    subst (λ text. Holds text c.write_date.new.sheet)
+    (one_date_more c.deref-date-items.result.now c.dates.date-index _ c.dates-test.true)
+    (c.in_ok-write_date.ensures _ c.dates.invariant)
+
+pub returns : goal.returns
+returns c =
+    let dates = c.deref-date-items.result.now in
+    let all : map date_seen (take c.dates.date-index dates) ≡ map date_seen c.in_ok-dates.dates.items
+    = ap (map date_seen) (take_all c.dates.date-index dates (omega (arith, c.dates-test.false))
+    ∙ c.deref-date-items.ensures.value) in
+    text_known c.text_of.result _ _ c.dates.sheet c.text_of.ensures c.dates.invariant
+    (ap (λ (xs : List DateOfTree). records_text (tree_head ∷ map date_record xs)) (all ∙ c.in_ok-dates.ensures))

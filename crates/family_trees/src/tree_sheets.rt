@@ -1,0 +1,88 @@
+//! The dates of a family tree as a sheet.
+
+ghost use Rattle.std.specs.Prelude.{◌≡◌, ◌++◌, ℕ, List, IfOk, OnOk, map};
+ghost use Rattle.csv.specs.Writing.{default_writer, row_text};
+ghost use Rattle.family_trees.specs.DateViews.{date_seen};
+ghost use Rattle.family_trees.specs.SheetViews.{Holds};
+ghost use Rattle.family_trees.specs.TreeSheets.{date_record, tree_head, tree_text};
+
+use crate::dates::{TreeDate, dates_of};
+use csv::Writer;
+use std::alloc::{AllocError, Global};
+
+/// Appends a record. Over memory nothing else goes wrong than that it runs out.
+fn write(sheet: &mut Writer<Vec<u8>>, fields: &[&[u8]]) -> Result<(), AllocError>
+    ensures { OnOk result ((text : List ℕ) → Holds text sheet.old
+        → Holds (text ++ row_text default_writer (map (λ field. field.now) fields.now)) sheet.new) }
+{
+    match sheet.write_fields(fields) {
+        Ok(()) => Ok(()),
+        Err(_) => Err(AllocError),
+    }
+}
+
+/// Appends the names of the columns.
+fn write_head(sheet: &mut Writer<Vec<u8>>) -> Result<(), AllocError>
+    ensures { OnOk result ((text : List ℕ) → Holds text sheet.old
+        → Holds (text ++ row_text default_writer tree_head) sheet.new) }
+{
+    let names: [&[u8]; 9] = [
+        b"record",
+        b"name",
+        b"partner",
+        b"event",
+        b"part",
+        b"type",
+        b"place",
+        b"calendar",
+        b"date",
+    ];
+    write(sheet, &names)
+}
+
+/// Appends what is known of a date.
+fn write_date(sheet: &mut Writer<Vec<u8>>, date: &TreeDate) -> Result<(), AllocError>
+    ensures { OnOk result ((text : List ℕ) → Holds text sheet.old
+        → Holds (text ++ row_text default_writer (date_record (date_seen date.now))) sheet.new) }
+{
+    let fields = [
+        date.number,
+        date.name,
+        date.partner,
+        date.event,
+        date.part,
+        date.kind,
+        date.place,
+        date.calendar,
+        date.date,
+    ];
+    write(sheet, &fields)
+}
+
+/// The text of a sheet.
+fn text_of(sheet: Writer<Vec<u8>>) -> Result<Vec<u8>, AllocError>
+    ensures { IfOk result (λ whole. (text : List ℕ) → Holds text sheet → whole.items ≡ text) }
+{
+    match sheet.into_inner() {
+        Ok(text) => Ok(text),
+        Err(_) => Err(AllocError),
+    }
+}
+
+/// The dates of a family tree in GEDCOM 5.5.1 or 7 as a sheet: a CSV text with a record for each line `DATE` of the tree,
+/// in order, below a record of names.
+///
+/// # Errors
+///
+/// Where memory ran out.
+pub fn tree_sheet(alloc: Global, tree: &[u8]) -> Result<Vec<u8>, AllocError>
+    ensures { IfOk result (λ text. text.items ≡ tree_text tree.now) }
+{
+    let dates = dates_of(alloc, tree)?;
+    let mut sheet = Writer::from_writer(Vec::new(alloc));
+    write_head(&mut sheet)?;
+    'dates: for date in &dates {
+        write_date(&mut sheet, date)?;
+    }
+    text_of(sheet)
+}

@@ -13,3 +13,4 @@ mod NameLemmas
 mod RefusedLemmas
 mod RegisterLemmas
 mod TaskLemmas
+pub mod FaultLemmas

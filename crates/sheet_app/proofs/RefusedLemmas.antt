@@ -36,6 +36,6 @@ pub out_of_memory : (arguments : List Text) (before after : Option (List ℕ))
 out_of_memory arguments before after line = record {
   why = program_fault.OutOfMemory;
   status_of = refl;
-  fault = tt;
+  cause = tt;
   line = line;
 }

@@ -1,9 +1,9 @@
 -- The outputs of a sheet's registers, one after the other.
 use Rattle.std.proofs.Common.{◌≡◌, ◌≤◌, ◌<◌, ◌∙◌, ◌+◌, ◌⊎◌, ℕ, zero, suc, List, [], ◌∷◌, Some, None, arith, get_or}
 use Rattle.std.proofs.Common.{get_or-set_other, get_or-set_same, inl, inr, length, length-set, refl, set, slice_get, subst}
-use Rattle.std.proofs.Common.{◌++◌, map, sym, take, true}
+use Rattle.std.proofs.Common.{◌++◌, ap, map, sym, take, true}
 use Rattle.std.specs.List.{AllZip}
-use Rattle.std.specs.Prelude.{⊤, Err, IfErr, IfSome, IsErrAnd, Ok, Option, Result}
+use Rattle.std.specs.Prelude.{⊤, Err, IfErr, IfSome, IsErrAnd, Ok, Result}
 use Rattle.std.proofs.lemmas.Bool.{cases_lt}
 use Rattle.std.proofs.lemmas.Bool.Decides.{eqb_tells}
 use Rattle.std.proofs.lemmas.Option.{get_or_from_slice_get, slice_get_past}
@@ -17,7 +17,8 @@ use Rattle.register_sheets.specs.declared.choices.SheetChoice.{SheetChoice}
 use Rattle.register_sheets.specs.declared.sheet_ends.SheetCause.{SheetCause}
 use Rattle.register_sheets.specs.declared.sheet_ends.SheetCause.TheVariants as cause
 use Rattle.sheet_app.specs.SheetFaults.{fault_by}
-use Rattle.sheet_app.specs.Sheets.{IsCutRegister, records_by}
+use Rattle.sheet_app.specs.Sheets.{AreCutRegisters, HasRegister, IsCutRegister, records_by}
+use Rattle.sheet_app.specs.declared.sheet_faults.SheetFault.{SheetFault}
 use Rattle.sheet_app.proofs.ListLemmas.{zip_pushed}
 
 -- of the outputs, so many have become what they should, and the others are as they were
@@ -30,6 +31,11 @@ within_list : {X : Type 0} (xs : List X) (i : ℕ) (x : X) → slice_get xs i �
 within_list [] i x e = absurd (cc)
 within_list (y ∷ xs) zero x e = omega arith
 within_list (y ∷ xs) (suc i) x e = let within = within_list xs i x e in omega (arith, within)
+
+any_default : {X : Type 0} (xs : List X) (i : ℕ) (d e : X) → i < length xs → get_or xs i d ≡ get_or xs i e
+any_default [] i d e within = absurd (omega (arith, within))
+any_default (x ∷ xs) zero d e within = refl
+any_default (x ∷ xs) (suc i) d e within = any_default xs i d e (omega (arith, within))
 
 module _ {W : Type 0} (P : ℕ → W → W → Type 0) where
   pub none_done : (old : List W) → IsDoneTo P old old 0
@@ -50,11 +56,6 @@ module _ {W : Type 0} (P : ℕ → W → W → Type 0) where
     ];
     left = λ i d le. get_or-set_other now n i x d (λ e. absurd (omega (arith, le, e))) ∙ so_far.left i d (omega (arith, le));
   }
-    where
-      any_default : (xs : List W) (i : ℕ) (d e : W) → i < length xs → get_or xs i d ≡ get_or xs i e
-      any_default [] i d e within = absurd (omega (arith, within))
-      any_default (x ∷ xs) zero d e within = refl
-      any_default (x ∷ xs) (suc i) d e within = any_default xs i d e (omega (arith, within))
 
   -- in the end, and where all others match as they were
   pub all_done : (old now : List W) (n : ℕ) → IsDoneTo P old now n
@@ -74,54 +75,61 @@ module _ {W : Type 0} (P : ℕ → W → W → Type 0) where
           let same : a ≡ b = sym before ∙ sym (so_far.left i a left) ∙ after in
           subst (P i a) same (others i a left (within_list old i a was))
 
--- what follows of each that is done
-weaker : {W : Type 0} (P Q : ℕ → W → W → Type 0) (old now : List W) (n : ℕ)
-    → ((i : ℕ) (a b : W) → P i a b → Q i a b) → IsDoneTo P old now n → IsDoneTo Q old now n
-weaker P Q old now n follows so_far = record {
-  long = so_far.long;
-  done = λ i d before within. follows i (get_or old i d) (get_or now i d) (so_far.done i d before within);
-  left = so_far.left;
-}
-
 -- behind the last column there is none
 pub no_column : {X : Type 0} (columns : List X) (n i : ℕ) (P : X → Type 0) → length columns ≤ n → n ≤ i
     → IfSome (slice_get columns i) P
 no_column columns n i P none le = rw (slice_get_past columns i (omega (arith, none, le))) tt
 
--- one has broken off, and the others are written or as they were
-pub cut_there : {W Column Fault : Type 0} (Has : Column → W → W → Type 0) (IsCut : Fault → Column → W → W → Type 0)
-    (columns : List Column) (old now : List W) (n : ℕ) (column : Column) (e written : W) (result : Result ⊤ Fault)
-    (fault : Fault)
-    → IsDoneTo (λ place given written. IfSome (slice_get columns place) (λ column. Has column given written)) old now n
-    → n < length now → slice_get columns n ≡ Some column
-    → IsErrAnd result (λ why. why ≡ fault) → IsCut fault column (get_or now n e) written
-    → IfErr result (λ why. AreMatched (λ place given written. IfSome (slice_get columns place)
-    (λ column. Has column given written ⊎ (written ≡ given) ⊎ IsCut why column given written)) old (set now n written))
-cut_there Has IsCut columns old now n column e written (Ok done) fault so_far within at handed cut = absurd handed
-cut_there {W} {Column} Has IsCut columns old now n column e written (Err why) fault so_far within at handed cut =
-    all_done Ends old (set now n written) (n + 1)
-    (one_more Ends old now n e written (weaker _ Ends old now n kept so_far) within (rw at here))
-    (λ i a le inside. untouched a (slice_get columns i))
+-- the register of the column at a place is written, where there is one
+abbrev pub HasAt : {W : Type 0} → outputs.Ghosts W → SheetChoice → List ℕ → ℕ → W → W → Type 0
+HasAt o choice sheet place given written =
+    IfSome (slice_get choice.dates.now place) (λ column. HasRegister o choice sheet column given written)
+
+-- one has broken off: those before it are written, and those behind it as they were
+pub cut_there : {W : Type 0} (o : outputs.Ghosts W) (choice : SheetChoice) (sheet : List ℕ) (old now : List W) (n : ℕ)
+    (column : DateColumn) (e written : W) (result : Result ⊤ SheetFault) (fault : SheetFault)
+    → IsDoneTo (HasAt o choice sheet) old now n → n < length now → slice_get choice.dates.now n ≡ Some column
+    → IsErrAnd result (λ why. why ≡ fault) → IsCutRegister o choice sheet column (get_or now n e) written fault
+    → IfErr result (λ why. AreCutRegisters o choice sheet why old (set now n written))
+cut_there o choice sheet old now n column e written (Ok done) fault so_far within at handed cut = absurd handed
+cut_there {W} o choice sheet old now n column e written (Err why) fault so_far within at handed cut = record {
+  cut = n;
+  column = column;
+  there = omega (arith, within, so_far.long);
+  of_column = at;
+  each = record {
+    same_length = length-set now n written ∙ so_far.long;
+    each = λ i a b was is. (before i a b was is, at_cut i a b was is, behind i a b was is);
+  };
+}
   where
-    Cases : W → W → Column → Type 0
-    Cases given written column = Has column given written ⊎ (written ≡ given) ⊎ IsCut why column given written
+    given_at : (i : ℕ) (a : W) → slice_get old i ≡ Some a → get_or old i a ≡ a
+    given_at i a was = get_or_from_slice_get old i a a was
 
-    Ends : ℕ → W → W → Type 0
-    Ends place given written = IfSome (slice_get columns place) (Cases given written)
+    others : (i : ℕ) (a b : W) → slice_get (set now n written) i ≡ Some b → ¬ (i ≡ n) → get_or now i a ≡ b
+    others i a b is differ =
+        sym (get_or-set_other now n i written a differ) ∙ get_or_from_slice_get (set now n written) i b a is
 
-    whole : (a b : W) (found : Option Column) → IfSome found (λ column. Has column a b) → IfSome found (Cases a b)
-    whole a b None has = tt
-    whole a b (Some column) has = inl has
+    before : (i : ℕ) (a b : W) → slice_get old i ≡ Some a → slice_get (set now n written) i ≡ Some b → i < n
+        → HasAt o choice sheet i a b
+    before i a b was is lt =
+        subst (λ (y : W). HasAt o choice sheet i a y) (others i a b is (λ e. absurd (omega (arith, lt, e))))
+        (subst (λ (x : W). HasAt o choice sheet i x (get_or now i a)) (given_at i a was)
+        (so_far.done i a lt (within_list old i a was)))
 
-    kept : (i : ℕ) (a b : W) → IfSome (slice_get columns i) (λ column. Has column a b) → Ends i a b
-    kept i a b has = whole a b (slice_get columns i) has
+    at_cut : (i : ℕ) (a b : W) → slice_get old i ≡ Some a → slice_get (set now n written) i ≡ Some b → i ≡ n
+        → IsCutRegister o choice sheet column a b why
+    at_cut i a b was is same =
+        let there : get_or now n e ≡ a = any_default now n e a within ∙ so_far.left n a (omega arith)
+        ∙ ap (λ (k : ℕ). get_or old k a) (sym same) ∙ given_at i a was in
+        let became : written ≡ b = sym (get_or-set_same now n written a within)
+        ∙ ap (λ (k : ℕ). get_or (set now n written) k a) (sym same)
+        ∙ get_or_from_slice_get (set now n written) i b a is in
+        rw (handed, ← there, ← became) cut
 
-    untouched : (a : W) (found : Option Column) → IfSome found (Cases a a)
-    untouched a None = tt
-    untouched a (Some column) = inr (inl refl)
-
-    here : Cases (get_or now n e) written column
-    here = inr (inr (subst (λ reason. IsCut reason column (get_or now n e) written) (sym handed) cut))
+    behind : (i : ℕ) (a b : W) → slice_get old i ≡ Some a → slice_get (set now n written) i ≡ Some b → n < i → b ≡ a
+    behind i a b was is lt =
+        sym (others i a b is (λ e. absurd (omega (arith, lt, e)))) ∙ so_far.left i a (omega (arith, lt)) ∙ given_at i a was
 
 -- one more was made, for the next ending
 pub made_more : {X W : Type 0} (Made : List ℕ → W → Type 0) (text : X → List ℕ) (xs : List X) (i : ℕ) (d : X)

@@ -7,12 +7,12 @@ use Rattle.clap.specs.Words.{Text}
 use Rattle.command_lines.specs.Meanings.{help, version, work}
 use Rattle.register_records.specs.declared.outputs.Output as outputs
 use Rattle.register_sheets.specs.declared.name_lists.NameLine.{NameLine}
-use Rattle.sheet_arguments.specs.Requests.{IsFaultOf, MeanJust, Task}
+use Rattle.sheet_arguments.specs.Requests.{MeanJust, Task}
 use Rattle.sheet_arguments.specs.declared.help.TheConstants.{HELP, PRINT_FAULT}
 use Rattle.sheet_arguments.specs.declared.requests.TheConstants.{VERSION}
 use Rattle.sheet_app.specs.FileSheets.{AreApartOutputs}
 use Rattle.sheet_app.specs.EndedSheets.{AreReported, Gives, IsConverted, IsEndedSheet, ended_name, is_complete}
-use Rattle.sheet_app.specs.ProgramFaults.{fault_line, fault_status, request_fault_in}
+use Rattle.sheet_app.specs.ProgramFaults.{IsFaultOfAsked, fault_line, fault_status}
 use Rattle.sheet_app.specs.Sheets.{AreBothLists}
 use Rattle.sheet_app.specs.declared.converting.EndedSheet.{EndedSheet}
 use Rattle.sheet_app.specs.declared.converting.TheConstants.{INPUT}
@@ -36,12 +36,12 @@ abbrev pub AskForPage : List Text → List ℕ → Type 0
 AskForPage arguments page =
     (MeanJust arguments help × (page ≡ HELP.now)) ⊎ (MeanJust arguments version × (page ≡ version_line))
 
--- standard error has gained the line on why nothing is done, with this status; of arguments that are not taken, clap says
--- more than the definitions
+-- standard error has gained the line on why nothing is done, with this status: what it names is of the arguments; of
+-- arguments that are not taken, clap says more than the definitions
 pub record IsReported (arguments : List Text) (status : ℕ) (before after : Option (List ℕ)) : Type 0 where
   pub why : ProgramFault
   pub status_of : fault_status why ≡ status
-  pub fault : IfSome (request_fault_in why) (IsFaultOf arguments)
+  pub cause : IsFaultOfAsked arguments why
   pub line : IfSome (fault_line why) (Appends before after)
 
 -- the list of names of the user is the file that a task names

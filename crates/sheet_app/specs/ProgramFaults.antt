@@ -1,18 +1,39 @@
 -- Why nothing is done, and what standard error gets of it.
-use Rattle.std.specs.Prelude.{◌++◌, ℕ, List, codes, Option, Some, None}
+use Rattle.std.specs.Prelude.{◌≡◌, ◌++◌, ◌⊎◌, ⊤, ℕ, Contains, IfSome, List, codes, Option, Some}
 use Rattle.std.specs.Fmt.{decimal}
 use Rattle.std.specs.String.{string_bytes}
+use Rattle.clap.specs.Words.{Text}
+use Rattle.command_lines.specs.Meanings.{work}
 use Rattle.register_sheets.specs.declared.name_lists.NameListFault.{NameListFault}
 use Rattle.register_sheets.specs.declared.name_lists.NameListFault.TheVariants as list_fault
-use Rattle.sheet_arguments.specs.Faults.{Fault, error_line, fault_of_error, memory_line, program_line, status_of_fault}
+use Rattle.sheet_arguments.specs.Faults.{error_line, fault_of_error, memory_line, program_line, status_of_fault}
+use Rattle.sheet_arguments.specs.Requests.{IsFaultOf, MeanJust, Task}
+use Rattle.sheet_app.specs.FileSheets.{outputs_of}
+use Rattle.sheet_app.specs.declared.file_sheets.FileFault.{FileFault}
 use Rattle.sheet_app.specs.declared.file_sheets.FileFault.TheVariants as file_fault
 use Rattle.sheet_app.specs.declared.program_faults.ProgramFault.{ProgramFault}
 use Rattle.sheet_app.specs.declared.program_faults.ProgramFault.TheVariants as program_fault
 
--- what is wrong with the arguments, where that is why
-abbrev pub request_fault_in : ProgramFault → Option Fault
-request_fault_in (program_fault.Arguments error) = fault_of_error error
-request_fault_in other = None
+-- the files of a task are not there for this reason: memory ran out, or a file that is opened for it, or one that is made,
+-- is missing
+abbrev pub IsFaultOfFiles : Task → FileFault → Type 0
+IsFaultOfFiles task (file_fault.CannotOpen file) = Contains task.files file.now ⊎ (task.names ≡ Some file.now)
+IsFaultOfFiles task (file_fault.CannotMake name) = Contains (outputs_of task) (string_bytes name)
+IsFaultOfFiles task file_fault.OutOfMemory = ⊤
+
+-- a task is not begun for this reason: memory ran out, a file is missing, or its list of names cannot be read or is none
+abbrev pub IsFaultOfTask : Task → ProgramFault → Type 0
+IsFaultOfTask task (program_fault.Files fault) = IsFaultOfFiles task fault
+IsFaultOfTask task (program_fault.UnreadList file) = task.names ≡ Some file.now
+IsFaultOfTask task (program_fault.NoList file fault) = task.names ≡ Some file.now
+IsFaultOfTask task program_fault.OutOfMemory = ⊤
+IsFaultOfTask task (program_fault.Arguments error) = ⊥
+
+-- nothing is done for this reason: the arguments are wrong, memory ran out, or the task that they ask for is not begun
+abbrev pub IsFaultOfAsked : List Text → ProgramFault → Type 0
+IsFaultOfAsked arguments (program_fault.Arguments error) = IfSome (fault_of_error error) (IsFaultOf arguments)
+IsFaultOfAsked arguments program_fault.OutOfMemory = ⊤
+IsFaultOfAsked arguments fault = (task : Task) × MeanJust arguments (work task) × IsFaultOfTask task fault
 
 -- 2 for what is wrong with the arguments, and 3 for the rest
 abbrev pub fault_status : ProgramFault → ℕ

@@ -1,6 +1,7 @@
 -- What clauses see of a sheet on its way. No public contract cites this file.
-use Rattle.std.specs.Prelude.{◌≡◌, ◌==◌, ℕ, Bool, List, Option, Result, Ok, Err, false, length, nat_lt, true}
+use Rattle.std.specs.Prelude.{◌≡◌, ◌==◌, ⊤, ℕ, Bool, Contains, List, Option, Result, Ok, Err, false, length, nat_lt, true}
 use Rattle.std.specs.Io.KnownBytes.{Appends}
+use Rattle.std.specs.String.{string_bytes}
 use Rattle.clap.specs.Words.{Text}
 use Rattle.register_records.specs.SetupRules.{is_delimiter}
 use Rattle.register_records.specs.declared.outputs.Output as outputs
@@ -12,6 +13,8 @@ use Rattle.register_sheets.specs.declared.name_lists.NameLine.{NameLine}
 use Rattle.sheet_arguments.specs.Requests.{Task}
 use Rattle.sheet_arguments.specs.WordLists.{columns_asked}
 use Rattle.sheet_app.specs.Sheets.{IsBroken, IsChoiceFor, IsEnded}
+use Rattle.sheet_app.specs.declared.file_sheets.FileFault.{FileFault}
+use Rattle.sheet_app.specs.declared.file_sheets.FileFault.TheVariants as file_fault
 use Rattle.sheet_app.specs.declared.sheet_faults.SheetFault.{SheetFault}
 use Rattle.sheet_app.specs.declared.sheets.SheetDone.{SheetDone}
 
@@ -27,6 +30,18 @@ IsEndedBy o task lines most sheet given written new registers (Ok done) =
     IsEnded o task lines most sheet given written new registers done
 IsEndedBy o task lines most sheet given written new registers (Err fault) =
     IsBroken o task lines sheet given written fault × (registers ≡ new)
+
+-- memory ran out, or one of these files could not be opened
+abbrev pub IsOfInputs : List Text → FileFault → Type 0
+IsOfInputs names (file_fault.CannotOpen file) = Contains names file.now
+IsOfInputs names (file_fault.CannotMake name) = ⊥
+IsOfInputs names file_fault.OutOfMemory = ⊤
+
+-- or one of these outputs is missing
+abbrev pub IsOfOutputs : List Text → FileFault → Type 0
+IsOfOutputs names (file_fault.CannotOpen file) = ⊥
+IsOfOutputs names (file_fault.CannotMake name) = Contains names (string_bytes name)
+IsOfOutputs names file_fault.OutOfMemory = ⊤
 
 -- an output that has not failed had not failed before, and has gained this text, if that was said
 pub record Says {E : Type 0} (e : outputs.Ghosts E) (before after : E) (said : Bool) (text : List ℕ) : Type 0 where

@@ -133,12 +133,17 @@ HaveRegisters o choice sheet =
     AreMatched (λ place given written. IfSome (slice_get choice.dates.now place)
     (λ column. HasRegister o choice sheet column given written))
 
--- or it has gained nothing, or that has broken off for this reason
-abbrev pub AreCutRegisters : {W : Type 0} → outputs.Ghosts W → SheetChoice → List ℕ → SheetFault → List W → List W → Type 0
-AreCutRegisters o choice sheet fault =
-    AreMatched (λ place given written. IfSome (slice_get choice.dates.now place)
-    (λ column. HasRegister o choice sheet column given written ⊎ (written ≡ given)
-    ⊎ IsCutRegister o choice sheet column given written fault))
+-- or that of this column has broken off for this reason; those before it are written, and those behind it as they were
+pub record AreCutRegisters {W : Type 0} (o : outputs.Ghosts W) (choice : SheetChoice) (sheet : List ℕ) (fault : SheetFault)
+    (new registers : List W) : Type 0 where
+  pub cut : ℕ
+  pub column : DateColumn
+  pub there : cut < length new
+  pub of_column : slice_get choice.dates.now cut ≡ Some column
+  pub each : AreMatched (λ place given written.
+      (place < cut → IfSome (slice_get choice.dates.now place) (λ other. HasRegister o choice sheet other given written))
+      × (place ≡ cut → IsCutRegister o choice sheet column given written fault)
+      × (cut < place → written ≡ given)) new registers
 
 -- what the outputs of a sheet and of its registers have gained, by how it has ended; a list is of at most so many names
 abbrev pub IsEnded : {W : Type 0} → outputs.Ghosts W → Task → List NameLine → ℕ → List ℕ → W → W → List W → List W

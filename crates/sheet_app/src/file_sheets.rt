@@ -1,12 +1,14 @@
 //! The sheets of a command line: opens the files, and makes the outputs of each.
 
-ghost use Rattle.std.specs.Prelude.{◌≡◌, ◌++◌, ◌∷◌, [], All, AllPairs, IfOk, IfSome, OnOk, false, flat_map, map};
+ghost use Rattle.std.specs.Prelude.{◌≡◌, ◌++◌, ◌∷◌, [], All, AllPairs, IfErr, IfOk, IfSome, OnOk, false, flat_map, map};
 ghost use Rattle.std.specs.Prelude.{option_map};
 ghost use Rattle.std.specs.List.{AllZip, range_with_len};
 ghost use Rattle.std.specs.String.{string_bytes};
 ghost use Rattle.sheet_arguments.specs.Requests.{task_of};
 ghost use Rattle.sheet_app.specs.FileSheets.{AreApartOutputs, IsMadeFor, IsNewSheet, IsNoInput, ending_of, names_ending};
 ghost use Rattle.sheet_app.specs.FileSheets.{register_ending, register_endings, sheet_name, source_name};
+ghost use Rattle.sheet_app.specs.ProgramFaults.{IsFaultOfFiles};
+ghost use Rattle.sheet_app.specs.SheetViews.{IsOfInputs, IsOfOutputs};
 
 use itoa::Buffer;
 use register_files::FileStore;
@@ -122,6 +124,7 @@ fn open_sources<'a, R: Drop, W: Output, P: FileStore<R, W>>(
     ensures named { IfOk result (λ sources. map source_name sources.items ≡ map (λ file. file.now) files.now) }
     ensures opened { IfOk result (λ sources. All (λ opened. P.is_opened store.now opened.name.now opened.source)
         sources.items) }
+    ensures missing { IfErr result (IsOfInputs (map (λ file. file.now) files.now)) }
 {
     let mut sources = Vec::new(alloc);
     'files: for &name in files {
@@ -165,7 +168,8 @@ fn check_kept<'a, R, W: Output, P: FileStore<R, W>>(
     file: &str,
     ending: &str,
 ) -> Result<(), FileFault<'a>>
-    ensures { OnOk result (IsNoInput (P.are_apart store.now) (task_of job.now) (file.now ++ ending.now)) }
+    ensures kept { OnOk result (IsNoInput (P.are_apart store.now) (task_of job.now) (file.now ++ ending.now)) }
+    ensures missing { IfErr result (IsOfOutputs ((file.now ++ ending.now) ∷ [])) }
 {
     let name = output_name(alloc, file, ending)?;
     if is_list(store, job.names, name.as_str()) {
@@ -185,7 +189,9 @@ fn check_outputs_kept<'a, R, W: Output, P: FileStore<R, W>>(
     file: &str,
     endings: &[String],
 ) -> Result<(), FileFault<'a>>
-    ensures { OnOk result (All (IsNoInput (P.are_apart store.now) (task_of job.now))
+    ensures kept { OnOk result (All (IsNoInput (P.are_apart store.now) (task_of job.now))
+        (names_ending (ending_of (task_of job.now)) string_bytes endings.now file.now)) }
+    ensures missing { IfErr result (IsOfOutputs
         (names_ending (ending_of (task_of job.now)) string_bytes endings.now file.now)) }
 {
     check_kept(alloc, store, job, file, ending(job))?;
@@ -203,7 +209,9 @@ fn check_inputs_kept<'a, R, W: Output, P: FileStore<R, W>>(
     files: &[&'a str],
     endings: &[String],
 ) -> Result<(), FileFault<'a>>
-    ensures { OnOk result (All (IsNoInput (P.are_apart store.now) (task_of job.now))
+    ensures kept { OnOk result (All (IsNoInput (P.are_apart store.now) (task_of job.now))
+        (flat_map (λ file. names_ending (ending_of (task_of job.now)) string_bytes endings.now file.now) files.now)) }
+    ensures missing { IfErr result (IsOfOutputs
         (flat_map (λ file. names_ending (ending_of (task_of job.now)) string_bytes endings.now file.now) files.now)) }
 {
     'files: for &file in files {
@@ -237,6 +245,7 @@ fn make_output<'a, R, W: Output + Drop, P: FileStore<R, W>>(
         ≡ map string_bytes names.old.items ++ (file.now ++ ending.now) ∷ []) }
     ensures apart { IfOk result (λ output. AllPairs (P.are_apart store.now) (map string_bytes names.old.items)
         → AllPairs (P.are_apart store.now) (map string_bytes names.new.items)) }
+    ensures missing { IfErr result (IsOfOutputs ((file.now ++ ending.now) ∷ [])) }
 {
     let name = output_name(alloc, file, ending)?;
     let Ok(before) = u32::try_from(names.len()) else {
@@ -269,6 +278,7 @@ fn make_registers<'a, R, W: Output + Drop, P: FileStore<R, W>>(
         ≡ map string_bytes names.old.items ++ map (λ ending. file.now ++ string_bytes ending) endings.now) }
     ensures apart { IfOk result (λ outputs. AllPairs (P.are_apart store.now) (map string_bytes names.old.items)
         → AllPairs (P.are_apart store.now) (map string_bytes names.new.items)) }
+    ensures missing { IfErr result (IsOfOutputs (map (λ ending. file.now ++ string_bytes ending) endings.now)) }
 {
     let mut outputs = Vec::new(alloc);
     'endings: for ending in endings {
@@ -297,6 +307,8 @@ fn make_sheet<'a, R: Drop, W: Output + Drop, P: FileStore<R, W>>(
         ++ names_ending (ending_of (task_of job.now)) string_bytes endings.now (source_name opened.entry)) }
     ensures apart { IfOk result (λ sheet. AllPairs (P.are_apart store.now) (map string_bytes names.old.items)
         → AllPairs (P.are_apart store.now) (map string_bytes names.new.items)) }
+    ensures missing { IfErr result (IsOfOutputs
+        (names_ending (ending_of (task_of job.now)) string_bytes endings.now (source_name opened.entry))) }
 {
     let output = make_output(alloc, store, names, opened.name, ending(job))?;
     let registers = make_registers(alloc, store, names, opened.name, endings)?;
@@ -321,6 +333,9 @@ fn make_sheets<'a, R: Drop, W: Output + Drop, P: FileStore<R, W>>(
     ensures made { IfOk result (λ sheets. All (IsNewSheet W.Output (P.is_opened store.now) (P.is_made store.now)
         (task_of job.now) (map string_bytes endings.now)) sheets.items) }
     ensures apart { IfOk result (λ sheets. AllPairs (P.are_apart store.now)
+        (flat_map (λ opened. names_ending (ending_of (task_of job.now)) string_bytes endings.now (source_name opened))
+        sources.entry.items)) }
+    ensures missing { IfErr result (IsOfOutputs
         (flat_map (λ opened. names_ending (ending_of (task_of job.now)) string_bytes endings.now (source_name opened))
         sources.entry.items)) }
 {
@@ -351,6 +366,7 @@ pub fn open_sheets<'a, R: Drop, W: Output + Drop, P: FileStore<R, W>>(
     ensures made { IfOk result (λ sheets. All (IsNewSheet W.Output (P.is_opened store.now) (P.is_made store.now)
         (task_of job.now) (register_endings (task_of job.now))) sheets.items) }
     ensures apart { OnOk result (AreApartOutputs (P.are_apart store.now) (task_of job.now)) }
+    ensures fault { IfErr result (IsFaultOfFiles (task_of job.now)) }
 {
     let endings = register_endings(alloc, job)?;
     let sources = open_sources(alloc, store, job.files.as_slice())?;

@@ -1,19 +1,20 @@
 //! What the program does with its arguments: it prints a page, or converts, and returns how that ended.
 
-ghost use Rattle.std.specs.Prelude.{◌≡◌, ◌≢◌, ◌≤◌, ◌⊎◌, ◌↔◌, ℕ, List, [], All, IfErr, IfOk, IfSome, None, OnOk, map, false, true};
+ghost use Rattle.std.specs.Prelude.{◌≡◌, ◌≢◌, ◌≤◌, ◌⊎◌, ◌↔◌, ℕ, List, [], All, IfErr, IfOk, OnOk, Some, map, false, true};
 ghost use Rattle.std.specs.Prelude.{vec_capacity, vec_len};
 ghost use Rattle.std.specs.Io.KnownBytes.{Appends};
 ghost use Rattle.std.specs.String.{string_bytes};
+ghost use Rattle.command_lines.specs.Meanings.{work};
 ghost use Rattle.register_files.specs.Openings.{IsFresh};
 ghost use Rattle.register_sheets.specs.declared.name_lists.NameLine.{NameLine as NameLineValue};
 ghost use Rattle.sheet_arguments.specs.Faults.{memory_line};
-ghost use Rattle.sheet_arguments.specs.Requests.{AreWrong, IsFaultOf, task_of};
+ghost use Rattle.sheet_arguments.specs.Requests.{AreWrong, MeanJust, Task as TaskValue, task_of};
 ghost use Rattle.sheet_app.specs.Answers.{AreFilesAnswered, AreNamesOf, IsInputAnswered, IsInputConverted, IsPageAnswered};
 ghost use Rattle.sheet_app.specs.Answers.{IsPrinted, IsReported, version_line};
 ghost use Rattle.sheet_app.specs.EndedSheets.{AreReported, Gives, IsEndedSheet, ended_name, is_complete};
 ghost use Rattle.sheet_app.specs.FileSheets.{AreApartOutputs, IsNewSheet, register_endings, sheet_name};
 ghost use Rattle.sheet_app.specs.SheetViews.{IsTask};
-ghost use Rattle.sheet_app.specs.ProgramFaults.{fault_status, request_fault_in};
+ghost use Rattle.sheet_app.specs.ProgramFaults.{IsFaultOfAsked, IsFaultOfTask, fault_status};
 
 use crate::converting::{EndedSheet, are_complete, convert_all, convert_input};
 use crate::file_sheets::{FileFault, FileSheet, open_sheets};
@@ -65,8 +66,7 @@ fn report_out_of_memory<E: Output>(errors: &mut E)
 /// Reports why nothing is done, and returns the exit status. A fault of `errors` is let go, as above.
 fn report_fault<E: Output>(alloc: Global, errors: &mut E, why: &ProgramFault<'_>) -> u8
     ensures status { (result ≡ 3) ⊎ (result ≡ fault_status why.now) }
-    ensures reported { (arguments : List (List ℕ)) → IfSome (request_fault_in why.now) (IsFaultOf arguments)
-        → E.has_failed errors.new ≡ false
+    ensures reported { (arguments : List (List ℕ)) → IsFaultOfAsked arguments why.now → E.has_failed errors.new ≡ false
         → IsReported arguments result (E.contents errors.old) (E.contents errors.new) }
     ensures mark { E.own_mark errors.new ≡ E.own_mark errors.old }
 {
@@ -90,8 +90,7 @@ fn refuse<'a, W: Output, E: Output>(
     why: &ProgramFault<'_>,
 ) -> Outcome<'a, W>
     ensures status { (result.status ≡ 3) ⊎ (result.status ≡ fault_status why.now) }
-    ensures reported { (arguments : List (List ℕ)) → IfSome (request_fault_in why.now) (IsFaultOf arguments)
-        → E.has_failed errors.new ≡ false
+    ensures reported { (arguments : List (List ℕ)) → IsFaultOfAsked arguments why.now → E.has_failed errors.new ≡ false
         → IsReported arguments result.status (E.contents errors.old) (E.contents errors.new) }
     ensures untouched { result.output ≡ output }
     ensures none { result.sheets.items ≡ [] }
@@ -134,8 +133,7 @@ fn print_page<'a, W: Output, E: Output>(
 
 /// The fault of a list of names in this file.
 fn fault_of_list<'a>(file: &'a str, fault: NameListFault) -> ProgramFault<'a>
-    ensures status { fault_status result ≡ 3 }
-    ensures none { request_fault_in result ≡ None }
+    ensures { (task : TaskValue) → task.names ≡ Some file.now → IsFaultOfTask task result }
 {
     match fault {
         NameListFault::OutOfMemory => ProgramFault::OutOfMemory,
@@ -150,8 +148,7 @@ fn read_file<'a, R: Read + Drop, W: Output, P: FileStore<R, W>>(
     file: &'a str,
 ) -> Result<Vec<u8>, ProgramFault<'a>>
     ensures text { IfOk result (λ text. (source : R) × P.is_opened store.now file.now source × Gives R.Read source text.items) }
-    ensures status { IfErr result (λ why. fault_status why ≡ 3) }
-    ensures none { IfErr result (λ why. request_fault_in why ≡ None) }
+    ensures fault { IfErr result (λ why. (task : TaskValue) → task.names ≡ Some file.now → IsFaultOfTask task why) }
 {
     let Ok(mut source) = store.open(file) else {
         return Err(ProgramFault::Files(FileFault::CannotOpen(file)));
@@ -172,8 +169,7 @@ fn read_list<'a, R: Read + Drop, W: Output, P: FileStore<R, W>>(
 ) -> Result<NameList, ProgramFault<'a>>
     ensures lists { IfOk result (λ list.
         AreNamesOf R.Read (P.is_opened store.now) (task_of job.now) built.now list.lines.items) }
-    ensures status { IfErr result (λ why. fault_status why ≡ 3) }
-    ensures none { IfErr result (λ why. request_fault_in why ≡ None) }
+    ensures fault { IfErr result (IsFaultOfTask (task_of job.now)) }
 {
     let Some(file) = job.names else {
         return match list_of(alloc, None, built) {
@@ -219,8 +215,7 @@ fn prepare<'a, R: Read + Drop, W: Output + Drop, P: FileStore<R, W>>(
     ensures apart { OnOk result (AreApartOutputs (P.are_apart store.now) (task_of job.now)) }
     ensures room { IfOk result (λ prepared. (prepared.room.items ≡ [])
         × (vec_len prepared.sheets ≤ vec_capacity prepared.room)) }
-    ensures status { IfErr result (λ why. fault_status why ≡ 3) }
-    ensures none { IfErr result (λ why. request_fault_in why ≡ None) }
+    ensures fault { IfErr result (IsFaultOfTask (task_of job.now)) }
 {
     let list = read_list(alloc, built, store, job)?;
     let sheets = match open_sheets(alloc, store, job) {
@@ -285,6 +280,7 @@ fn run_job<'a, R: Read + Drop, W: Output + Drop, P: FileStore<R, W>, E: Output>(
     ensures statuses { (result.status ≡ 0) ⊎ (result.status ≡ 1) ⊎ (result.status ≡ 3) }
     ensures untouched { result.status ≡ 3 → result.output ≡ output }
     ensures reported { result.status ≡ 3 → E.has_failed errors.new ≡ false → (arguments : List (List ℕ))
+        → MeanJust arguments (work (task_of job.now))
         → IsReported arguments result.status (E.contents errors.old) (E.contents errors.new) }
     ensures errors_mark { E.own_mark errors.new ≡ E.own_mark errors.old }
 {

@@ -1,8 +1,11 @@
-use Rattle.std.proofs.Common.{arith, List, ℕ}
+use Rattle.std.proofs.Common.{arith, get_or, List, [], ℕ}
 use Rattle.std.specs.Borrow.{Bor}
+use Rattle.std.specs.Prelude.{flat_map}
 use Rattle.std.specs.String.{string_bytes}
 use Rattle.sheet_arguments.specs.Requests.{task_of}
 use Rattle.sheet_app.specs.FileSheets.{IsNoInput, ending_of, names_ending}
+use Rattle.sheet_app.specs.SheetViews.{IsOfOutputs}
+use Rattle.sheet_app.proofs.FaultLemmas.{handed, of_list, of_more}
 use Rattle.sheet_app.proofs.NameLemmas.{all_lists, each_list}
 use Rattle.sheet_app.proofs.file_sheets.check_inputs_kept.Goals as goal
 
@@ -11,11 +14,22 @@ files-preserved g c =
     let task = task_of c.args.job.now in
     each_list (λ (name : List ℕ). IsNoInput (g.P.FileStore.are_apart c.args.store.now) task name)
     (λ (file : Bor (List ℕ)). names_ending (ending_of task) string_bytes c.args.endings.now file.now) c.args.files.now
-    c.files.file-index _ c.files-test.true c.files.invariant c.in_ok-check_outputs_kept.ensures
+    c.files.file-index _ c.files-test.true c.files.invariant c.in_ok-check_outputs_kept.ensures.kept
 
-pub returns : goal.returns
-returns g c =
+pub returns-clause-kept : goal.returns-clause-kept
+returns-clause-kept g c =
     let task = task_of c.args.job.now in
     all_lists (λ (name : List ℕ). IsNoInput (g.P.FileStore.are_apart c.args.store.now) task name)
     (λ (file : Bor (List ℕ)). names_ending (ending_of task) string_bytes c.args.endings.now file.now) c.args.files.now
     c.files.file-index (omega (arith, c.files-test.false)) c.files.invariant
+
+pub returns-in_err-check_outputs_kept-clause-missing : goal.returns-in_err-check_outputs_kept-clause-missing
+returns-in_err-check_outputs_kept-clause-missing g c =
+    let names = λ (file : Bor (List ℕ)). names_ending (ending_of (task_of c.args.job.now)) string_bytes c.args.endings.now
+    file.now in
+    let files = c.args.files.now in
+    let none : Bor (List ℕ) = record { ref_ptr = (0, 0); now = [] } in
+    let fault = c.in_err-check_outputs_kept.field-0.0 in
+    handed (IsOfOutputs (flat_map names files)) c.from_residual.result fault c.from_residual.ensures.1
+    (of_more (names (get_or files c.files.file-index none)) (flat_map names files) fault
+    (of_list names files c.files.file-index none c.files-test.true) c.in_err-check_outputs_kept.ensures.missing)

@@ -1,6 +1,8 @@
-use Rattle.std.proofs.Common.{◌≡◌, ◌∙◌, ◌++◌, ◌∷◌, [], ℕ, ap, get_or, Global, List, map, rules, String}
+use Rattle.std.proofs.Common.{◌≡◌, ◌∙◌, ◌++◌, ◌∷◌, [], ℕ, ap, get_or, Global, List, map, rules, String, subst}
 use Rattle.std.specs.String.{string_bytes}
 use Rattle.sheet_app.specs.FileSheets.{IsMadeFor}
+use Rattle.sheet_app.specs.SheetViews.{IsOfOutputs}
+use Rattle.sheet_app.proofs.FaultLemmas.{handed, of_more, of_value}
 use Rattle.sheet_app.proofs.NameLemmas.{noted_more}
 use Rattle.sheet_app.proofs.RegisterLemmas.{made_more}
 use Rattle.sheet_app.proofs.file_sheets.make_registers.Goals as goal
@@ -23,3 +25,17 @@ endings-preserved g c =
           (rw text at c.in_ok-output.ensures.noted);
       apart = λ before. c.in_ok-output.ensures.apart (c.endings.invariant.apart before);
     }
+
+pub returns-in_err-output-clause-missing : goal.returns-in_err-output-clause-missing
+returns-in_err-output-clause-missing g c =
+    let item = c.ending-item.result in
+    let endings = c.args.endings.now in
+    let name = λ (ending : String Global). c.args.file.now ++ string_bytes ending in
+    let there : item ≡ get_or endings c.endings.ending-index item = search rules in
+    let text : c.args.file.now ++ c.as_str.result.now ≡ name (get_or endings c.endings.ending-index item)
+    = ap (λ (ending : List ℕ). c.args.file.now ++ ending) (c.as_str.ensures.value ∙ ap string_bytes there) in
+    let fault = c.in_err-output.field-0.0 in
+    handed (IsOfOutputs (map name endings)) c.from_residual.result fault c.from_residual.ensures.1
+    (of_more (name (get_or endings c.endings.ending-index item) ∷ []) (map name endings) fault
+    (of_value name endings c.endings.ending-index item c.endings-test.true)
+    (subst (λ (one : List ℕ). IsOfOutputs (one ∷ []) fault) text c.in_err-output.ensures.missing))

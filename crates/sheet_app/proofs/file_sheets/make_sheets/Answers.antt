@@ -1,11 +1,15 @@
 -- Each turn makes the outputs of the next file.
-use Rattle.std.proofs.Common.{rules, ◌≡◌, ◌++◌, ◌∷◌, [], map}
+use Rattle.std.proofs.Common.{arith, rules, ◌≡◌, ◌∙◌, ◌++◌, ◌∷◌, [], append-nil, map, subst, sym}
+use Rattle.std.specs.Prelude.{AllPairs, flat_map}
 use Rattle.std.specs.String.{string_bytes}
 use Rattle.std.specs.Vec.Iter.{into_iter_items}
+use Rattle.std.proofs.lemmas.List.{nil_from_length}
 use Rattle.sheet_arguments.specs.Requests.{task_of}
 use Rattle.sheet_app.specs.FileSheets.{IsNewSheet, ending_of, names_ending, sheet_name, source_name}
 use Rattle.sheet_app.specs.declared.file_sheets.FileSheet.{FileSheet}
 use Rattle.sheet_app.specs.declared.file_sheets.OpenedFile.{OpenedFile}
+use Rattle.sheet_app.specs.SheetViews.{IsOfOutputs}
+use Rattle.sheet_app.proofs.FaultLemmas.{handed, of_left, of_more}
 use Rattle.sheet_app.proofs.ListLemmas.{each_more, first_of_left, made_more, others_left}
 use Rattle.sheet_app.proofs.NameLemmas.{listed_more}
 use Rattle.sheet_app.proofs.file_sheets.make_sheets.Goals as goal
@@ -36,3 +40,27 @@ sources-preserved g c =
           c.in_ok-sheet.ensures.noted left c.sources.invariant.noted;
       apart = c.in_ok-sheet.ensures.apart c.sources.invariant.apart;
     }
+
+pub returns-in_err-sheet-clause-missing : goal.returns-in_err-sheet-clause-missing
+returns-in_err-sheet-clause-missing g c =
+    let opened = c.in-Some.opened in
+    let before = c.sources.opened-iterator in
+    let names = λ (file : OpenedFile g.row.R.Denot). names_ending (ending_of (task_of c.args.job.now)) string_bytes
+    c.args.endings.now (source_name file) in
+    let left : into_iter_items before ≡ opened ∷ into_iter_items c.next.new.self = search rules in
+    let fault = c.in_err-sheet.field-0.0 in
+    handed (IsOfOutputs (flat_map names c.args.sources.items)) c.from_residual.result fault c.from_residual.ensures.1
+    (of_more (names opened) (flat_map names c.args.sources.items) fault
+    (of_left names (flat_map names c.args.sources.items) (map string_bytes c.sources.names.items) (into_iter_items before)
+    (into_iter_items c.next.new.self) opened left c.sources.invariant.noted) c.in_err-sheet.ensures.missing)
+
+pub returns-clause-apart : goal.returns-clause-apart
+returns-clause-apart g c =
+    let names = λ (file : OpenedFile g.row.R.Denot). names_ending (ending_of (task_of c.args.job.now)) string_bytes
+    c.args.endings.now (source_name file) in
+    let none : into_iter_items c.sources.opened-iterator ≡ []
+    = nil_from_length _ (omega (arith, c.in-None.ensures.steps.0, c.sources.opened-iterator.rest.ok.0)) in
+    let all : map string_bytes c.sources.names.items ++ [] ≡ flat_map names c.args.sources.items
+    = rw none at c.sources.invariant.noted in
+    subst (AllPairs (g.P.FileStore.are_apart c.args.store.now))
+    (sym (append-nil (map string_bytes c.sources.names.items)) ∙ all) c.sources.invariant.apart

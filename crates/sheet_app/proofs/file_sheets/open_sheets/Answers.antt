@@ -1,13 +1,28 @@
 -- The names by which outputs were told apart are those of a task.
-use Rattle.std.proofs.Common.{◌≡◌, ◌∙◌, All, ap, Global, List, map, ℕ, subst}
+use Rattle.std.proofs.Common.{◌≡◌, ◌∙◌, All, ap, Global, List, map, ℕ, refl, String, subst}
 use Rattle.std.specs.Borrow.{Bor}
 use Rattle.std.specs.Prelude.{AllPairs, IfOk, flat_map}
 use Rattle.std.specs.String.{string_bytes}
-use Rattle.sheet_arguments.specs.Requests.{task_of}
-use Rattle.sheet_app.specs.FileSheets.{IsNewSheet, IsNoInput, ending_of, names_ending, outputs_of, source_name}
+use Rattle.sheet_arguments.specs.Requests.{Task, task_of}
+use Rattle.sheet_app.specs.FileSheets.{IsNewSheet, IsNoInput, ending_of, names_ending, outputs_of, register_endings}
+use Rattle.sheet_app.specs.FileSheets.{source_name}
+use Rattle.sheet_app.specs.ProgramFaults.{IsFaultOfFiles}
+use Rattle.sheet_app.specs.SheetViews.{IsOfOutputs}
 use Rattle.sheet_app.specs.declared.file_sheets.OpenedFile.{OpenedFile}
+use Rattle.sheet_app.proofs.FaultLemmas.{handed, of_inputs, of_outputs, on_err}
 use Rattle.sheet_app.proofs.NameLemmas.{on_ok, same_names}
 use Rattle.sheet_app.proofs.file_sheets.open_sheets.Goals as goal
+
+-- the names of outputs by these files, with endings that are those of a task
+names_by : {X : Type 0} (task : Task) (name : X → List ℕ) (endings : List (String Global)) (xs : List X)
+    → map string_bytes endings ≡ register_endings task → map name xs ≡ task.files
+    → flat_map (λ x. names_ending (ending_of task) string_bytes endings (name x)) xs ≡ outputs_of task
+names_by task name endings xs ends named =
+    let own = ending_of task in
+    let by_endings : flat_map (λ x. names_ending own string_bytes endings (name x)) xs
+    ≡ flat_map (names_ending own (λ ending. ending) (map string_bytes endings)) (map name xs)
+    = same_names name own string_bytes endings xs in
+    rw (ends, named) at by_endings
 
 pub returns-clause-apart : goal.returns-clause-apart
 returns-clause-apart g c =
@@ -18,15 +33,11 @@ returns-clause-apart g c =
     let files = c.args.job.now.files.items in
     let opened = c.in_ok-sources.sources.items in
     let named : map source_name opened ≡ task.files = rw c.as_slice.ensures.value at c.in_ok-sources.ensures.named in
-    let by_files = same_names (λ (file : Bor (List ℕ)). file.now) own (string_bytes {Z = Global}) endings files in
-    let of_files : flat_map (λ (file : Bor (List ℕ)). names_ending own string_bytes endings file.now) files ≡ outputs_of task
-    = rw c.in_ok-endings.ensures at by_files in
-    let by_opened = same_names (source_name {R = g.row.R.Denot}) own (string_bytes {Z = Global}) endings opened in
-    let of_opened : flat_map (λ (file : OpenedFile g.row.R.Denot). names_ending own string_bytes endings (source_name file))
-    opened ≡ outputs_of task = rw (c.in_ok-endings.ensures, named) at by_opened in
+    let of_files = names_by task (λ (file : Bor (List ℕ)). file.now) endings files c.in_ok-endings.ensures refl in
+    let of_opened = names_by task (source_name {R = g.row.R.Denot}) endings opened c.in_ok-endings.ensures named in
     let kept : All (λ (name : List ℕ). IsNoInput Apart task name)
     (flat_map (λ (file : Bor (List ℕ)). names_ending own string_bytes endings file.now) files)
-    = rw (c.as_slice-2.ensures.value, c.as_slice-3.ensures.value) at c.in_ok-check_inputs_kept.ensures in
+    = rw (c.as_slice-2.ensures.value, c.as_slice-3.ensures.value) at c.in_ok-check_inputs_kept.ensures.kept in
     on_ok c.make_sheets.result _ _ c.make_sheets.ensures.apart (λ sheets apart. record {
       kept = subst (All (λ (name : List ℕ). IsNoInput Apart task name)) of_files kept;
       apart = subst (AllPairs Apart) of_opened (rw c.as_slice-4.ensures.value at apart);
@@ -37,3 +48,36 @@ returns-clause-made g c =
     subst (λ (endings : List (List ℕ)). IfOk c.make_sheets.result (λ sheets. All (IsNewSheet g.W.Output
     (g.P.FileStore.is_opened c.args.store.now) (g.P.FileStore.is_made c.args.store.now) (task_of c.args.job.now) endings)
     sheets.items)) (ap (map string_bytes) c.as_slice-4.ensures.value ∙ c.in_ok-endings.ensures) c.make_sheets.ensures.made
+
+-- a fault names a file of the task
+pub returns-in_err-sources-clause-fault : goal.returns-in_err-sources-clause-fault
+returns-in_err-sources-clause-fault g c =
+    let task = task_of c.args.job.now in
+    let fault = c.in_err-sources.field-0.0 in
+    handed (IsFaultOfFiles task) c.from_residual-in_err-sources.result fault c.from_residual-in_err-sources.ensures.1
+    (of_inputs task (map (λ (file : Bor (List ℕ)). file.now) c.as_slice.result.now) fault
+    (ap (map (λ (file : Bor (List ℕ)). file.now)) c.as_slice.ensures.value) c.in_err-sources.ensures.missing)
+
+pub returns-in_err-check_inputs_kept-clause-fault : goal.returns-in_err-check_inputs_kept-clause-fault
+returns-in_err-check_inputs_kept-clause-fault g c =
+    let task = task_of c.args.job.now in
+    let endings = c.in_ok-endings.endings.items in
+    let files = c.args.job.now.files.items in
+    let names = λ (file : Bor (List ℕ)). names_ending (ending_of task) string_bytes endings file.now in
+    let fault = c.in_err-check_inputs_kept.field-0.0 in
+    handed (IsFaultOfFiles task) c.from_residual-in_err-check_inputs_kept.result fault
+    c.from_residual-in_err-check_inputs_kept.ensures.1 (of_outputs task (flat_map names files) fault
+    (names_by task (λ (file : Bor (List ℕ)). file.now) endings files c.in_ok-endings.ensures refl)
+    (rw (c.as_slice-2.ensures.value, c.as_slice-3.ensures.value) at c.in_err-check_inputs_kept.ensures.missing))
+
+pub returns-clause-fault : goal.returns-clause-fault
+returns-clause-fault g c =
+    let task = task_of c.args.job.now in
+    let endings = c.in_ok-endings.endings.items in
+    let opened = c.in_ok-sources.sources.items in
+    let named : map source_name opened ≡ task.files = rw c.as_slice.ensures.value at c.in_ok-sources.ensures.named in
+    let names = λ (file : OpenedFile g.row.R.Denot). names_ending (ending_of task) string_bytes endings (source_name file) in
+    on_err (IsOfOutputs (flat_map names opened)) (IsFaultOfFiles task) c.make_sheets.result
+    (λ fault. of_outputs task (flat_map names opened) fault
+    (names_by task (source_name {R = g.row.R.Denot}) endings opened c.in_ok-endings.ensures named))
+    (rw c.as_slice-4.ensures.value at c.make_sheets.ensures.missing)

@@ -124,8 +124,11 @@ returns-in-Ok-Version-clause-reported g c = search rules
 
 pub returns-in-Ok-Convert-clause-reported : goal.returns-in-Ok-Convert-clause-reported
 returns-in-Ok-Convert-clause-reported g c = λ high good.
+    let just : MeanJust (map string_bytes c.args.arguments.now) (work (task_of c.in-Ok-Convert.job))
+    = subst (λ (r : Request). MeanJust (map string_bytes c.args.arguments.now) (meaning_of r)) c.in-Ok-Convert.field-0-is
+    c.in-Ok-Convert.ensures.asked in
     c.run_job.ensures.reported (at_most_three c.run_job.result.status high c.run_job.ensures.statuses) good
-    (map string_bytes c.args.arguments.now)
+    (map string_bytes c.args.arguments.now) just
 
 pub returns-in-Err-clause-reported : goal.returns-in-Err-clause-reported
 returns-in-Err-clause-reported g c = λ high good.

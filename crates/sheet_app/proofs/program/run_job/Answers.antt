@@ -1,10 +1,34 @@
 -- Standard input is converted where no file is asked for, and else the files.
-use Rattle.std.proofs.Common.{rules, ◌≡◌, ◌↔◌, ◌∙◌, All, arith, inl, inr, length, refl, true, vec_len}
+use Rattle.std.proofs.Common.{rules, ◌≡◌, ◌≤◌, ◌↔◌, ℕ, ◌∙◌, All, arith, inl, inr, length, refl, true, vec_len}
 use Rattle.sheet_arguments.specs.Requests.{task_of}
 use Rattle.sheet_app.specs.EndedSheets.{is_complete}
 use Rattle.sheet_app.specs.declared.converting.EndedSheet.{EndedSheet}
+use Rattle.sheet_app.proofs.FaultLemmas.{gives_three, of_asked}
 use Rattle.sheet_app.proofs.ListLemmas.{ends_all, ends_named, no_names, some_names}
 use Rattle.sheet_app.proofs.program.run_job.Goals as goal
+
+-- nothing is done where the job is not begun
+is_three : {A : Type 0} → (status : ℕ) → status ≡ 3 → status ≤ 1 → A
+is_three status three low = absurd (omega (arith, three, low))
+
+pub returns-in-Err-clause-input : goal.returns-in-Err-clause-input
+returns-in-Err-clause-input g c =
+    is_three c.refuse.result.status
+    (gives_three (task_of c.args.job.now) c.in-Err.why _ c.in-Err.ensures.fault c.refuse.ensures.status)
+
+pub returns-in-Err-clause-files : goal.returns-in-Err-clause-files
+returns-in-Err-clause-files g c =
+    is_three c.refuse.result.status
+    (gives_three (task_of c.args.job.now) c.in-Err.why _ c.in-Err.ensures.fault c.refuse.ensures.status)
+
+pub returns-in-Err-clause-statuses : goal.returns-in-Err-clause-statuses
+returns-in-Err-clause-statuses g c =
+    inr (inr (gives_three (task_of c.args.job.now) c.in-Err.why _ c.in-Err.ensures.fault c.refuse.ensures.status))
+
+pub returns-in-Err-clause-reported : goal.returns-in-Err-clause-reported
+returns-in-Err-clause-reported g c = λ three good arguments just.
+    c.refuse.ensures.reported arguments
+    (of_asked arguments (task_of c.args.job.now) c.in-Err.why just c.in-Err.ensures.fault) good
 
 pub returns-then-is_empty-clause-files : goal.returns-then-is_empty-clause-files
 returns-then-is_empty-clause-files g c = λ low some.
@@ -17,7 +41,7 @@ returns-then-is_empty-clause-statuses g c =
     elim c.run_input.ensures.statuses [ inl zero ↦ inl zero | inr one ↦ inr (inl one) ]
 
 pub returns-then-is_empty-clause-reported : goal.returns-then-is_empty-clause-reported
-returns-then-is_empty-clause-reported g c = λ three good arguments.
+returns-then-is_empty-clause-reported g c = λ three good arguments just.
     elim c.run_input.ensures.statuses
     [ inl zero ↦ absurd (omega (arith, three, zero)) | inr one ↦ absurd (omega (arith, three, one)) ]
 

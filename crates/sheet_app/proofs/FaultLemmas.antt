@@ -1,0 +1,95 @@
+-- Which file a fault names, and why nothing is done.
+use Rattle.std.proofs.Common.{◌≡◌, ◌++◌, ◌+◌, ◌<◌, ◌∙◌, ◌∷◌, ◌⊎◌, [], ℕ, List, arith, get_or, inl, length, map, refl, subst, suc, sym, zero}
+use Rattle.std.specs.Prelude.{Contains, Err, IfErr, IsErrAnd, Ok, Result, flat_map}
+use Rattle.std.specs.String.{string_bytes}
+use Rattle.std.proofs.lemmas.List.{get_or-map, length-map}
+use Rattle.std.proofs.lemmas.List.Elements.{Contains-append_left, Contains-append_right, Contains-get_or}
+use Rattle.clap.specs.Words.{Text}
+use Rattle.command_lines.specs.Meanings.{work}
+use Rattle.sheet_arguments.specs.Requests.{MeanJust, Task}
+use Rattle.sheet_app.specs.FileSheets.{outputs_of}
+use Rattle.sheet_app.specs.ProgramFaults.{IsFaultOfAsked, IsFaultOfFiles, IsFaultOfTask, fault_status}
+use Rattle.sheet_app.specs.SheetViews.{IsOfInputs, IsOfOutputs}
+use Rattle.sheet_app.specs.declared.file_sheets.FileFault.{FileFault}
+use Rattle.sheet_app.specs.declared.file_sheets.FileFault.TheVariants as file_fault
+use Rattle.sheet_app.specs.declared.program_faults.ProgramFault.{ProgramFault}
+use Rattle.sheet_app.specs.declared.program_faults.ProgramFault.TheVariants as program_fault
+
+-- a fault that is handed on
+pub handed : {A E : Type 0} (Q : E → Type 0) (result : Result A E) (fault : E) → IsErrAnd result (λ why. why ≡ fault)
+    → Q fault → IfErr result Q
+handed Q (Ok a) fault on is = absurd on
+handed Q (Err why) fault on is = subst Q (sym on) is
+
+pub on_err : {A E : Type 0} (P Q : E → Type 0) (result : Result A E) → ((error : E) → P error → Q error) → IfErr result P
+    → IfErr result Q
+on_err P Q (Ok a) follows is = tt
+on_err P Q (Err error) follows is = follows error is
+
+-- it is of more outputs too
+pub of_more : (names more : List Text) (fault : FileFault) → ((name : Text) → Contains names name → Contains more name)
+    → IsOfOutputs names fault → IsOfOutputs more fault
+of_more names more (file_fault.CannotOpen file) within is = absurd is
+of_more names more (file_fault.CannotMake name) within is = within _ is
+of_more names more file_fault.OutOfMemory within is = tt
+
+is_only : (one name : Text) → Contains (one ∷ []) name → one ≡ name
+is_only one name (zero, within, e) = e
+is_only one name (suc k, within, e) = absurd (omega (arith, within))
+
+-- the value of an item is one of all, behind another too
+pub of_value : {X : Type 0} (f : X → Text) (xs : List X) (i : ℕ) (d : X) → i < length xs
+    → (name : Text) → Contains (f (get_or xs i d) ∷ []) name → Contains (map f xs) name
+of_value f xs i d within name one =
+    let long : i < length (map f xs) = rw (length-map xs f) within in
+    subst (Contains (map f xs)) (get_or-map f xs i d [] within ∙ is_only (f (get_or xs i d)) name one)
+    (Contains-get_or (map f xs) i [] long)
+
+pub behind : (first : Text) (names : List Text) (name : Text) → Contains names name → Contains (first ∷ names) name
+behind first names name is = Contains-append_right (first ∷ []) names name is
+
+-- one of the list of an item is one of those of all
+pub of_list : {X : Type 0} (f : X → List Text) (xs : List X) (i : ℕ) (d : X) → i < length xs
+    → (name : Text) → Contains (f (get_or xs i d)) name → Contains (flat_map f xs) name
+of_list f [] i d within name is = absurd (omega (arith, within))
+of_list f (x ∷ xs) zero d within name is = Contains-append_left (f x) (flat_map f xs) name is
+of_list f (x ∷ xs) (suc i) d within name is =
+    Contains-append_right (f x) (flat_map f xs) name (of_list f xs i d (omega (arith, within)) name is)
+
+pub of_left : {Y : Type 0} (h : Y → List Text) (all names : List Text) (left rest : List Y) (item : Y)
+    → left ≡ item ∷ rest → names ++ flat_map h left ≡ all → (name : Text) → Contains (h item) name → Contains all name
+of_left h all names left rest item l e name is =
+    subst (λ (xs : List Text). Contains xs name) e (Contains-append_right names (flat_map h left) name
+    (rw l (Contains-append_left (h item) (flat_map h rest) name is)))
+
+-- the files of a task
+pub of_inputs : (task : Task) (names : List Text) (fault : FileFault) → names ≡ task.files → IsOfInputs names fault
+    → IsFaultOfFiles task fault
+of_inputs task names (file_fault.CannotOpen file) same is = inl (subst (λ (xs : List Text). Contains xs file.now) same is)
+of_inputs task names (file_fault.CannotMake name) same is = absurd is
+of_inputs task names file_fault.OutOfMemory same is = tt
+
+pub of_outputs : (task : Task) (names : List Text) (fault : FileFault) → names ≡ outputs_of task → IsOfOutputs names fault
+    → IsFaultOfFiles task fault
+of_outputs task names (file_fault.CannotOpen file) same is = absurd is
+of_outputs task names (file_fault.CannotMake name) same is =
+    subst (λ (xs : List Text). Contains xs (string_bytes name)) same is
+of_outputs task names file_fault.OutOfMemory same is = tt
+
+-- a task that is not begun gives status 3
+pub gives_three : (task : Task) (why : ProgramFault) (status : ℕ) → IsFaultOfTask task why
+    → (status ≡ 3) ⊎ (status ≡ fault_status why) → status ≡ 3
+gives_three task (program_fault.Arguments error) status is either = absurd is
+gives_three task (program_fault.Files fault) status is either = grind (arith, either)
+gives_three task (program_fault.UnreadList file) status is either = grind (arith, either)
+gives_three task (program_fault.NoList file fault) status is either = grind (arith, either)
+gives_three task program_fault.OutOfMemory status is either = grind (arith, either)
+
+-- and it is the one that arguments ask for
+pub of_asked : (arguments : List Text) (task : Task) (why : ProgramFault) → MeanJust arguments (work task)
+    → IsFaultOfTask task why → IsFaultOfAsked arguments why
+of_asked arguments task (program_fault.Arguments error) just is = absurd is
+of_asked arguments task (program_fault.Files fault) just is = (task, just, is)
+of_asked arguments task (program_fault.UnreadList file) just is = (task, just, is)
+of_asked arguments task (program_fault.NoList file fault) just is = (task, just, is)
+of_asked arguments task program_fault.OutOfMemory just is = tt

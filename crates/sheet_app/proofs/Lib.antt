@@ -3,14 +3,14 @@
 --   LineLemmas: the lines on sheets, for `answered`.
 --   ListLemmas: the sheets of files, one after the other, for `answered`.
 --   NameLemmas: the names of outputs, for `answered`.
---   RefusedLemmas: `refused` and `reported`.
+--   RefusedLemmas: `refused` and `reported`. FaultLemmas: which file a line names, for `reported`.
 --   RegisterLemmas: the outputs of registers, for `answered`.
 mod ColumnLemmas
 mod EndLemmas
+mod FaultLemmas
 mod LineLemmas
 mod ListLemmas
 mod NameLemmas
 mod RefusedLemmas
 mod RegisterLemmas
 mod TaskLemmas
-pub mod FaultLemmas

@@ -1,5 +1,5 @@
 -- The outputs of a sheet's registers, one after the other.
-use Rattle.std.proofs.Common.{◌≡◌, ◌≤◌, ◌<◌, ◌∙◌, ◌+◌, ◌⊎◌, ℕ, zero, suc, List, [], ◌∷◌, Some, None, arith, get_or}
+use Rattle.std.proofs.Common.{◌≡◌, ◌≤◌, ◌<◌, ◌∙◌, ◌+◌, ◌⊎◌, ℕ, zero, suc, List, [], ◌∷◌, Some, arith, get_or}
 use Rattle.std.proofs.Common.{get_or-set_other, get_or-set_same, inl, inr, length, length-set, refl, set, slice_get, subst}
 use Rattle.std.proofs.Common.{◌++◌, ap, map, sym, take, true}
 use Rattle.std.specs.List.{AllZip}

@@ -2,7 +2,7 @@ use Rattle.std.proofs.Common.{◌≡◌, ◌∙◌, ◌++◌, ◌∷◌, [], ap,
 use Rattle.std.specs.String.{string_bytes}
 use Rattle.std.proofs.lemmas.List.Elements.{All-cons}
 use Rattle.sheet_arguments.specs.Requests.{task_of}
-use Rattle.sheet_app.specs.FileSheets.{IsNoInput, ending_of, names_ending}
+use Rattle.sheet_app.specs.FileSheets.{IsNoInput, ending_of}
 use Rattle.sheet_app.specs.SheetViews.{IsOfOutputs}
 use Rattle.sheet_app.proofs.FaultLemmas.{behind, handed, of_more, of_value}
 use Rattle.sheet_app.proofs.NameLemmas.{all_values, each_value}

@@ -1,5 +1,5 @@
 -- An output that is missing is one of the file's.
-use Rattle.std.proofs.Common.{◌++◌, Global, List, map, ℕ, String}
+use Rattle.std.proofs.Common.{◌++◌, Global, map, String}
 use Rattle.std.specs.String.{string_bytes}
 use Rattle.sheet_arguments.specs.Requests.{task_of}
 use Rattle.sheet_app.specs.FileSheets.{ending_of, names_ending, source_name}

@@ -1,7 +1,6 @@
 -- One more date of a tree.
 use Rattle.std.proofs.Common.{◌≡◌, ◌<◌, ◌+◌, ◌∙◌, ◌++◌, ◌∷◌, [], ℕ, List, ap, get_or, length, map, sym, take}
 use Rattle.std.proofs.lemmas.List.{flat_map_more, map-append, take_more}
-use Rattle.std.specs.Borrow.{Bor}
 use Rattle.family_trees.specs.DateViews.{date_seen}
 use Rattle.family_trees.specs.declared.dates.TreeDate.{TreeDate}
 use Rattle.register_records.specs.Entries.{Fields}
@@ -24,11 +23,3 @@ one_date_more dates k d lt =
     flat_map_more (line_text 44) [] (tree_head ∷ map date_record (map date_seen done))
     (date_record (date_seen (get_or dates k d)))
     ∙ ap (λ (xs : List Fields). records_text 44 (tree_head ∷ xs)) (sym next)
-
--- one field more
-pub one_field_more : (fields : List (Bor (List ℕ))) (i : ℕ) (d : Bor (List ℕ)) → i < length fields
-    → map (λ (field : Bor (List ℕ)). field.now) (take (i + 1) fields)
-    ≡ map (λ (field : Bor (List ℕ)). field.now) (take i fields) ++ (get_or fields i d).now ∷ []
-one_field_more fields i d lt =
-    ap (map (λ (field : Bor (List ℕ)). field.now)) (take_more fields i d lt)
-    ∙ map-append (λ (field : Bor (List ℕ)). field.now) (take i fields) (get_or fields i d ∷ [])

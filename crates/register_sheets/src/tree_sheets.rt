@@ -1,6 +1,6 @@
 //! The dates of a family tree as a sheet.
 
-ghost use Rattle.std.specs.Prelude.{◌≡◌, IfOk, OnOk, map};
+ghost use Rattle.std.specs.Prelude.{◌≡◌, IfOk, OnOk};
 ghost use Rattle.family_trees.specs.DateViews.{date_seen};
 ghost use Rattle.register_sheets.specs.LineViews.{GainsFields};
 ghost use Rattle.register_sheets.specs.TreeSheets.{date_record, tree_head, tree_text};
@@ -8,17 +8,6 @@ ghost use Rattle.register_sheets.specs.TreeSheets.{date_record, tree_head, tree_
 use crate::lines::SheetLines;
 use family_trees::{TreeDate, dates_of};
 use std::alloc::{AllocError, Global};
-
-/// Appends fields, in order.
-#[tactic(auto, using(crate::proofs::TreeSheetLemmas::one_field_more, crate::proofs::LineLemmas::gained))]
-fn push_all(lines: &mut SheetLines, fields: &[&[u8]]) -> Result<(), AllocError>
-    ensures { OnOk result (GainsFields (map (λ field. field.now) fields.now) lines.old lines.new) }
-{
-    'fields: for field in fields {
-        lines.push(field)?;
-    }
-    Ok(())
-}
 
 /// Appends the names of the columns.
 fn push_tree_head(lines: &mut SheetLines) -> Result<(), AllocError>
@@ -35,7 +24,7 @@ fn push_tree_head(lines: &mut SheetLines) -> Result<(), AllocError>
         b"calendar",
         b"date",
     ];
-    push_all(lines, &names)
+    lines.push_all(&names)
 }
 
 /// Appends what is known of a date.
@@ -53,7 +42,7 @@ fn push_date(lines: &mut SheetLines, date: &TreeDate) -> Result<(), AllocError>
         date.calendar,
         date.date,
     ];
-    push_all(lines, &fields)
+    lines.push_all(&fields)
 }
 
 /// The dates of a family tree in GEDCOM 5.5.1 or 7 as a sheet: a CSV text with a record for each line `DATE` of the tree,

@@ -13,7 +13,7 @@ use Rattle.register_sheets.specs.Sheets.{filled, records_text, widest}
 use Rattle.register_sheets.specs.declared.choices.SheetChoice.{SheetChoice}
 use Rattle.register_sheets.specs.declared.lines.SheetLines.{SheetLines}
 use Rattle.register_sheets.specs.declared.sheet_ends.SheetCause.{SheetCause}
-use Rattle.register_sheets.specs.declared.sheet_ends.SheetCause.TheVariants.{NoMemory, SinkFault, TooManyRecords}
+use Rattle.register_sheets.specs.declared.sheet_ends.SheetCause.TheVariants.{NoMemory, NoNames, SinkFault, TooManyRecords}
 use Rattle.register_sheets.specs.declared.unread_dates.UnreadDates.{UnreadDates}
 use Rattle.register_sheets.proofs.SendingLemmas.{front_more}
 use Rattle.register_sheets.proofs.RowLemmas.{below_names, sheet_made}
@@ -143,6 +143,22 @@ if_full (Ok (rows, false)) refused unread P more causes = tt
 if_full (Ok (rows, true)) refused unread P more causes = λ is. more refl
 if_full (Err c) refused unread P more causes =
     λ is. elim causes [ inl other ↦ absurd (cc (is, other)) | inr other ↦ absurd (cc (is, other)) ]
+
+-- once there is a width, there are names
+pub never_named : (written : Result (ℕ × Bool) SheetCause) (refused : List ℕ) (unread : UnreadDates) (P : Type 0)
+    → IfErr written (λ c. (c ≡ NoMemory) ⊎ (c ≡ SinkFault))
+    → IfBroken (end_of written refused unread) (λ c. c ≡ NoNames → P)
+never_named (Ok (rows, false)) refused unread P causes = tt
+never_named (Ok (rows, true)) refused unread P causes = λ is. absurd (cc)
+never_named (Err c) refused unread P causes =
+    λ is. elim causes [ inl other ↦ absurd (cc (is, other)) | inr other ↦ absurd (cc (is, other)) ]
+
+-- these causes are no others
+pub memory_only : (NoMemory ≡ NoNames → ⊥) × (NoMemory ≡ TooManyRecords → ⊥) × (NoMemory ≡ SinkFault → ⊥)
+memory_only = ((λ e. cc), (λ e. cc), λ e. cc)
+
+pub names_only : (NoNames ≡ NoMemory → ⊥) × (NoNames ≡ TooManyRecords → ⊥) × (NoNames ≡ SinkFault → ⊥)
+names_only = ((λ e. cc), (λ e. cc), λ e. cc)
 
 -- how far the output has failed
 pub if_failed : (written : Result (ℕ × Bool) SheetCause) (refused : List ℕ) (unread : UnreadDates) (failed fails : Bool)

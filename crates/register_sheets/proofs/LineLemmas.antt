@@ -1,6 +1,9 @@
 -- What the lines of a sheet hold.
 use Rattle.std.proofs.Common.{◌≡◌, ◌≤◌, ◌∙◌, ℕ, List, [], ◌∷◌, ◌++◌, true, false, length}
 use Rattle.std.proofs.Common.{refl, subst, sym, ap, arith, append_assoc, append-nil, length-append}
+use Rattle.std.proofs.Common.{◌<◌, ◌+◌, get_or, map, take}
+use Rattle.std.proofs.lemmas.List.{map-append, take_more}
+use Rattle.std.specs.Borrow.{Bor}
 use Rattle.std.specs.Prelude.{Err, Ok, OnOk, Result}
 use Rattle.csv.specs.Writing.{row_body}
 use Rattle.register_records.specs.LineRoom as buffer
@@ -59,12 +62,21 @@ pub both_gained : (more last : List (List ℕ)) (old mid new : SheetLines) → G
 both_gained more last old mid new a b d before fields begun =
     rw (← append_assoc fields more last) (b d before (fields ++ more) (a d before fields begun))
 
+-- what the fields are
+pub gained_as : (more all : List (List ℕ)) (old new : SheetLines) → more ≡ all → GainsFields more old new
+    → GainsFields all old new
+gained_as more all old new e a = subst (λ (fields : List (List ℕ)). GainsFields fields old new) e a
+
+pub next_gained : (more last all : List (List ℕ)) (old mid new : SheetLines) → GainsFields more old mid
+    → GainsFields last mid new → more ++ last ≡ all → GainsFields all old new
+next_gained more last all old mid new a b e =
+    gained_as (more ++ last) all old new e (both_gained more last old mid new a b)
+
 -- the last of some fields, where there was memory for it
 pub gained_at_last : {A E : Type 0} (result : Result A E) (more last all : List (List ℕ)) (old mid new : SheetLines)
     → GainsFields more old mid → OnOk result (GainsFields last mid new) → more ++ last ≡ all
     → OnOk result (GainsFields all old new)
-gained_at_last (Ok x) more last all old mid new a b e =
-    subst (λ (fields : List (List ℕ)). GainsFields fields old new) e (both_gained more last old mid new a b)
+gained_at_last (Ok x) more last all old mid new a b e = next_gained more last all old mid new a b e
 gained_at_last (Err x) more last all old mid new a b e = tt
 
 -- the end of a line
@@ -104,5 +116,10 @@ let_go old new same empty at has d before fields begun =
       none = λ _. refl;
     }
 
--- the steps of appending fields one by one
-pub ruleset gained = (none_gained, both_gained)
+-- one field more
+pub one_field_more : (fields : List (Bor (List ℕ))) (i : ℕ) (d : Bor (List ℕ)) → i < length fields
+    → map (λ (field : Bor (List ℕ)). field.now) (take (i + 1) fields)
+    ≡ map (λ (field : Bor (List ℕ)). field.now) (take i fields) ++ (get_or fields i d).now ∷ []
+one_field_more fields i d lt =
+    ap (map (λ (field : Bor (List ℕ)). field.now)) (take_more fields i d lt)
+    ∙ map-append (λ (field : Bor (List ℕ)). field.now) (take i fields) (get_or fields i d ∷ [])

@@ -1,5 +1,5 @@
 -- The rows of records, one record after the other.
-use Rattle.std.proofs.Common.{◌≡◌, ◌≤◌, ◌<◌, ◌∙◌, ◌++◌, ◌+◌, ℕ, zero, suc, List, [], ◌∷◌, ◌≢◌, Some, add-one, ap}
+use Rattle.std.proofs.Common.{◌≡◌, ◌≤◌, ◌<◌, ◌∙◌, ◌++◌, ◌+◌, ℕ, zero, suc, List, [], ◌∷◌, ◌≢◌, None, Option, Some, add-one, ap}
 use Rattle.std.proofs.Common.{append-nil, append_assoc, arith}
 use Rattle.std.proofs.lemmas.Bool.Decides.{eqb_tells}
 use Rattle.std.proofs.Common.{cond, length-take, count_by, drop, get_or, get_or-set_other, get_or-set_same, inl, inr, set}
@@ -9,12 +9,14 @@ use Rattle.std.specs.List.{AllZip, flat_map}
 use Rattle.std.proofs.Math.Seq.{take-append_seam}
 use Rattle.std.proofs.lemmas.List.{map-append, take-map, take_more, take_more_set}
 use Rattle.std.proofs.lemmas.List.Concat.{flat_map-append}
-use Rattle.std.proofs.lemmas.List.Sums.{sum_by-append}
+use Rattle.std.proofs.lemmas.List.Sums.{count_by-le-length, sum_by-append}
 use Rattle.register_records.specs.Entries.{Fields, record_limit}
 use Rattle.register_records.specs.Outcomes.{TableRow}
 use Rattle.register_sheets.specs.Converted.{AreRowsFrom, AreRowsOfRecord, below, body_record, body_records}
 use Rattle.register_sheets.specs.Converted.{column_rows, head_record, is_refused, sheet_records}
-use Rattle.register_sheets.specs.RowViews.{CountsRefused}
+use Rattle.register_sheets.specs.RowViews.{CountsMore, CountsRefused, TakesRecord, rows_seen}
+use Rattle.register_sheets.specs.UnknownNames.{dates_of}
+use Rattle.register_sheets.specs.declared.sheet_rows.SheetRows.{SheetRows}
 use Rattle.register_sheets.specs.Sending.{CountsAll, HasBody}
 use Rattle.register_sheets.specs.Sheets.{filled, widest}
 use Rattle.register_sheets.specs.declared.choices.AskedColumn.{AskedColumn}
@@ -216,3 +218,25 @@ pub seen_count : {X Y : Type 0} (f : X → Y) (n m : ℕ) (xs ys : List X) → n
     → length (map f (take n xs)) ≡ length (map f (take m ys))
 seen_count f n m xs ys e h =
     omega (arith, mapped_length f (take n xs), mapped_length f (take m ys), length-take n xs, length-take m ys)
+
+-- at most one row more is refused
+one_or_none : (row : Option TableRow) → count_by is_refused (option_to_list row) ≤ 1
+one_or_none None = omega arith
+one_or_none (Some row) = omega (arith, count_by-le-length is_refused (row ∷ []))
+
+pub one_at_most : (rows : List TableRow) (old new : List ℕ) → CountsRefused rows old new → (place : ℕ)
+    → get_or new place 0 ≤ get_or old place 0 + 1
+one_at_most rows old new counts place = omega (arith, counts place, one_or_none (slice_get rows place))
+
+-- the rows are made those of a record, and then counted
+pub record_taken : (choice : SheetChoice) (number : ℕ) (fields : Fields) (old mid new : SheetRows)
+    → AreRowsOfRecord choice number fields (rows_seen mid) → CountsMore choice (dates_of choice fields) old.unread mid.unread
+    → mid.refused ≡ old.refused → rows_seen new ≡ rows_seen mid → new.unread ≡ mid.unread
+    → CountsRefused (rows_seen mid) mid.refused new.refused → TakesRecord choice number fields old new
+record_taken choice number fields old mid new are more kept same read counts =
+    record {
+      rows = subst (AreRowsOfRecord choice number fields) (sym same) are;
+      counted = subst (λ (rows : List TableRow). CountsRefused rows old.refused new.refused) (sym same)
+          (subst (λ (refused : List ℕ). CountsRefused (rows_seen mid) refused new.refused) kept counts);
+      unread = subst (CountsMore choice (dates_of choice fields) old.unread) (sym read) more;
+    }

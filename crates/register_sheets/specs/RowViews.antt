@@ -2,8 +2,9 @@
 use Rattle.std.specs.Prelude.{◌≡◌, ◌+◌, ◌<◌, ◌^◌, ℕ, List, get_or, length, map, option_to_list, slice_get, count_by, take}
 use Rattle.register_records.specs.Outcomes.{TableRow}
 use Rattle.register_records.specs.Views.{row_seen}
-use Rattle.register_sheets.specs.Converted.{is_refused}
-use Rattle.register_sheets.specs.UnknownNames.{SheetDate, is_short, stops_in}
+use Rattle.register_records.specs.Entries.{Fields}
+use Rattle.register_sheets.specs.Converted.{AreRowsOfRecord, is_refused}
+use Rattle.register_sheets.specs.UnknownNames.{SheetDate, dates_of, is_short, stops_in}
 use Rattle.register_sheets.specs.declared.choices.SheetChoice.{SheetChoice}
 use Rattle.register_sheets.specs.declared.sheet_rows.SheetRows.{SheetRows}
 use Rattle.register_sheets.specs.declared.unread_dates.UnreadDates.{UnreadDates}
@@ -31,3 +32,9 @@ pub record HasPlace (count : ℕ) (unread : UnreadDates) : Type 0 where
 pub record NoneUnread (unread : UnreadDates) : Type 0 where
   pub stopped : unread.stopped ≡ 0
   pub short : unread.short ≡ 0
+
+-- these are the rows of the record with this number now, and its dates and the refused ones of them are counted
+pub record TakesRecord (choice : SheetChoice) (number : ℕ) (fields : Fields) (old new : SheetRows) : Type 0 where
+  pub rows : AreRowsOfRecord choice number fields (rows_seen new)
+  pub counted : CountsRefused (rows_seen new) old.refused new.refused
+  pub unread : CountsMore choice (dates_of choice fields) old.unread new.unread

@@ -6,18 +6,19 @@ ghost use Rattle.csv.specs.Records.{fields_of};
 ghost use Rattle.register_records.specs.Entries.{Fields, record_limit, text_records};
 ghost use Rattle.register_records.specs.Outcomes.{TableRow};
 ghost use Rattle.register_records.specs.Sources.{Gains};
-ghost use Rattle.register_sheets.specs.Converted.{ArePartOfSheet, AreRowsOfRecord, IfBroken, IfWhole, IsFrontOfSheet};
+ghost use Rattle.register_sheets.specs.Converted.{ArePartOfSheet, IfBroken, IfWhole, IsFrontOfSheet};
 ghost use Rattle.register_sheets.specs.Converted.{IsFullSheet};
 ghost use Rattle.register_sheets.specs.Converted.{IsWholeSheet, body_record, body_records, below, head_record};
 ghost use Rattle.register_sheets.specs.Converted.{sheet_width};
+ghost use Rattle.register_sheets.specs.Choices.{column_limit};
 ghost use Rattle.register_sheets.specs.LineViews.{GainsFields};
 ghost use Rattle.register_sheets.specs.Reading.{IsReading, left_of};
-ghost use Rattle.register_sheets.specs.RowViews.{CountsMore, CountsRefused, HasPlace, NoneUnread, rows_seen};
+ghost use Rattle.register_sheets.specs.RowViews.{HasPlace, NoneUnread, TakesRecord, rows_seen};
 ghost use Rattle.register_sheets.specs.Sending.{CountsAll, Ends, HasBody, HasFront, HasMade, end_of, top_records};
 ghost use Rattle.register_sheets.specs.Sheets.{filled, widest};
-ghost use Rattle.register_sheets.specs.UnknownNames.{AreUnread, AreUnreadIn, all_dates, dates_of};
+ghost use Rattle.register_sheets.specs.UnknownNames.{AreUnread, AreUnreadIn, all_dates};
 
-use crate::choices::{SheetChoice, SheetSetup};
+use crate::choices::{AskedColumn, SheetChoice, SheetSetup};
 use crate::lines::SheetLines;
 use crate::own_fields::push_own;
 use crate::reading::{read_next, records_of};
@@ -92,14 +93,18 @@ fn copy_records<W: Output>(
     Ok(())
 }
 
-/// Appends headings to a line.
-fn push_headings(lines: &mut SheetLines, headings: &[&[u8]]) -> Result<(), AllocError>
-    ensures { OnOk result (GainsFields (map (λ name. name.now) headings.now) lines.old lines.new) }
+/// Appends the names, filled up to the width, and behind them the headings.
+fn push_head(
+    lines: &mut SheetLines,
+    record: &ByteRecord,
+    width: usize,
+    headings: &[&[u8]],
+) -> Result<(), AllocError>
+    ensures { OnOk result (GainsFields (filled width (fields_of record.now) ++ map (λ name. name.now) headings.now)
+        lines.old lines.new) }
 {
-    'headings: for heading in headings {
-        lines.push(heading)?;
-    }
-    Ok(())
+    push_own(lines, record, width)?;
+    lines.push_all(headings)
 }
 
 /// Writes the names, filled up to the width, and behind them the headings.
@@ -127,10 +132,24 @@ fn write_head<W: Output>(
     if !read_next(records, record)? {
         return Ok(());
     }
-    push_own(&mut sender.lines, record, width)?;
-    push_headings(&mut sender.lines, headings)?;
-    sender.end(output)?;
-    Ok(())
+    push_head(&mut sender.lines, record, width, headings)?;
+    sender.end(output)
+}
+
+/// Appends a record, filled up to the width, and behind it the columns asked of its rows.
+fn push_body(
+    lines: &mut SheetLines,
+    record: &ByteRecord,
+    width: usize,
+    columns: &[AskedColumn],
+    rows: &SheetRows,
+) -> Result<(), AllocError>
+    requires { length columns.now ≤ column_limit }
+    ensures { OnOk result (GainsFields (body_record width columns.now (fields_of record.now) (rows_seen rows.now))
+        lines.old lines.new) }
+{
+    push_own(lines, record, width)?;
+    rows.push(columns, lines)
 }
 
 /// Writes a record, filled up to the width, and behind it the columns asked of its rows.
@@ -148,13 +167,9 @@ fn write_record<W: Output>(
     requires count { length (rows_seen rows.old) ≡ length setup.now.choice.dates.now }
     requires room { (place : ℕ) → get_or rows.old.refused place 0 < record_limit }
     requires few { HasPlace (length setup.now.choice.dates.now) rows.old.unread }
-    ensures rows { OnOk result
-        (AreRowsOfRecord setup.now.choice number (fields_of record.now) (rows_seen rows.new)) }
+    ensures taken { OnOk result
+        (TakesRecord setup.now.choice number (fields_of record.now) rows.old rows.new) }
     ensures count { length (rows_seen rows.new) ≡ length (rows_seen rows.old) }
-    ensures counted { OnOk result (CountsRefused (rows_seen rows.new) rows.old.refused rows.new.refused) }
-    ensures unread { OnOk result
-        (CountsMore setup.now.choice (dates_of setup.now.choice (fields_of record.now)) rows.old.unread rows.new.unread) }
-    ensures grows { OnOk result ((place : ℕ) → get_or rows.new.refused place 0 ≤ get_or rows.old.refused place 0 + 1) }
     ensures kept { sender.new.delimiter ≡ sender.old.delimiter }
     ensures made { OnOk result ((begun : Option (List ℕ)) (made : List Fields)
         → HasMade sender.old.delimiter begun (W.contents output.old) sender.old.lines made []
@@ -166,10 +181,8 @@ fn write_record<W: Output>(
 {
     rows.renew(setup, number, record)?;
     rows.count();
-    push_own(&mut sender.lines, record, width)?;
-    rows.push(setup.choice().columns, &mut sender.lines)?;
-    sender.end(output)?;
-    Ok(())
+    push_body(&mut sender.lines, record, width, setup.choice.columns, rows)?;
+    sender.end(output)
 }
 
 /// Writes each record that is left, and returns how many they are, and whether there are more than may be converted.
@@ -244,8 +257,7 @@ fn write_top<W: Output>(
         (W.own_mark output.new) }
 {
     copy_records(records, record, choice.above, sender, output)?;
-    write_head(records, record, width, choice.headings, sender, output)?;
-    Ok(())
+    write_head(records, record, width, choice.headings, sender, output)
 }
 
 /// Writes the sheet that comes back of one of which no record is read yet, and sends all of it; returns what

@@ -1,6 +1,6 @@
 //! Lines of fields, as csv's writer would write them.
 
-ghost use Rattle.std.specs.Prelude.{◌≡◌, ◌≤◌, ◌+◌, ◌∷◌, [], ℕ, List, IfSome, OnOk, drop, replicate, true};
+ghost use Rattle.std.specs.Prelude.{◌≡◌, ◌≤◌, ◌+◌, ◌∷◌, [], ℕ, List, IfSome, OnOk, drop, map, replicate, true};
 ghost use Rattle.register_records.specs.LineRoom.{field_room};
 ghost use Rattle.register_records.specs.Views.{tail_shown};
 ghost use Rattle.register_sheets.specs.LineViews.{Begins, EndsLine, GainsFields, TakesTail};
@@ -62,8 +62,17 @@ impl SheetLines {
         Ok(())
     }
 
+    /// Appends fields, in order.
+    pub fn push_all(&mut self, fields: &[&[u8]]) -> Result<(), AllocError>
+        ensures { OnOk result (GainsFields (map (λ field. field.now) fields.now) self.old self.new) }
+    {
+        'fields: for field in fields {
+            self.push(field)?;
+        }
+        Ok(())
+    }
+
     /// Appends empty fields, so many.
-    #[tactic(auto, using(std::proofs::lemmas::List::replicate_more, crate::proofs::LineLemmas::gained))]
     pub fn push_empty(&mut self, count: usize) -> Result<(), AllocError>
         ensures { OnOk result (GainsFields (replicate count []) self.old self.new) }
     {

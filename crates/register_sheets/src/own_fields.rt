@@ -11,7 +11,6 @@ use csv::ByteRecord;
 use std::alloc::AllocError;
 
 /// Appends the fields of a record to a line, and empty ones behind them up to `fill` in all.
-#[tactic(auto, using(std::proofs::lemmas::List::take_more, crate::proofs::LineLemmas::gained))]
 pub(crate) fn push_own(
     lines: &mut SheetLines,
     record: &ByteRecord,

@@ -36,12 +36,12 @@ pub(crate) fn renew_row(
     ensures unread { OnOk result
         (CountsMore setup.now.choice ((column.now, fields_of record.now) ∷ []) unread.old unread.new) }
 {
-    let choice = setup.choice();
+    let choice = &setup.choice;
     let mut buffer = Buffer::new();
     let id = id_of(choice.id, buffer.format(number).as_bytes(), record);
     let (calendar, called) = calendar_of(choice.calendars, column.calendar, record);
-    put_date(date, &choice, column, called, record)?;
-    unread.count(&choice, column, called, record, date.as_slice());
+    put_date(date, choice, column, called, record)?;
+    unread.count(choice, column, called, record, date.as_slice());
     let Some(entry) = Entry::of_fields(number, id, calendar, date.as_slice()) else {
         unreachable!()
     };

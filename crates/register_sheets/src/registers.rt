@@ -26,9 +26,7 @@ use std::alloc::{AllocError, Global};
 fn push_names(lines: &mut SheetLines) -> Result<(), AllocError>
     ensures { OnOk result (GainsFields register_head lines.old lines.new) }
 {
-    lines.push(b"id")?;
-    lines.push(b"calendar")?;
-    lines.push(b"date")
+    lines.push_all(&[b"id", b"calendar", b"date"])
 }
 
 /// Appends the id, the calendar and the date that a register has of a record with this number. `date` is used as memory.
@@ -72,8 +70,7 @@ fn write_entry<W: Output>(
         (W.own_mark output.new) }
 {
     push_entry(&mut sender.lines, choice, column, number, record, date)?;
-    sender.end(output)?;
-    Ok(())
+    sender.end(output)
 }
 
 /// Writes what a register has of each record that is left, and returns how many they are, and whether there are more than

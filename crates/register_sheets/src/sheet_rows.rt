@@ -74,7 +74,7 @@ impl SheetRows {
         ensures kept { self.new.refused ≡ self.old.refused }
         ensures count { length (rows_seen self.new) ≡ length (rows_seen self.old) }
     {
-        let dates = setup.choice().dates;
+        let dates = setup.choice.dates;
         'dates: for place in 0..dates.len() {
             renew_row(
                 &mut self.rows[place],

@@ -205,10 +205,7 @@ impl Found {
 fn push_list_head(lines: &mut SheetLines) -> Result<(), AllocError>
     ensures { OnOk result (GainsFields list_head lines.old lines.new) }
 {
-    lines.push(b"name")?;
-    lines.push(b"means")?;
-    lines.push(b"in")?;
-    lines.push(b"count")
+    lines.push_all(&[b"name", b"means", b"in", b"count"])
 }
 
 /// Appends a name, `?`, its calendar, and how many dates it stopped.

@@ -11,6 +11,7 @@ use Rattle.written_dates.specs.SignViews.{may_be_blank}
 use Rattle.written_dates.proofs.FrontLemmas.{first_blank, not_behind}
 use Rattle.written_dates.proofs.KindLemmas.{has_kind, none_of_kind}
 use Rattle.written_dates.proofs.KeyLemmas.{drop_drop}
+use Rattle.date_texts.specs.declared.calendar.Calendar.TheVariants.{Gregorian}
 use Rattle.written_dates.specs.declared.fields.CalendarName.{CalendarName}
 use Rattle.written_dates.specs.Fields.{bare_end, is_blank, kept_end, spelling, entry, is_other, first_twofold, without_blanks}
 
@@ -86,6 +87,10 @@ drops_more text rest after x place e f =
     sym (drop_drop place (length x) text ∙ ap (λ xs. drop (length x) xs) (sym e ∙ f) ∙ drop-append_seam x after)
 
 -- ---- names that mean two calendars, by places
+-- what a read past the end gives
+abbrev pub no_name : CalendarName
+no_name = record { text = record { ref_ptr = (0, 0); now = [] }; calendar = Gregorian }
+
 pub twofold_here : (names : List CalendarName) (at : ℕ) (name : CalendarName) → drop at names ≡ name ∷ drop (at + 1) names
     → list_any (is_other (entry name)) (map entry (drop (at + 1) names)) ≡ true
     → first_twofold at (map entry (drop at names)) ≡ Some at

@@ -1,15 +1,17 @@
 -- What a text begins with is seen by its first byte.
 use Rattle.std.proofs.Common.{◌≡◌, ◌≢◌, ◌<◌, ℕ, Bool, true, false, List, [], ◌∷◌, ◌++◌, cond, refl, sym, ap, arith, get_or}
 use Rattle.std.proofs.Common.{drop, take}
-use Rattle.std.proofs.Common.{Some, None, ◌∙◌, ◌==◌, nat_le, ne_eqb}
+use Rattle.std.proofs.Common.{Option, Some, None, ◌∙◌, ◌==◌, nat_le, ne_eqb}
 use Rattle.std.specs.Char.{is_ascii_digit}
 use Rattle.std.proofs.lemmas.Bool.{or_parts, true≢false}
 use Rattle.std.proofs.lemmas.Bool.Decides.{nat_tests}
 use Rattle.written_dates.specs.declared.tokens.Kind.{Kind}
 use Rattle.written_dates.specs.declared.tokens.Kind.TheVariants.{Blank, Digit, Hyphen, Letter, Other, Sign}
 use Rattle.written_dates.specs.Fields.{is_blank}
-use Rattle.written_dates.specs.Signs.{bare, behind_blank, behind_hyphen, digits_first, if_digits, if_hyphen}
-use Rattle.written_dates.specs.SignViews.{may_be_blank}
+use Rattle.written_dates.specs.Names.{is_empty}
+use Rattle.written_dates.specs.Signs.{◌>>=◌, at_end, bare, behind_blank, behind_hyphen, digits_first, if_digits, if_hyphen}
+use Rattle.written_dates.specs.Signs.{runs_in_front}
+use Rattle.written_dates.specs.SignViews.{may_be_blank, next_digits, runs_by_steps}
 use Rattle.written_dates.specs.Tokens.{Piece, first, in_front, joins, kind_of, tokens}
 use Rattle.written_dates.proofs.KindLemmas.{none_picked}
 use Rattle.written_dates.proofs.TokenLemmas.{single}
@@ -120,3 +122,23 @@ pub hyphen : (text : List ℕ) → get_or text 0 0 ≡ 45 → Some (tokens 0 (dr
 unfolding tokens behind_hyphen
 hyphen [] h = absurd (omega arith)
 hyphen (c ∷ cs) h = rw h (sym (ap behind_hyphen (single (45 ∷ cs) 1 (omega arith) refl refl)))
+
+-- ---- three runs, digits by digits
+end_by : (ts : List Piece) (runs : List ℕ × List ℕ × List ℕ) → cond (is_empty ts) (Some runs) None ≡ at_end ts runs
+end_by [] runs = refl
+end_by (p ∷ ts) runs = refl
+
+bound : {B C : Type 0} (y : Option B) (g h : B → Option C) → ((b : B) → g b ≡ h b) → (y >>= g) ≡ (y >>= h)
+bound None g h same = refl
+bound (Some b) g h same = same b
+
+chained : {A B C : Type 0} (x : Option A) (f : A → Option B) (g h : B → Option C) → ((b : B) → g b ≡ h b)
+    → ((x >>= f) >>= g) ≡ (x >>= λ a. f a >>= h)
+chained None f g h same = refl
+chained (Some a) f g h same = bound (f a) g h same
+
+pub by_steps : (ts : List Piece) → runs_by_steps ts ≡ runs_in_front ts
+unfolding next_digits runs_in_front
+by_steps ts =
+    bound (digits_first ts) _ _ (λ a. chained (behind_hyphen a.1) digits_first _ _
+    (λ b. chained (behind_hyphen b.1) digits_first _ _ (λ c. end_by (bare c.1) (a.0, b.0, c.0))))

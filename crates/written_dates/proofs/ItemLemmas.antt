@@ -107,13 +107,13 @@ pub before_none : (xs found : List Item) (whole rest : Option (List Item)) → w
 before_none xs found whole (Some zs) e h f = cc
 before_none xs found whole None e h f = cc
 
-pub before_full : (xs found : List Item) (x : Item) (whole rest : Option (List Item))
-    → whole ≡ before xs (before (x ∷ []) rest) → whole ≡ Some found → length xs < length found
-before_full xs found x whole None e f = absurd (cc)
-before_full xs found x whole (Some zs) e f =
-    let is : Some (xs ++ (x ∷ zs)) ≡ Some found = sym e ∙ f in
-    let same : xs ++ (x ∷ zs) ≡ found = cc in
-    omega (arith, ap length same, length-append xs (x ∷ zs))
+pub before_full : (xs ys found : List Item) (whole rest : Option (List Item))
+    → whole ≡ before xs (before ys rest) → whole ≡ Some found → length xs + length ys ≤ length found
+before_full xs ys found whole None e f = absurd (cc)
+before_full xs ys found whole (Some zs) e f =
+    let is : Some (xs ++ (ys ++ zs)) ≡ Some found = sym e ∙ f in
+    let same : xs ++ (ys ++ zs) ≡ found = cc in
+    omega (arith, ap length same, length-append xs (ys ++ zs), length-append ys zs)
 
 pub before_all : (xs : List Item) (names : List Name) (whole : Option (List Item)) (rest : List Piece)
     → whole ≡ before xs (items names 0 rest) → rest ≡ [] → whole ≡ Some xs

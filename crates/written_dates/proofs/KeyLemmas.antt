@@ -265,3 +265,7 @@ any_next name other names place next there none keyed at =
     = rw none refl in
     any_same name names (place + 1) next (at ∙ ap (λ k. place_from k names (place + 1)) keyed)
     ∙ sym (ap (λ xs. list_any (conflict name) xs) (at_place names place other there) ∙ head)
+
+pub any_here : (name other : Name) (names : List Name) (place : ℕ) → slice_get names place ≡ Some other
+    → conflict name other ≡ true → true ≡ list_any (conflict name) (drop place names)
+any_here name other names place there h = rw (at_place names place other there, h) refl

@@ -23,6 +23,12 @@ pub stands_step : (n t : Piece) (ns ts xs ys : List Piece) → xs ≡ n ∷ ns �
     → str_eq_ignore_ascii_case n.text t.text ≡ true → stands ns ts ≡ stands xs ys
 stands_step n t ns ts xs ys e f h = rw (e, f, h) refl
 
+pub stands_short : (n : Piece) (ns xs ys : List Piece) → xs ≡ n ∷ ns → ys ≡ [] → stands xs ys ≡ false
+stands_short n ns xs ys e f = rw (e, f) refl
+
+pub stands_all : (xs ys : List Piece) → xs ≡ [] → stands xs ys ≡ true
+stands_all xs ys e = rw e refl
+
 pub drop_next : {A : Type 0} (xs : List A) (k : ℕ) (y : A) (ys : List A) → drop k xs ≡ y ∷ ys → drop (k + 1) xs ≡ ys
 drop_next [] zero y ys h = cc
 drop_next [] (suc k) y ys h = cc

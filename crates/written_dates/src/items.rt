@@ -1,6 +1,6 @@
 //! The items of a text: numbers, months and marks.
 
-ghost use Rattle.std.specs.Prelude.{◌≡◌, ◌<◌, ◌≤◌, ◌+◌, ◌∷◌, [], drop, length, Some, None, IfSome, IfNone, List};
+ghost use Rattle.std.specs.Prelude.{◌≡◌, ◌<◌, ◌≤◌, ◌+◌, ◌∷◌, [], ◌++◌, true, false, drop, length, Some, None, IfSome, IfNone, List};
 ghost use Rattle.std.specs.Prelude.{option_to_list};
 ghost use Rattle.written_dates.specs.Tokens.{piece};
 ghost use Rattle.written_dates.specs.Keys.{first_text};
@@ -170,6 +170,17 @@ impl Default for Item {
     }
 }
 
+/// Adds an item, if there is one, and says whether there was room.
+fn add_item(found: &mut ArrayVec<Item, 4>, item: Option<Item>) -> bool
+    ensures room { result ≡ true → found.new.items ≡ found.old.items ++ option_to_list item }
+    ensures full { result ≡ false → 4 < length found.old.items + length (option_to_list item) }
+{
+    let Some(item) = item else {
+        return true;
+    };
+    found.try_push(item).is_ok()
+}
+
 /// The items of a text; nothing where a word is not known, or more than four items stand.
 pub(crate) fn items_of(text: &[u8], names: &Names, calendar: Calendar) -> Option<ArrayVec<Item, 4>>
     ensures some { IfSome result (λ found.
@@ -183,11 +194,8 @@ pub(crate) fn items_of(text: &[u8], names: &Names, calendar: Calendar) -> Option
         let Some((item, behind)) = item_in_front(rest, part, after, names, calendar) else {
             return None;
         };
-        if let Some(item) = item {
-            if found.is_full() {
-                return None;
-            }
-            found.push(item);
+        if !add_item(&mut found, item) {
+            return None;
         }
         rest = behind;
     }

@@ -1,8 +1,9 @@
 //! The digits and words of a text.
 
-ghost use Rattle.std.specs.Prelude.{◌≡◌, ◌≤◌, ◌<◌, ◌+◌, ◌∷◌, [], true, false, length, drop, IfSome, IfNone};
+ghost use Rattle.std.specs.Prelude.{◌≡◌, ◌<◌, ◌∷◌, [], false, length, IfSome, IfNone};
 ghost use Rattle.written_dates.specs.Tokens.{piece};
 ghost use Rattle.written_dates.specs.Parts.{is_part_kind, parts, stands as stands_spec};
+ghost use Rattle.written_dates.specs.SignViews.{Stands};
 
 use crate::tokens::{Kind, Token, next_token};
 
@@ -34,17 +35,16 @@ pub(crate) fn next_part(text: &[u8]) -> Option<(Token, &[u8])>
 
 /// Whether the parts of a name stand in front of those of a text: how many these are, and what follows.
 pub(crate) fn stands<'a>(name: &[u8], text: &'a [u8]) -> Option<(usize, &'a [u8])>
-    ensures some { IfSome result (λ found. stands_spec (parts name.now) (parts text.now) ≡ true) }
-    ensures count { IfSome result (λ found. found.0 ≡ length (parts name.now)) }
-    ensures rest { IfSome result (λ found. parts found.1.now ≡ drop found.0 (parts text.now)) }
-    ensures shorter { IfSome result (λ found. found.0 + length found.1.now ≤ length text.now) }
+    ensures some { IfSome result (Stands name.now text.now) }
     ensures none { IfNone result (stands_spec (parts name.now) (parts text.now) ≡ false) }
 {
     let mut name_rest = name;
     let mut rest = text;
     let mut count = 0;
     'parts: while let Some((wanted, name_after)) = next_part(name_rest) {
-        let (part, after) = next_part(rest)?;
+        let Some((part, after)) = next_part(rest) else {
+            return None;
+        };
         if !wanted.text.eq_ignore_ascii_case(part.text) {
             return None;
         }

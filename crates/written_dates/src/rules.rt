@@ -1,6 +1,6 @@
 //! What numbers, months and marks say together.
 
-ghost use Rattle.std.specs.Prelude.{◌≡◌, ◌<◌, ◌^◌};
+ghost use Rattle.std.specs.Prelude.{◌≡◌};
 ghost use Rattle.written_dates.specs.Rules.{is_long as long_spec, in_digits as digits_spec, in_order as order_spec};
 ghost use Rattle.written_dates.specs.Rules.{month_between as between_spec};
 ghost use Rattle.written_dates.specs.Rules.{month_in_front as front_spec, three_numbers as three_spec, civil_reading};
@@ -110,14 +110,13 @@ fn three_numbers(dashes: bool, order: Order, a: Number, b: Number, c: Number) ->
 pub(crate) fn civil_of(dashes: bool, order: Order, items: &[Item]) -> Option<Reading>
     ensures { result ≡ civil_reading dashes order items.now }
 {
-    match items {
-        [Item::Number(a), Item::Month(m), Item::Number(c)] => month_between(
-            order, *a, *m as u32, *c,
-        ),
-        [Item::Month(m), Item::Number(a), Item::Number(c)] => month_in_front(*m as u32, *a, *c),
-        [Item::Number(a), Item::Number(b), Item::Number(c)] => three_numbers(
-            dashes, order, *a, *b, *c,
-        ),
+    let [first, second, Item::Number(c)] = items else {
+        return None;
+    };
+    match (first, second) {
+        (Item::Number(a), Item::Month(m)) => month_between(order, *a, *m as u32, *c),
+        (Item::Month(m), Item::Number(a)) => month_in_front(*m as u32, *a, *c),
+        (Item::Number(a), Item::Number(b)) => three_numbers(dashes, order, *a, *b, *c),
         _ => None,
     }
 }

@@ -6,10 +6,12 @@ ghost use Rattle.written_dates.specs.Tokens.{tokens};
 ghost use Rattle.written_dates.specs.Signs.{is_sign as sign_spec, is_dash as dash_spec, is_other as other_spec};
 ghost use Rattle.written_dates.specs.Signs.{has_other, has_two_dashes, bare as bare_spec, begins_with_dash as begins_spec};
 ghost use Rattle.written_dates.specs.Signs.{digits_first as digits_spec, behind_hyphen as hyphen_spec};
-ghost use Rattle.written_dates.specs.Signs.{runs_in_front as front_spec, three_runs as runs_spec};
+ghost use Rattle.written_dates.specs.Signs.{three_runs as runs_spec};
 ghost use Rattle.written_dates.specs.Signs.{runs_behind_minus as minus_spec};
 ghost use Rattle.written_dates.specs.Fields.{is_blank as blank_spec};
 ghost use Rattle.written_dates.specs.SignViews.{may_be_blank as may_be_blank_spec, seen_digits, seen_rest, seen_runs};
+ghost use Rattle.written_dates.specs.SignViews.{next_digits as next_spec, runs_by_steps};
+ghost use Rattle.written_dates.specs.Names.{is_empty};
 
 use crate::tokens::{Kind, byte_at, next_token, run_end};
 
@@ -66,13 +68,9 @@ pub(crate) fn signs_of(text: &[u8]) -> (bool, bool)
     let mut signs: usize = 0;
     let mut rest = text;
     'tokens: while let Some((token, after)) = next_token(rest) {
-        other = other || is_other(token.kind);
-        if is_dash(token.kind) {
-            dashes += 1;
-        }
-        if is_sign(token.kind) {
-            signs += 1;
-        }
+        other |= is_other(token.kind);
+        dashes += is_dash(token.kind) as usize;
+        signs += is_sign(token.kind) as usize;
         rest = after;
     }
     (other, signs == 2 && dashes == 2)
@@ -130,21 +128,36 @@ fn behind_hyphen(text: &[u8]) -> Option<&[u8]>
     Some(rest)
 }
 
+/// The digits behind the dash of registers, and what follows.
+#[tactic(auto, unfolding(crate::specs::SignViews::next_digits))]
+fn next_digits(text: &[u8]) -> Option<(&[u8], &[u8])>
+    ensures { seen_digits result ≡ next_spec (tokens 0 text.now) }
+{
+    digits_first(behind_hyphen(text)?)
+}
+
+/// Whether blanks at most stand in a text.
+fn is_end(text: &[u8]) -> bool
+    ensures { result ≡ is_empty (bare_spec (tokens 0 text.now)) }
+{
+    next_token(bare(text)).is_none()
+}
+
 /// Three runs of digits with the dash of registers between them, and blanks at most behind them.
-#[tactic(auto, unfolding(crate::specs::Signs::runs_in_front))]
 fn runs_in_front(text: &[u8]) -> Option<(&[u8], &[u8], &[u8])>
-    ensures { seen_runs result ≡ front_spec (tokens 0 text.now) }
+    ensures { seen_runs result ≡ runs_by_steps (tokens 0 text.now) }
 {
     let (year, rest) = digits_first(text)?;
-    let (month, rest) = digits_first(behind_hyphen(rest)?)?;
-    let (day, rest) = digits_first(behind_hyphen(rest)?)?;
-    match next_token(bare(rest)) {
-        Some(_) => None,
-        None => Some((year, month, day)),
+    let (month, rest) = next_digits(rest)?;
+    let (day, rest) = next_digits(rest)?;
+    if !is_end(rest) {
+        return None;
     }
+    Some((year, month, day))
 }
 
 /// Three runs of digits with the dash of registers between them, and blanks at most around them.
+#[tactic(auto, using(crate::proofs::FrontLemmas::by_steps))]
 pub(crate) fn three_runs(text: &[u8]) -> Option<(&[u8], &[u8], &[u8])>
     ensures { seen_runs result ≡ runs_spec (tokens 0 text.now) }
 {
@@ -152,6 +165,7 @@ pub(crate) fn three_runs(text: &[u8]) -> Option<(&[u8], &[u8], &[u8])>
 }
 
 /// Three such runs behind a minus.
+#[tactic(auto, using(crate::proofs::FrontLemmas::by_steps))]
 pub(crate) fn runs_behind_minus(text: &[u8]) -> Option<(&[u8], &[u8], &[u8])>
     ensures { seen_runs result ≡ minus_spec (tokens 0 text.now) }
 {

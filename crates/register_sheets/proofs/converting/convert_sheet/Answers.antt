@@ -1,4 +1,7 @@
-use Rattle.register_sheets.proofs.ConvertLemmas.{if_failed, if_full, if_part, if_whole}
+use Rattle.std.proofs.Common.{◌≡◌, [], ℕ, Bool, false, inl, refl, true}
+use Rattle.std.proofs.KnownBytes.{Appends-nil}
+use Rattle.std.proofs.lemmas.Result.{IfOk-weaker}
+use Rattle.register_sheets.proofs.ConvertLemmas.{if_failed, if_full, if_part, if_whole, memory_only, names_only, never_named}
 use Rattle.register_sheets.proofs.converting.convert_sheet.Goals as goal
 
 pub returns-clause-whole : goal.returns-clause-whole
@@ -32,3 +35,38 @@ returns-clause-sink g c = rw c.end_of.ensures (if_failed _ _ _ _ _ _ _ c.write_s
 
 pub returns-clause-mark : goal.returns-clause-mark
 returns-clause-mark g c = c.write_sheet-written.ensures.output.marked
+
+pub returns-clause-flushed : goal.returns-clause-flushed
+returns-clause-flushed g c =
+    let flushed = g.W.Output.is_flushed c.write_sheet-written.new.output ≡ true in
+    rw c.end_of.ensures
+    (if_whole _ _ _ _ (IfOk-weaker c.write_sheet-written.result (λ _. flushed) (λ (w : ℕ × Bool). w.1 ≡ false → flushed)
+    (λ w is last. is) c.write_sheet-written.ensures.flushed))
+
+pub returns-clause-no_names : goal.returns-clause-no_names
+returns-clause-no_names g c =
+    rw c.end_of.ensures (never_named _ _ _ _ c.write_sheet-written.ensures.output.causes)
+
+pub returns-in-Err : goal.returns-in-Err
+returns-in-Err g c =
+    record {
+      whole = tt;
+      unread = tt;
+      flushed = tt;
+      part = λ _. ([], inl refl, Appends-nil _);
+      no_names = λ e. absurd (memory_only.0 e);
+      too_many = λ e. absurd (memory_only.1 e);
+      good = tt;
+      kept = λ _. refl;
+      sink = λ e. absurd (memory_only.2 e);
+      mark = refl;
+    }
+
+pub returns-in-Ok-None-clause-part : goal.returns-in-Ok-None-clause-part
+returns-in-Ok-None-clause-part g c = λ e. absurd (names_only.0 e)
+
+pub returns-in-Ok-None-clause-too_many : goal.returns-in-Ok-None-clause-too_many
+returns-in-Ok-None-clause-too_many g c = λ e. absurd (names_only.1 e)
+
+pub returns-in-Ok-None-clause-sink : goal.returns-in-Ok-None-clause-sink
+returns-in-Ok-None-clause-sink g c = λ e. absurd (names_only.2 e)

@@ -10,7 +10,7 @@ use Rattle.register_sheets.specs.Reading.{left_of}
 use Rattle.register_sheets.specs.RowViews.{rows_seen}
 use Rattle.register_sheets.specs.Sending.{HasFront, HasMade}
 use Rattle.register_sheets.specs.UnknownNames.{AreUnread, all_dates}
-use Rattle.register_sheets.proofs.RowLemmas.{body_front, body_more, counts_more, has_body, rows_more}
+use Rattle.register_sheets.proofs.RowLemmas.{body_front, body_more, counts_more, has_body, one_at_most, rows_more}
 use Rattle.register_sheets.proofs.SendingLemmas.{ends_memory, ends_passed, front_made, no_value}
 use Rattle.register_sheets.proofs.UnreadLemmas.{all_counted, none_counted, record_counted, record_place}
 use Rattle.register_sheets.proofs.converting.write_body.Goals as goal
@@ -96,12 +96,13 @@ records-preserved g c =
     let one = rows_seen c.write_record.new.rows in
     let choice = c.args.setup.now.choice in
     let step = c.in_ok-write_record.ensures in
+    let taken = step.taken in
     record {
       reading = c.read_next.ensures.reading (c.in_ok-read_next.was ∙ ap Ok yes);
       delimiter = step.kept ∙ inv.delimiter;
       count = step.count ∙ inv.count;
       limited = omega arith;
-      few = λ place. omega (arith, inv.few place, step.grows place);
+      few = λ place. omega (arith, inv.few place, one_at_most one _ _ taken.counted place);
       failed = step.output.good ∙ inv.failed;
       mark = step.output.marked ∙ inv.mark;
       body = (
@@ -110,9 +111,9 @@ records-preserved g c =
         append_assoc done (fields ∷ []) _ ∙ rw found at whole,
         omega (arith, length-append done (fields ∷ []), length-append rows (one ∷ [])),
         omega (arith, length-append rows (one ∷ [])),
-        rows_more choice 0 (c.records.number + 1) done rows fields one (omega arith) are step.rows,
-        counts_more rows one _ _ counts step.counted,
-        record_counted choice done fields _ _ _ read step.unread,
+        rows_more choice 0 (c.records.number + 1) done rows fields one (omega arith) are taken.rows,
+        counts_more rows one _ _ counts taken.counted,
+        record_counted choice done fields _ _ _ read taken.unread,
         λ begun head h.
             subst (λ (records : List Fields). HasMade c.args.sender.now.delimiter begun
             (g.W.Output.contents c.write_record.new.output) c.write_record.new.sender.lines records [])

@@ -1,13 +1,8 @@
-use Rattle.std.proofs.Common.{◌≡◌, ◌-◌, rules, Some, slice_get, get_or, arith, []}
+use Rattle.std.proofs.Common.{◌≡◌, ◌-◌, rules, Some, slice_get, get_or, arith}
 use Rattle.std.proofs.lemmas.Option.{slice_get-get_or}
-use Rattle.date_texts.specs.declared.calendar.Calendar.TheVariants.{Gregorian}
-use Rattle.written_dates.specs.declared.fields.CalendarName.{CalendarName}
+use Rattle.written_dates.proofs.FieldLemmas.{no_name}
 use Rattle.written_dates.proofs.KeyedLemmas.{keyed_more, nothing_keyed}
 use Rattle.written_dates.proofs.keyed_names.first_places.Goals as goal
-
--- what a read past the end gives
-abbrev no_name : CalendarName
-no_name = record { text = record { ref_ptr = (0, 0); now = [] }; calendar = Gregorian }
 
 pub names-init : goal.names-init
 names-init c = record {

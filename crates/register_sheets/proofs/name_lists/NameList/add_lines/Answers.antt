@@ -1,6 +1,10 @@
 use Rattle.std.proofs.Common.{rules, ◌≡◌, ◌∙◌, ◌++◌, ◌+◌, ◌∷◌, [], is_ok, ap, sym, append_assoc, Ok, true}
+use Rattle.std.proofs.Common.{List, append-nil, false, subst}
+use Rattle.register_records.proofs.StepLemmas.{passed_on}
+use Rattle.register_records.specs.Entries.{Fields}
+use Rattle.register_sheets.proofs.SendingLemmas.{no_value}
 use Rattle.csv.specs.Records.{fields_of}
-use Rattle.register_sheets.specs.NameLists.{IsFaultOf}
+use Rattle.register_sheets.specs.NameLists.{IsFaultOf, IsListOf}
 use Rattle.register_sheets.specs.Reading.{left_of}
 use Rattle.register_sheets.proofs.NameListLemmas.{first_fault, lines_more}
 use Rattle.register_sheets.proofs.name_lists.NameList.add_lines.Goals as goal
@@ -33,4 +37,26 @@ records-preserved c =
         rw items (lines_more before _ _ _ are line),
         text ∙ ap (λ rest. header ∷ before ++ rest) found ∙ ap (λ rest. header ∷ rest) (sym (append_assoc before _ _)),
       );
+    }
+
+pub returns-in_err-read_next : goal.returns-in_err-read_next
+returns-in_err-read_next c =
+    let is = c.from_residual.ensures.1 in
+    record { list = no_value c.from_residual.result _ _ is; fault = passed_on _ _ _ is tt }
+
+pub returns-in_err-read_next-2 : goal.returns-in_err-read_next-2
+returns-in_err-read_next-2 c =
+    let is = c.from_residual-in_err-read_next-2.ensures.1 in
+    record { list = no_value c.from_residual-in_err-read_next-2.result _ _ is; fault = passed_on _ _ _ is tt }
+
+pub returns-then-not-branch-2 : goal.returns-then-not-branch-2
+returns-then-not-branch-2 c =
+    let (header, before, is, are, text) = c.records.invariant.lines in
+    let no : c.in_ok-read_next-2.field-0 ≡ false = search rules in
+    let none = c.read_next-in-records.ensures.none (c.in_ok-read_next-2.was ∙ ap Ok no) in
+    let whole = text ∙ ap (λ (rest : List Fields). header ∷ before ++ rest) none
+    ∙ ap (λ (rest : List Fields). header ∷ rest) (append-nil before) in
+    record {
+      list = subst (λ (records : List Fields). IsListOf records c.records.self.lines.items) (sym whole) (is, are);
+      fault = tt;
     }

@@ -1,4 +1,4 @@
-use Rattle.std.proofs.Common.{◌≡◌, ◌∙◌, ◌<◌, ◌+◌, List, ap, arith, length, length-set, length-take, map, refl, rules, subst, sym, take, take_all}
+use Rattle.std.proofs.Common.{◌≡◌, ◌∙◌, ◌<◌, ◌+◌, List, arith, length, length-set, length-take, map, refl, rules, subst, sym, take, take_all}
 use Rattle.std.proofs.lemmas.List.{length-map}
 use Rattle.std.specs.List.{AllZip}
 use Rattle.csv.specs.Records.{fields_of}
@@ -8,7 +8,6 @@ use Rattle.register_sheets.specs.Choices.{asked_targets, register_entry}
 use Rattle.register_sheets.specs.RowViews.{CountsMore, rows_seen}
 use Rattle.register_sheets.specs.UnknownNames.{SheetDate}
 use Rattle.register_sheets.specs.declared.choices.CalendarField.TheVariants.{Column}
-use Rattle.register_sheets.specs.declared.choices.SheetChoice.{SheetChoice}
 use Rattle.register_sheets.specs.declared.choices.DateColumn.{DateColumn}
 use Rattle.register_sheets.proofs.RowLemmas.{seen_count, seen_few, seen_set, zip_at}
 use Rattle.register_sheets.proofs.SendingLemmas.{no_value}
@@ -23,14 +22,13 @@ dates-preserved c =
     let inv = c.dates.invariant in
     let place = c.dates.place in
     let choice = c.args.setup.now.choice in
-    let dates = c.choice.result.dates.now in
+    let dates = choice.dates.now in
     let R : DateColumn → TableRow → Type 0
     = λ column row. IsRowOf (asked_targets choice.columns.now)
     (register_entry choice column c.args.number (fields_of c.args.record.now)) row in
     let room : place < length c.dates.self.rows = search rules in
-    let many = ap (λ (choice : SheetChoice). length choice.dates.now) c.choice.ensures in
     let few = seen_few row_seen c.args.self.now.count c.args.self.now.rows in
-    let low : place < c.dates.self.count = omega (arith, inv.count, c.requires.count, many, c.dates-test.true, few) in
+    let low : place < c.dates.self.count = omega (arith, inv.count, c.requires.count, c.dates-test.true, few) in
     record {
       rows = subst (λ (ys : List TableRow). AllZip R (take (place + 1) dates) ys)
           (sym (seen_set row_seen c.dates.self.rows c.dates.self.count place c.renew_row.new.row low room))
@@ -70,18 +68,17 @@ returns-clause-rows c =
     let inv = c.dates.invariant in
     let place = c.dates.place in
     let choice = c.args.setup.now.choice in
-    let columns = c.choice.result.dates.now in
+    let columns = choice.dates.now in
     let seen = rows_seen c.dates.self in
     let R : DateColumn → TableRow → Type 0
     = λ column row. IsRowOf (asked_targets choice.columns.now)
     (register_entry choice column c.args.number (fields_of c.args.record.now)) row in
-    let same = ap (λ (choice : SheetChoice). choice.dates.now) c.choice.ensures in
     let many = seen_count row_seen c.dates.self.count c.args.self.now.count c.dates.self.rows c.args.self.now.rows inv.count
     inv.room in
     let every : take place columns ≡ choice.dates.now
-    = take_all place columns (omega (arith, c.dates-test.false)) ∙ same in
+    = take_all place columns (omega (arith, c.dates-test.false)) in
     let rows : take place seen ≡ seen
-    = take_all place seen (omega (arith, many, c.requires.count, ap length same, c.dates-test.false)) in
+    = take_all place seen (omega (arith, many, c.requires.count, c.dates-test.false)) in
     subst (λ (ys : List TableRow). AllZip R choice.dates.now ys) rows
     (subst (λ (xs : List DateColumn). AllZip R xs (take place seen)) every inv.rows)
 
@@ -93,20 +90,18 @@ returns-clause-count c =
 pub renew_row-requires-clause-room : goal.renew_row-requires-clause-room
 renew_row-requires-clause-room c =
     let choice = c.args.setup.now.choice in
-    let columns = c.choice.result.dates.now in
+    let columns = choice.dates.now in
     let f : DateColumn → SheetDate = λ column. (column, fields_of c.args.record.now) in
-    let many = ap (λ (choice : SheetChoice). length choice.dates.now) c.choice.ensures in
     place_left choice (map f (take c.dates.place columns)) (length choice.dates.now) 1 c.args.self.now.unread
     c.dates.self.unread c.dates.invariant.unread c.requires.room
-    (omega (arith, length-map (take c.dates.place columns) f, length-take c.dates.place columns, c.dates-test.true, many))
+    (omega (arith, length-map (take c.dates.place columns) f, length-take c.dates.place columns, c.dates-test.true))
 
 pub returns-clause-unread : goal.returns-clause-unread
 returns-clause-unread c =
     let choice = c.args.setup.now.choice in
-    let columns = c.choice.result.dates.now in
+    let columns = choice.dates.now in
     let f : DateColumn → SheetDate = λ column. (column, fields_of c.args.record.now) in
     let whole : take c.dates.place columns ≡ choice.dates.now
-    = take_all c.dates.place columns (omega (arith, c.dates-test.false))
-    ∙ ap (λ (choice : SheetChoice). choice.dates.now) c.choice.ensures in
+    = take_all c.dates.place columns (omega (arith, c.dates-test.false)) in
     subst (λ (xs : List DateColumn). CountsMore choice (map f xs) c.args.self.now.unread c.dates.self.unread) whole
     c.dates.invariant.unread

@@ -1,14 +1,8 @@
-use Rattle.std.proofs.Common.{◌≡◌, ◌+◌, ◌∙◌, sym, ap, map, drop, get_or, ◌∷◌, [], true, false, add-one, drop-cons}
+use Rattle.std.proofs.Common.{◌≡◌, ◌+◌, ◌∙◌, sym, ap, map, drop, get_or, ◌∷◌, true, false, add-one, drop-cons}
 use Rattle.std.specs.List.{list_any}
-use Rattle.written_dates.specs.declared.fields.CalendarName.{CalendarName}
-use Rattle.date_texts.specs.declared.calendar.Calendar.TheVariants.{Gregorian}
 use Rattle.written_dates.specs.Fields.{entry, is_other, first_twofold}
-use Rattle.written_dates.proofs.FieldLemmas.{twofold_here, twofold_later}
+use Rattle.written_dates.proofs.FieldLemmas.{no_name, twofold_here, twofold_later}
 use Rattle.written_dates.proofs.fields.CalendarNames.first_twofold.Goals as goal
-
--- what a read past the end gives
-abbrev no_name : CalendarName
-no_name = record { text = record { ref_ptr = (0, 0); now = [] }; calendar = Gregorian }
 
 pub returns-then-has_other : goal.returns-then-has_other
 returns-then-has_other c =

@@ -1,8 +1,10 @@
 use Rattle.std.proofs.Common.{◌≡◌, ◌+◌, ◌∙◌, sym, false, Some, slice_get, get_or}
+use Rattle.std.specs.List.{list_any}
+use Rattle.std.proofs.lemmas.List.{at_drop_all}
 use Rattle.std.proofs.lemmas.Option.{slice_get-get_or}
 use Rattle.written_dates.specs.Names.{conflict}
 use Rattle.written_dates.specs.Keys.{key}
-use Rattle.written_dates.proofs.KeyLemmas.{any_same, any_next, keyed_from, no_name_at}
+use Rattle.written_dates.proofs.KeyLemmas.{any_here, any_same, any_next, keyed_from, no_name_at}
 use Rattle.written_dates.proofs.names.Names.has_conflict.Goals as goal
 
 pub names-init : goal.names-init
@@ -26,3 +28,16 @@ names-preserved c =
           ∙ c.names.invariant.same;
       keyed = λ x e. keyed_from (key other) names (c.names.other + 1) c.next_behind-other-in-names.result at x e ∙ keyed;
     }
+
+pub returns-then-conflict : goal.returns-then-conflict
+returns-then-conflict c =
+    let names = c.args.self.now.listed.now in
+    let other = get_or names c.names.other no_name_at in
+    let there : slice_get names c.names.other ≡ Some other = slice_get-get_or names c.names.other no_name_at c.names-test.true in
+    any_here c.args.name.now other names c.names.other there (sym c.conflict.ensures ∙ c.if-conflict.true)
+    ∙ c.names.invariant.same
+
+pub returns : goal.returns
+returns c =
+    sym (at_drop_all (list_any (conflict c.args.name.now)) c.args.self.now.listed.now c.names.other c.names-test.false)
+    ∙ c.names.invariant.same

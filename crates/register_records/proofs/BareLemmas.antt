@@ -1,30 +1,24 @@
 -- Texts that hold no byte that calls for quotes, and plain texts, which are ASCII besides.
 use Rattle.std.proofs.Common.{◌≡◌, ◌∙◌, ◌+◌, ◌*◌, ◌/◌, ◌-◌, ◌<◌, ◌≤◌, ◌++◌, ℕ, zero, suc, List, [], ◌∷◌, Option, rules}
 use Rattle.std.proofs.Common.{Some, true, false, refl, sym, ap, subst, arith, length, take, drop, get_or, take_all}
-use Rattle.std.specs.Prelude.{⊤, Err, IfSome, IsAscii, Result}
-use Rattle.std.specs.Option.{option_map_or}
-use Rattle.std.proofs.lemmas.Bool.{and_parts, or_from, or_parts}
-use Rattle.std.proofs.lemmas.Bool.Decides.{nat_tests}
-use Rattle.std.proofs.lemmas.List.Folds.{list_all-append, list_all_more}
+use Rattle.register_records.proofs.Common.{⊤, Err, Result, option_map_or, and_parts, or_parts, nat_tests, list_all_more}
+use Rattle.register_records.proofs.Common.{take-add, is_utf8-from_IsUtf8, list_all, needs_byte, needs_quotes, Refusal}
+use Rattle.register_records.proofs.Common.{IsPlain, has_special, is_plain_byte, body_of, body_of_texts, writing, Fields}
+use Rattle.register_records.proofs.Common.{Texts, texts_of, is_delimiter, CHUNK, Form}
+use Rattle.std.specs.Prelude.{IfSome, IsAscii}
+use Rattle.std.proofs.lemmas.Bool.{or_from}
+use Rattle.std.proofs.lemmas.List.Folds.{list_all-append}
 use Rattle.std.proofs.lemmas.List.{drop-drop, take-append-drop}
-use Rattle.std.proofs.Math.Seq.{take-add}
 use Rattle.std.specs.Simd.{first_chunks}
-use Rattle.std.proofs.lemmas.Str.{IsUtf8-from_ascii, is_utf8-from_IsUtf8}
+use Rattle.std.proofs.lemmas.Str.{IsUtf8-from_ascii}
 use Rattle.std.proofs.lemmas.Str.Ascii.{IsAscii-cons, IsAscii-nil}
 use Rattle.std.specs.Str.{is_utf8}
-use Rattle.std.specs.List.{list_all, list_any}
+use Rattle.std.specs.List.{list_any}
 use Rattle.std.specs.Result.{result_ok}
 use Rattle.csv.specs.Records.{cut_from}
-use Rattle.csv.specs.Writing.{needs_byte, needs_quotes}
-use Rattle.date_texts.specs.declared.refusal.Refusal.{Refusal}
 use Rattle.date_texts.specs.declared.refusal.Refusal.TheVariants as refusal
-use Rattle.register_records.specs.BareTexts.{IsPlain, has_special, is_plain_byte, is_special_byte}
-use Rattle.register_records.specs.Entries.{are_utf8, body_of, body_of_texts}
-use Rattle.register_records.specs.LineRoom.{writing}
-use Rattle.register_records.specs.Records.{Fields, Texts, texts_of}
-use Rattle.register_records.specs.SetupRules.{is_delimiter}
-use Rattle.register_records.specs.declared.entries.TheConstants.{CHUNK}
-use Rattle.register_records.specs.declared.setups.Form.{Form}
+use Rattle.register_records.specs.BareTexts.{is_special_byte}
+use Rattle.register_records.specs.Entries.{are_utf8}
 
 -- no byte of this text calls for quotes
 abbrev pub IsBare : List ℕ → Type 0

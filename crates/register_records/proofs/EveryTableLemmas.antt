@@ -1,24 +1,17 @@
 -- Every accepted text has a table: what the text, a date and a day decide can be decided.
 use Rattle.std.proofs.Common.{◌≡◌, ◌+◌, ℕ, List, [], ◌∷◌, Bool, true, false, inl, inr, refl, subst, sym, map, length}
-use Rattle.std.specs.List.{AllZip, range_with_len}
-use Rattle.std.specs.Prelude.{ℤ, Result, Ok, Err, nat_lt, if◌then◌else◌}
-use Rattle.date_texts.specs.Calendars.{calendar_name}
+use Rattle.register_records.proofs.Common.{AllZip, range_with_len, ℤ, Result, Ok, Err, calendar_name}
+use Rattle.register_records.proofs.Common.{day_number_of_date, IsNamed, Calendar, Target, Date, Refusal, Numbered}
+use Rattle.register_records.proofs.Common.{record_limit, AreCells, IsOutcome, IsRowOf, Says, TableRow, accepted}
+use Rattle.register_records.proofs.Common.{no_date_text, no_such_date, out_of_range, refused, unknown_calendar, Fields}
+use Rattle.register_records.proofs.Common.{Texts, Form}
+use Rattle.std.specs.Prelude.{nat_lt, if◌then◌else◌}
 use Rattle.date_texts.specs.Cells.{IsCell}
-use Rattle.date_texts.specs.Dates.{day_number_of_date}
-use Rattle.date_texts.specs.Names.{IsNamed}
-use Rattle.date_texts.specs.declared.calendar.Calendar.{Calendar}
-use Rattle.date_texts.specs.declared.target.Target.{Target}
-use Rattle.date_texts.specs.declared.date.Date.{Date}
-use Rattle.date_texts.specs.declared.refusal.Refusal.{Refusal}
 use Rattle.date_texts.specs.declared.refusal.Refusal.TheVariants as refusal
 use Rattle.date_texts.proofs.DateDecisionLemmas.{has_cell, is_date_of_calendar, names_calendar, says_date}
 use Rattle.date_texts.proofs.DecisionLemmas.{is_between}
-use Rattle.register_records.specs.Entries.{Numbered, entries_from, record_limit}
+use Rattle.register_records.specs.Entries.{entries_from}
 use Rattle.register_records.specs.Laws.{EveryTextHasTable}
-use Rattle.register_records.specs.Outcomes.{AreCells, IsOutcome, IsRowOf, Says, TableRow, accepted}
-use Rattle.register_records.specs.Outcomes.{no_date_text, no_such_date, out_of_range, refused, unknown_calendar}
-use Rattle.register_records.specs.Records.{Fields, Texts}
-use Rattle.register_records.specs.declared.setups.Form.{Form}
 
 -- the outcome of a body
 abbrev pub HasOutcome : Result Texts Refusal → Type 0

@@ -1,21 +1,16 @@
 -- What a step of a reader of entries does to those that it gave.
 use Rattle.std.proofs.Common.{◌≡◌, ◌<◌, ◌≤◌, ◌+◌, ◌++◌, ℕ, List, [], ◌∷◌, length, Option, Some, None, true, rules, refl}
 use Rattle.std.proofs.Common.{sym, ap, ◌∙◌, arith, append_assoc, IfSome, nat_lt, option_map, append-nil, length-append}
-use Rattle.std.proofs.Math.Logic.{∥∥₁_map}
-use Rattle.std.proofs.lemmas.Bool.Decides.{nat_tests}
-use Rattle.std.proofs.lemmas.List.{append_cancel_left}
-use Rattle.register_records.specs.Headers.{IsHeader}
-use Rattle.register_records.specs.Entries.{Fields, HasAllEntries, HasEntries, HasFirstEntries, HasRecords, Reading}
-use Rattle.register_records.specs.Entries.{HasTooMany, IsNotSealed, Numbered, body_of, entries_from}
-use Rattle.register_records.specs.Entries.{entries_of, record_limit, text_records}
-use Rattle.register_records.specs.Seals.{AreClosed, before_seal, entry_records, is_seal}
-use Rattle.register_records.specs.Seen.{entry_seen}
-use Rattle.register_records.specs.ReadingState.{reading_by}
-use Rattle.register_records.specs.ReadingState.{Ends, EndsAt, Gives, HasEntry, IsNoSeal, LacksSeal, HasRead, TakesFirst}
-use Rattle.register_records.specs.declared.entries.Entry.{Entry}
+use Rattle.register_records.proofs.Common.{∥∥₁_map, nat_tests, append_cancel_left, IsHeader, HasAllEntries, HasEntries}
+use Rattle.register_records.proofs.Common.{HasFirstEntries, HasRecords, Reading, HasTooMany, IsNotSealed, Numbered}
+use Rattle.register_records.proofs.Common.{body_of, entries_of, record_limit, text_records, AreClosed, entry_records}
+use Rattle.register_records.proofs.Common.{is_seal, entry_seen, Ends, HasEntry, IsNoSeal, LacksSeal, TakesFirst, Entry}
+use Rattle.register_records.proofs.Common.{Form}
+use Rattle.register_records.specs.Entries.{Fields, entries_from}
+use Rattle.register_records.specs.Seals.{before_seal}
+use Rattle.register_records.specs.ReadingState.{reading_by, EndsAt, Gives, HasRead}
 use Rattle.register_records.specs.declared.reading.ReaderState.{ReaderState}
 use Rattle.register_records.specs.declared.reading.ReaderState.TheVariants as states
-use Rattle.register_records.specs.declared.setups.Form.{Form}
 
 pub if_some : {X : Type 0} (o : Option X) (P Q : X → Type 0) → ((x : X) → P x → Q x) → IfSome o P → IfSome o Q
 if_some o P Q f h = search rules

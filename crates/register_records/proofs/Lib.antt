@@ -10,6 +10,8 @@
 --   SomeRecordsLemmas: the rows of entries are those of some records, for `in_order` of a run.
 --   OneTableLemmas, EveryTableLemmas, ReadBackLemmas, NoLossLemmas, OneFateLemmas: the laws `one_table`,
 --   `every_text_has_table`, `cells_read_back`, `no_loss_is_sealed`, `one_fate`.
+-- Common passes on the names that several of these files cite.
+pub mod Common
 pub mod FieldLemmas
 pub mod SealLemmas
 pub mod HeaderLemmas

@@ -2,36 +2,26 @@
 use Rattle.std.proofs.Common.{◌≡◌, ◌<◌, ◌≤◌, ◌+◌, ◌^◌, ◌%◌, ◌++◌, ℕ, List, [], ◌∷◌, true, false, refl, sym, ap, ◌∙◌}
 use Rattle.std.proofs.Common.{rules, arith, append_assoc, append-nil, length, length-append, length-set, map, set, take}
 use Rattle.std.proofs.Common.{◌==◌, if◌then◌else◌, Bool, Result, drop, get_or, ℤ, length-take-le}
-use Rattle.std.specs.Fmt.{decimal, signed_decimal}
-use Rattle.std.proofs.lemmas.Int.{ints}
-use Rattle.std.proofs.lemmas.Bool.{and_parts}
-use Rattle.std.proofs.lemmas.Bool.Decides.{nat_tests}
-use Rattle.std.proofs.lemmas.Fmt.{decimal_by_steps, length-decimal-le}
-use Rattle.std.proofs.lemmas.List.{at_drop_more, flat_map_more, map-append, take_more, take_more_set, take-append-le}
+use Rattle.register_records.proofs.Common.{decimal, signed_decimal, ints, and_parts, nat_tests, length-decimal-le}
+use Rattle.register_records.proofs.Common.{map-append, take_more, flat_map, list_all, needs_byte, needs_quotes}
+use Rattle.register_records.proofs.Common.{IsDayNumber, Begins, GainsFields, columns_room, writing, is_delimiter}
+use Rattle.register_records.proofs.Common.{is_plain, target_name, Refusal, Target, Column, cell_columns, entry_order}
+use Rattle.register_records.proofs.Common.{tail_order, entry_field, text_shown, kind_name, kind_names, row_fields}
+use Rattle.register_records.proofs.Common.{row_with, tail_texts, TableRow, Cells, Id, Note, Texts, has_special}
+use Rattle.std.proofs.lemmas.Grind.{flat_map-append}
+use Rattle.std.proofs.lemmas.Fmt.{decimal_by_steps}
+use Rattle.std.proofs.lemmas.List.{at_drop_more, flat_map_more, take_more_set, take-append-le}
 use Rattle.std.proofs.Math.Seq.{take-append-add}
 use Rattle.std.proofs.lemmas.List.Folds.{list_any-append}
-use Rattle.std.specs.List.{flat_map, list_all}
 use borrow.Rule.Slice.PartMut.{put_mid}
-use Rattle.csv.specs.Writing.{field_text, fields_text, is_blank, needs_byte, needs_quotes, row_body}
+use Rattle.csv.specs.Writing.{field_text, fields_text, is_blank, row_body}
 use Rattle.csv.proofs.WriteFacts.{fields-snoc}
-use Rattle.day_numbers.specs.Days.{IsDayNumber}
-use Rattle.register_records.specs.LineRoom.{Begins, GainsFields, columns_room, name_limit, number_room, writing}
+use Rattle.register_records.specs.LineRoom.{number_room}
 use Rattle.register_records.specs.Lines.{line_text}
-use Rattle.register_records.specs.SetupRules.{is_delimiter}
-use Rattle.date_texts.specs.Cells.{is_plain}
-use Rattle.date_texts.specs.Calendars.{target_name}
-use Rattle.date_texts.specs.declared.refusal.Refusal.{Refusal}
-use Rattle.date_texts.specs.declared.target.Target.{Target}
-use Rattle.register_records.specs.Columns.{Column, cell_columns, columns, entry_order, kind_columns}
-use Rattle.register_records.specs.Columns.{tail_order}
-use Rattle.register_records.specs.TableColumns.{entry_field, text_shown, heading, kind_fields, kind_name}
-use Rattle.register_records.specs.TableColumns.{kind_names, laid_out, row_fields, row_with, tail_texts}
-use Rattle.register_records.specs.Outcomes.{TableRow}
+use Rattle.register_records.specs.Columns.{columns, kind_columns}
+use Rattle.register_records.specs.TableColumns.{heading, kind_fields, laid_out}
 use Rattle.register_records.specs.declared.table_columns.ColumnKind.{ColumnKind}
-use Rattle.register_records.specs.declared.table_columns.ColumnKind.TheVariants.{Calendar, Cells, Date, Id}
-use Rattle.register_records.specs.declared.table_columns.ColumnKind.TheVariants.{Note, Number}
-use Rattle.register_records.specs.Records.{Texts}
-use Rattle.register_records.specs.BareTexts.{has_special}
+use Rattle.register_records.specs.declared.table_columns.ColumnKind.TheVariants.{Calendar, Date}
 use Rattle.register_records.proofs.BareLemmas.{unquoted}
 
 -- the bytes of some fields, and of one more
@@ -100,15 +90,6 @@ pub room_for_rest : {C : Type 0} (room : C → ℕ) (columns : List C) (i : ℕ)
     → new + columns_room room (drop (i + 1) columns) ≤ limit
 room_for_rest room columns i e old new limit lt grows before =
     grind (arith, ints, at_drop_more (columns_room room) columns i e lt)
-
--- one more of the fields that the items of a list give
-pub one_item : {X : Type 0} (f : X → List ℕ) (d : ℕ) (before : List ℕ) (first : List (List ℕ)) (xs : List X) (i : ℕ)
-    (e : X) (field new : List ℕ) → i < length xs → field ≡ f (get_or xs i e)
-    → new ≡ before ++ body d ((first ++ map f (take i xs)) ++ field ∷ [])
-    → new ≡ before ++ body d (first ++ map f (take (i + 1) xs))
-one_item f d before first xs i e field new lt is n =
-    n ∙ ap (λ (fields : List (List ℕ)). before ++ body d fields)
-    (rw (take_more xs i e lt, map-append f (take i xs) (get_or xs i e ∷ []), is) (append_assoc first _ _))
 
 -- those of one more column
 pub one_more_column : {X : Type 0} (f : ColumnKind → List X) (first : List X) (columns : List ColumnKind) (i : ℕ)
@@ -194,25 +175,14 @@ plain_bytes d h (c ∷ text) p =
     let both = and_parts (is_plain c) (list_all is_plain text) p in
     rw (plain_cell_byte d c h both.0, plain_bytes d h text both.1) refl
 
--- a map of all lists, and all lists of equal functions
+-- a map of all lists
 map_of_all : {X Y Z : Type 0} (f : Y → Z) (g : X → List Y) (xs : List X)
     → map f (flat_map g xs) ≡ flat_map (λ x. map f (g x)) xs
 map_of_all f g [] = refl
 map_of_all f g (x ∷ xs) =
     map-append f (g x) (flat_map g xs) ∙ ap (λ ys. map f (g x) ++ ys) (map_of_all f g xs)
 
-flat_map_both : {X Y : Type 0} (f : X → List Y) (xs ys : List X)
-    → flat_map f (xs ++ ys) ≡ flat_map f xs ++ flat_map f ys
-flat_map_both f [] ys = refl
-flat_map_both f (x ∷ xs) ys =
-    ap (λ (zs : List _). f x ++ zs) (flat_map_both f xs ys) ∙ sym (append_assoc (f x) (flat_map f xs) (flat_map f ys))
-
--- the columns of an entry: the first has its number, the others its texts
-pub first_field : (notes : Bool) (f : ColumnKind → List ℕ) (d : ℕ) (before field bytes : List ℕ)
-    → needs_quotes (writing d) field ≡ false → field ≡ f Number → bytes ≡ before ++ field
-    → bytes ≡ before ++ body d (map f (take 1 (entry_order notes)))
-first_field notes f d before field bytes h is b = search (rules, only_field)
-
+-- the texts of an entry none of whose bytes calls for quotes
 pub plain_column : (d : ℕ) → is_delimiter d ≡ true → (body : Result Texts Refusal) → has_special body ≡ false
     → (column : ColumnKind) → needs_quotes (writing d) (text_shown body column) ≡ false
 plain_column d h body bare Id = (unquoted d h body bare).0
@@ -242,7 +212,7 @@ in_kinds : {X : Type 0} (f : Column → X) (notes : Bool) (ts : List Target)
     ≡ flat_map (λ c. map f (kind_columns ts c)) (entry_order notes) ++ flat_map (λ c. map f (kind_columns ts c)) tail_order
 in_kinds f notes ts =
     map_of_all f (kind_columns ts) (entry_order notes ++ tail_order)
-    ∙ flat_map_both (λ c. map f (kind_columns ts c)) (entry_order notes) tail_order
+    ∙ flat_map-append (λ c. map f (kind_columns ts c)) (entry_order notes) tail_order
 
 pub name_columns : (place : ℕ) (ts : List Target)
     → map (λ (c : Column). c.name) (cell_columns place ts) ≡ map target_name ts
@@ -291,7 +261,3 @@ fields_in_parts notes ts row =
     in_kinds (λ (c : Column). c.field row) notes ts
     ∙ ap (λ (fields : List (List ℕ)). fields ++ flat_map (kind_fields ts row) tail_order) (entry_fields notes ts row)
     ∙ ap (λ (fields : List (List ℕ)). map (entry_field row) (entry_order notes) ++ fields) (tail_same row ts)
-
--- the name of a target has room
-pub short_name : (t : Target) → length (target_name t) ≤ name_limit
-short_name t = search rules

@@ -1,12 +1,9 @@
 -- Where records of a sealed register are taken out, its seal does not agree.
 use Rattle.std.proofs.Common.{◌≡◌, ◌+◌, ◌++◌, ℕ, List, [], ◌∷◌, length, Bool, true, false, refl, ap, rules, ◌∙◌, arith}
 use Rattle.std.proofs.Common.{if◌then◌else◌, length-append}
-use Rattle.std.specs.Prelude.{⊤}
-use Rattle.register_records.specs.Headers.{IsHeader}
+use Rattle.register_records.proofs.Common.{⊤, IsHeader, Fields, Agrees, is_seal, Sealed}
 use Rattle.register_records.specs.Laws.{AreLeftOf, NoLossIsSealed, kept, none, taken}
-use Rattle.register_records.specs.Records.{Fields}
-use Rattle.register_records.specs.Seals.{Agrees, before_seal, is_seal}
-use Rattle.register_records.specs.declared.setups.Form.TheVariants.{Sealed}
+use Rattle.register_records.specs.Seals.{before_seal}
 
 -- of these records only this one is a seal
 abbrev IsOnlySeal : Fields → List Fields → Type 0

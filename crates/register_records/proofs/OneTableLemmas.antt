@@ -1,21 +1,12 @@
 -- A text has one table at most.
 use Rattle.std.proofs.Common.{◌≡◌, ℕ, List, refl, subst, sym, ◌∙◌, rules, ℤ, Result}
-use Rattle.std.proofs.Math.Logic.{∥∥₁_elim}
-use Rattle.std.proofs.Props.{props}
-use Rattle.day_numbers.specs.Days.{IsDayNumber}
-use Rattle.date_texts.specs.Calendars.{calendar_name}
-use Rattle.date_texts.specs.Dates.{IsDateOfCalendar, day_number_of_date}
-use Rattle.date_texts.specs.DateText.{IsDateText}
-use Rattle.register_records.specs.Entries.{Numbered, Texts}
+use Rattle.register_records.proofs.Common.{∥∥₁_elim, props, IsDayNumber, calendar_name, IsDateOfCalendar}
+use Rattle.register_records.proofs.Common.{day_number_of_date, IsDateText, Numbered, IsNamed, IsOutcome, IsRowOf, Says}
+use Rattle.register_records.proofs.Common.{TableRow, accepted, no_date_text, no_such_date, out_of_range, refused}
+use Rattle.register_records.proofs.Common.{unknown_calendar, Calendar, Target, Date, Refusal, OneCell}
+use Rattle.register_records.specs.Entries.{Texts}
 use Rattle.register_records.specs.Laws.{OneTable}
-use Rattle.date_texts.specs.Names.{IsNamed}
-use Rattle.register_records.specs.Outcomes.{IsOutcome, IsRowOf, Says, TableRow, accepted, no_date_text, no_such_date}
-use Rattle.register_records.specs.Outcomes.{out_of_range, refused, unknown_calendar}
-use Rattle.date_texts.specs.declared.calendar.Calendar.{Calendar}
-use Rattle.date_texts.specs.declared.target.Target.{Target}
-use Rattle.date_texts.specs.declared.date.Date.{Date}
-use Rattle.date_texts.specs.declared.refusal.Refusal.{Refusal}
-use Rattle.date_texts.specs.Laws.{OneCalendar, OneCell, OneDateText}
+use Rattle.date_texts.specs.Laws.{OneCalendar, OneDateText}
 use Rattle.register_records.proofs.EveryTableLemmas.{has_outcome}
 use Rattle.register_records.proofs.RowTailLemmas.{one_beside, one_cells}
 

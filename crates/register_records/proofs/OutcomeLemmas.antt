@@ -1,17 +1,9 @@
 -- What the calls that read a record's texts say of its outcome.
 use Rattle.std.proofs.Common.{◌≡◌, ℕ, List, IfOk, Option, Some, None, refl, ◌↔◌, ℤ, IsOk, Result, Ok, Err}
-use Rattle.day_numbers.specs.Days.{IsDayNumber}
-use Rattle.day_numbers.specs.declared.day.Day.{Day}
-use Rattle.date_texts.specs.Calendars.{calendar_name}
-use Rattle.date_texts.specs.Dates.{IsDateOfCalendar, day_number_of_date}
+use Rattle.register_records.proofs.Common.{IsDayNumber, Day, calendar_name, IsDateOfCalendar, day_number_of_date}
+use Rattle.register_records.proofs.Common.{IsNamed, IsOutcome, Says, outcome_seen, Calendar, Date, Refusal}
 use Rattle.register_records.specs.Entries.{HaveOneDate, Texts}
-use Rattle.date_texts.specs.Names.{IsNamed}
-use Rattle.register_records.specs.Outcomes.{IsOutcome, Says}
 use Rattle.register_records.specs.Outcomes as outcome
-use Rattle.register_records.specs.Seen.{outcome_seen}
-use Rattle.date_texts.specs.declared.calendar.Calendar.{Calendar}
-use Rattle.date_texts.specs.declared.date.Date.{Date}
-use Rattle.date_texts.specs.declared.refusal.Refusal.{Refusal}
 use Rattle.date_texts.specs.declared.refusal.Refusal.TheVariants as refusal
 
 -- a name that was not found names no calendar

@@ -1,12 +1,10 @@
 -- A cell that is read gives its day again.
 use Rattle.std.proofs.Common.{sym, subst, Ok}
-use Rattle.day_numbers.specs.Days.{IsDayNumber}
+use Rattle.register_records.proofs.Common.{IsDayNumber, IsDateText, IsOutcome, accepted}
 use Rattle.date_texts.specs.Cells.{no_date, on_date}
-use Rattle.date_texts.specs.DateText.{IsDateText}
 use Rattle.date_texts.specs.Dates.{calendar_of_date}
 use Rattle.date_texts.specs.Laws.{CanonicalTextsReadBack}
 use Rattle.register_records.specs.Laws.{CellsReadBack}
-use Rattle.register_records.specs.Outcomes.{IsOutcome, accepted}
 
 pub cells_read_back : CanonicalTextsReadBack → CellsReadBack
 cells_read_back law calendar n texts within named (on_date date of is day text) some =

@@ -1,42 +1,30 @@
 -- The fields of a tail, while they are appended, and the cells among them.
 use Rattle.std.proofs.Common.{◌≡◌, ◌<◌, ◌≤◌, ◌+◌, ◌++◌, ℕ, List, [], ◌∷◌, true, false, refl, sym, ap, ◌∙◌, rules, arith}
-use Rattle.std.proofs.Common.{add-one, append_assoc, append-nil, drop, drop-cons, get_or, length, length-drop, map, set}
-use Rattle.std.proofs.Common.{subst, take, ◌==◌, ℤ, pos, negsuc, Bool, IsTrue, nat_le, Ok, Err, Result, take_all}
-use Rattle.std.proofs.Common.{◌-◌, min, suc, take_at, zero}
+use Rattle.std.proofs.Common.{add-one, append_assoc, append-nil, drop, drop-cons, get_or, length, length-drop, map}
+use Rattle.std.proofs.Common.{subst, take, ◌==◌, ℤ, pos, negsuc, Bool, IsTrue, nat_le, Ok, Err, Result, take_all, ◌-◌}
+use Rattle.std.proofs.Common.{min, suc, take_at, zero}
 use Rattle.std.proofs.lemmas.Slice.Zip.{AllZip-long, all_zipped_more}
-use Rattle.std.specs.Fmt.{decimal, signed_decimal}
-use Rattle.std.specs.List.{AllZip, flat_map, list_all, onto_first, position_or_len, slice_split}
-use Rattle.std.proofs.lemmas.Bool.{or_parts}
-use Rattle.std.proofs.lemmas.Bool.Decides.{nat_tests}
-use Rattle.std.proofs.lemmas.Fmt.{length-decimal-le, length_signed_le}
-use Rattle.std.proofs.lemmas.Int.{ints}
+use Rattle.register_records.proofs.Common.{decimal, signed_decimal, AllZip, flat_map, list_all, position_or_len}
+use Rattle.register_records.proofs.Common.{or_parts, nat_tests, length-decimal-le, ints, ∥∥₁_elim, props, needs_byte}
+use Rattle.register_records.proofs.Common.{needs_quotes, IsDayNumber, weekday_names, weekday_number, Day, is_plain}
+use Rattle.register_records.proofs.Common.{refusal_number, Target, Refusal, OneCell, cells_of, is_cells, Column}
+use Rattle.register_records.proofs.Common.{cell_columns, tail_order, column_texts, row_with, tail_texts, writing}
+use Rattle.register_records.proofs.Common.{AreCells, outcome_seen, is_delimiter, Cells}
+use Rattle.std.specs.List.{onto_first, slice_split}
+use Rattle.std.proofs.lemmas.Fmt.{length_signed_le}
 use Rattle.std.proofs.lemmas.List.Splits.{length-slice_split}
-use Rattle.std.proofs.Math.Logic.{∥∥₁_elim}
-use Rattle.std.proofs.Props.{props}
-use borrow.Rule.Slice.PartMut.{put_mid}
-use Rattle.csv.specs.Writing.{fields_text, needs_byte, needs_quotes}
-use Rattle.day_numbers.specs.Days.{IsDayNumber, weekday_names, weekday_number}
+use Rattle.std.proofs.Math.Seq.{drop-append_seam}
+use Rattle.csv.specs.Writing.{fields_text}
 use Rattle.day_numbers.specs.Numbered.{words}
 use Rattle.day_numbers.proofs.NameLemmas.{each_name}
-use Rattle.day_numbers.specs.declared.day.Day.{Day}
-use Rattle.date_texts.specs.Cells.{is_plain}
-use Rattle.date_texts.specs.Refusals.{refusal_number}
-use Rattle.date_texts.specs.declared.target.Target.{Target}
-use Rattle.date_texts.specs.declared.refusal.Refusal.{Refusal}
-use Rattle.date_texts.specs.Laws.{CellsArePlain, OneCell}
-use Rattle.register_records.specs.RowTails.{cells_of, fields_of, is_cells}
-use Rattle.register_records.specs.Columns.{Column, cell_columns, tail_order}
-use Rattle.register_records.specs.TableColumns.{IsCellField, column_texts, row_with, tail_texts}
-use Rattle.register_records.specs.LineRoom.{writing}
+use Rattle.date_texts.specs.Laws.{CellsArePlain}
+use Rattle.register_records.specs.RowTails.{fields_of}
+use Rattle.register_records.specs.TableColumns.{IsCellField}
 use Rattle.register_records.specs.Lines.{fields_behind}
-use Rattle.register_records.specs.Outcomes.{AreCells}
-use Rattle.register_records.specs.Seen.{outcome_seen}
-use Rattle.register_records.specs.SetupRules.{is_delimiter}
 use Rattle.register_records.specs.declared.row_tails.RowTail.{RowTail}
-use Rattle.register_records.specs.declared.table_columns.ColumnKind.TheVariants.{Cells, Refusal as RefusalColumn}
+use Rattle.register_records.specs.declared.table_columns.ColumnKind.TheVariants.{Refusal as RefusalColumn}
 use Rattle.register_records.proofs.EveryTableLemmas.{has_cells}
-use Rattle.register_records.proofs.LineLemmas.{more_fields_text, plain_bytes, plain_text, put_after, plain_day}
-use Rattle.register_records.proofs.LineLemmas.{plain_decimal}
+use Rattle.register_records.proofs.LineLemmas.{more_fields_text, plain_bytes, plain_text, plain_day, plain_decimal}
 
 -- the bytes of fields behind delimiters
 abbrev pub text : ℕ → List (List ℕ) → List ℕ
@@ -115,12 +103,6 @@ grown_more d more field old bytes new h before is =
       plain = last.plain;
     }
 
--- a field that is put behind a delimiter
-pub put_field : (places field : List ℕ) (at d k : ℕ) → at < length places
-    → take (at + 1 + length field) (put_mid (at + 1) k (set places at d) field) ≡ take at places ++ d ∷ field
-put_field places field at d k lt =
-    cc (put_after places field at d k (length field) lt (omega arith), take_all (length field) field (omega arith))
-
 -- a text that needs no quotes, with so many bytes at most
 pub record Fits (d limit : ℕ) (text : List ℕ) : Type 0 where
   pub plain : needs_quotes (writing d) text ≡ false
@@ -130,9 +112,6 @@ pub record Fits (d limit : ℕ) (text : List ℕ) : Type 0 where
 pub day_length : (z : ℤ) → IsDayNumber z → length (signed_decimal z) ≤ 8
 day_length (pos n) r = length_signed_le 7 (pos n) (omega (arith, ints, r.0, r.1)) (omega (arith, ints, r.0, r.1))
 day_length (negsuc n) r = length_signed_le 7 (negsuc n) (omega (arith, ints, r.0, r.1)) (omega (arith, ints, r.0, r.1))
-
-pub day_fits : (d : ℕ) → is_delimiter d ≡ true → (z : ℤ) → IsDayNumber z → Fits d 8 (signed_decimal z)
-day_fits d h z r = record { plain = plain_day d h z r; short = day_length z r }
 
 -- the name of a weekday has nine
 abbrev is_short : List ℕ → Bool
@@ -167,10 +146,6 @@ ends_at d (b ∷ field) more h =
     let both = or_parts (needs_byte (writing d) b) (needs_quotes (writing d) field) h in
     rw (plain_byte_stays d b both.0, ends_at d field more both.1) (omega arith)
 
-drop_front : (front rest : List ℕ) → drop (length front) (front ++ rest) ≡ rest
-drop_front [] rest = refl
-drop_front (b ∷ front) rest = drop_front front rest
-
 pub behind_first : (d : ℕ) (bytes rest : List ℕ) (start place : ℕ) (field : List ℕ) (more : List (List ℕ))
     → start ≡ min (length bytes) 1 → rest ≡ take (length bytes - start) (drop start bytes)
     → place ≡ position_or_len (cuts d) rest → needs_quotes (writing d) field ≡ false → bytes ≡ text d (field ∷ more)
@@ -183,7 +158,7 @@ behind_first d bytes rest start place field more from is at h whole =
     ∙ ap (λ k. drop k bytes) one ∙ ap (drop 1) whole ∙ ap (λ (t : List ℕ). t ++ text d more) (plain_text d field h) in
     take_all (length rest - place) (drop place rest) (omega (arith, length-drop place rest))
     ∙ ap (λ k. drop k rest) (at ∙ ap (position_or_len (cuts d)) parts ∙ ends_at d field more h)
-    ∙ ap (drop (length field)) parts ∙ drop_front field (text d more)
+    ∙ ap (drop (length field)) parts ∙ drop-append_seam field (text d more)
 
 -- what is left behind one more of the first two fields
 pub one_passed : (d : ℕ) → is_delimiter d ≡ true → (o : Result Day Refusal) (ts : List Target) (cells : List (List ℕ))

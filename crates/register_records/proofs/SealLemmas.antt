@@ -1,18 +1,13 @@
 -- When a record is a seal, and with what number of entries it agrees.
 use Rattle.std.proofs.Common.{◌≡◌, ◌∙◌, ◌<◌, ◌≤◌, ◌+◌, ◌-◌, ◌*◌, ◌^◌, ℕ, suc, List, length, take, rules, get_or, None}
 use Rattle.std.proofs.Common.{Some, true, refl, arith, codes, ◌↔◌}
-use Rattle.std.proofs.lemmas.List.Folds.{list_all_at, list_all_more}
+use Rattle.register_records.proofs.Common.{list_all_more, nat_tests, take_more, IsNumeral, all_digits, value_after}
+use Rattle.register_records.proofs.Common.{trimmed, Fields, Agrees, is_seal}
+use Rattle.std.proofs.lemmas.List.Folds.{list_all_at}
 use Rattle.std.proofs.lemmas.List.Sums.{fold-append}
 use Rattle.std.specs.Char.{is_ascii_digit}
 use Rattle.std.specs.Str.{bytes_eq}
-use Rattle.std.proofs.lemmas.Bool.Decides.{nat_tests}
-use Rattle.std.proofs.lemmas.List.{take_more}
 use Rattle.csv.specs.Records.{field_at}
-use Rattle.date_texts.specs.Numerals.{IsNumeral}
-use Rattle.date_texts.proofs.TextWords.{all_digits, value_after}
-use Rattle.date_texts.specs.Trimmed.{trimmed}
-use Rattle.register_records.specs.Records.{Fields}
-use Rattle.register_records.specs.Seals.{Agrees, is_seal}
 
 -- a record of two
 pub seal_by_first : (fs : Fields) (a : List ℕ) → length fs ≡ 2 → Some a ≡ field_at fs 0

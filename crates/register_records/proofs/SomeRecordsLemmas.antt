@@ -1,31 +1,22 @@
 -- Rows whose entries are numbered from 1 are the first rows of some records.
-use Rattle.std.proofs.Common.{◌≡◌, ◌∙◌, ◌+◌, ◌≤◌, ℕ, List, [], ◌∷◌, ◌++◌, true, false, ap, subst, arith, rules}
-use Rattle.std.proofs.lemmas.Bool.{and_parts}
+use Rattle.std.proofs.Common.{◌≡◌, ◌∙◌, ◌+◌, ◌≤◌, ℕ, List, [], ◌∷◌, ◌++◌, true, false, ap, subst, arith, rules, length}
+use Rattle.std.proofs.Common.{map, refl, sym}
+use Rattle.register_records.proofs.Common.{and_parts, length-map, nat_tests, AllZip, ℤ, ⊤, Err, Ok, Result, Target}
+use Rattle.register_records.proofs.Common.{Refusal, AreNumberedFrom, HasFirstEntries, Numbered, Reading, are_fit}
+use Rattle.register_records.proofs.Common.{body_of, record_limit, IsOutcome, IsRowOf, TableRow, Fields, Texts}
+use Rattle.register_records.proofs.Common.{entry_records, is_seal, entry_seen, IsFrontOfTable, entry_order, entry_field}
+use Rattle.register_records.proofs.Common.{row_fields, tail_texts, Layout, heading_line, table_text, row_seen, Row}
+use Rattle.register_records.proofs.Common.{Form, Plain, Sealed}
 use Rattle.register_records.proofs.OutcomeLemmas.{outcome_of_same}
 use Rattle.register_records.proofs.EveryTableLemmas.{AreInOrder, numbered as in_order}
-use Rattle.std.proofs.Common.{length, map, refl, sym}
-use Rattle.std.proofs.lemmas.List.{append-nil, length-map}
-use Rattle.std.proofs.lemmas.Bool.Decides.{nat_tests}
-use Rattle.std.specs.List.{AllZip}
+use Rattle.std.proofs.lemmas.List.{append-nil}
 use Rattle.std.specs.Str.{chars, is_utf8}
-use Rattle.std.specs.Prelude.{ℤ, ⊤, Err, None, Ok, Result, replicate}
-use Rattle.date_texts.specs.declared.target.Target.{Target}
-use Rattle.date_texts.specs.declared.refusal.Refusal.{Refusal}
+use Rattle.std.specs.Prelude.{None, replicate}
 use Rattle.date_texts.specs.declared.refusal.Refusal.TheVariants as refusal
-use Rattle.register_records.specs.Entries.{AreNumberedFrom, HasFirstEntries, Numbered, Reading, are_fit}
-use Rattle.register_records.specs.Entries.{body_of, entries_from, record_limit}
-use Rattle.register_records.specs.Outcomes.{IsOutcome, IsRowOf, TableRow}
-use Rattle.register_records.specs.Records.{Fields, Texts, has_notes}
-use Rattle.register_records.specs.Seals.{before_seal, entry_records, is_seal}
-use Rattle.register_records.specs.Seen.{entry_seen}
-use Rattle.register_records.specs.Sources.{IsFrontOfTable}
-use Rattle.register_records.specs.Columns.{entry_order}
-use Rattle.register_records.specs.TableColumns.{entry_field, row_fields, tail_texts}
-use Rattle.register_records.specs.Tables.{Layout, heading_line, lines_text, table_text}
-use Rattle.register_records.specs.Views.{row_seen}
-use Rattle.register_records.specs.declared.rows.Row.{Row}
-use Rattle.register_records.specs.declared.setups.Form.{Form}
-use Rattle.register_records.specs.declared.setups.Form.TheVariants.{Plain, Sealed}
+use Rattle.register_records.specs.Entries.{entries_from}
+use Rattle.register_records.specs.Records.{has_notes}
+use Rattle.register_records.specs.Seals.{before_seal}
+use Rattle.register_records.specs.Tables.{lines_text}
 use Rattle.register_records.proofs.FieldLemmas.{no_bytes}
 use Rattle.register_records.proofs.LineLemmas.{fields_in_parts}
 

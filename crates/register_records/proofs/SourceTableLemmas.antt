@@ -2,25 +2,18 @@
 use Rattle.std.proofs.Common.{◌≡◌, ◌≢◌, ◌⊎◌, ◌∙◌, ◌+◌, ◌-◌, ◌<◌, ◌≤◌, ◌++◌, ◌∷◌, ℕ, List, [], Option, None, Some, Err}
 use Rattle.std.proofs.Common.{IfSome, ap, arith, false, length, length-append, refl, rules, sym, true}
 use Rattle.std.specs.declared.io.traits.Read.{Ghosts}
-use Rattle.register_records.specs.Causes.{entry_fault_cause}
-use Rattle.register_records.specs.Entries.{HasAllEntries, HasTooMany, IsNotSealed, Numbered, Reading, record_limit}
+use Rattle.register_records.proofs.Common.{entry_fault_cause, HasAllEntries, HasTooMany, IsNotSealed, Numbered, Reading}
+use Rattle.register_records.proofs.Common.{record_limit, table_fault, given_of, reader_failed, reading_of, reads_by}
+use Rattle.register_records.proofs.Common.{text_of, Cause, SourceEnd, Entry, EntryFault, Setup, Table}
 use Rattle.register_records.specs.NextEntries.{ReadsNext}
 use Rattle.register_records.specs.Sources.{IfBroken}
 use Rattle.register_records.specs.SourceTables.{IsBroken}
-use Rattle.register_records.specs.TablesWritten.{table_fault}
 use Rattle.register_records.specs.TableStates.{is_of_table}
-use Rattle.register_records.specs.Views.{given_of, reader_failed, reading_of, reads_by, text_of}
-use Rattle.register_records.specs.declared.ends.Cause.{Cause}
 use Rattle.register_records.specs.declared.ends.Cause.TheVariants as cause
-use Rattle.register_records.specs.declared.ends.SourceEnd.{SourceEnd}
 use Rattle.register_records.specs.declared.ends.SourceEnd.TheVariants as end
-use Rattle.register_records.specs.declared.entries.Entry.{Entry}
 use Rattle.register_records.specs.declared.outputs.Output as outputs
-use Rattle.register_records.specs.declared.reading.EntryFault.{EntryFault}
 use Rattle.register_records.specs.declared.reading.EntryFault.TheVariants as fault
 use Rattle.register_records.specs.declared.reading.EntryReader.{EntryReader}
-use Rattle.register_records.specs.declared.setups.Setup.{Setup}
-use Rattle.register_records.specs.declared.tables.Table.{Table}
 use Rattle.register_records.proofs.TableLemmas.{Follows, all_rows, first_rows, front, kept, marked, of_reader}
 use Rattle.register_records.proofs.TableLemmas.{only_many, only_not_sealed, other_cause}
 

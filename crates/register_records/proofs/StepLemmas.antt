@@ -1,11 +1,10 @@
 -- What the reads of one entry, or of the end, say of the records that were left.
 use Rattle.std.proofs.Common.{◌≡◌, ℕ, List, [], ◌∷◌, Bool, Option, Some, None, true, false, refl, sym, ◌∙◌, arith}
-use Rattle.std.proofs.Common.{rules, IfSome, IfErr, IsErrAnd, Result}
-use Rattle.register_records.specs.Records.{Fields}
-use Rattle.register_records.specs.Seals.{Agrees, is_seal}
-use Rattle.register_records.specs.ReadingState.{Ends, HasEntry, IsNoSeal, LacksSeal, Reads, TakesFirst}
-use Rattle.register_records.specs.declared.setups.Form.{Form}
-use Rattle.register_records.specs.declared.setups.Form.TheVariants.{Sealed}
+use Rattle.std.proofs.Common.{rules, IfSome, IfErr, IsErrAnd, Result, Ok, Err}
+use Rattle.register_records.proofs.Common.{Fields, Agrees, is_seal, Ends, HasEntry, IsNoSeal, LacksSeal, Reads}
+use Rattle.register_records.proofs.Common.{TakesFirst, records_left, Entry, EntryFault, Form, Sealed}
+use Rattle.csv.specs.declared.reader.Reader.{Reader}
+use Rattle.register_records.specs.ReadingState.{EndsBehind, ReadsEntry}
 use Rattle.register_records.proofs.GivenLemmas.{before_none, if_some, no_seal_first, seal_first}
 
 -- of a read that found a record, or none
@@ -61,6 +60,22 @@ seal_ends left mid form count f e t is agrees last = rw e (f ∷ [], (f, refl, i
     taken_last (Some records) None t last = absurd t
     taken_last (Some records) (Some rest) t last = rw (t, last) refl
 
+-- what was found behind a seal, where there is no entry
+no_entry : {P : Type 0} → ◌≡◌ {A = Result Bool EntryFault} (Ok false) (Ok true) → P
+no_entry e = absurd (cc)
+
+no_date : {P Q : Type 0} → ◌≡◌ {A = Result Bool EntryFault} (Ok false) (Ok true) → Q → P
+no_date e same = no_entry e
+
+pub behind_seal : {S : Type 0} (remaining : S → Option (List ℕ)) (form : Form) (count : ℕ) (old mid new : Reader S)
+    (f : Fields) (entry : Entry) (is_same : Bool) (result : Result Bool EntryFault) → form ≡ Sealed
+    → TakesFirst (records_left remaining old) (records_left remaining mid) f → is_seal f ≡ true
+    → EndsBehind remaining count f mid new result → ReadsEntry remaining form count old new entry entry is_same result
+behind_seal remaining form count old mid new f entry is_same (Ok true) e t is ends = absurd (ends.none refl)
+behind_seal remaining form count old mid new f entry is_same (Ok false) e t is ends =
+    search (rules, seal_ends, no_entry, no_date)
+behind_seal remaining form count old mid new f entry is_same (Err fault) e t is ends = search (rules, seal_lacks)
+
 -- an entry's record is left
 pub entry_left : (left mid : Option (List Fields)) (form : Form) (f : Fields) → TakesFirst left mid f → IsNoSeal form f
     → IfSome left (HasEntry form)
@@ -73,6 +88,3 @@ plain_no_seal form f h = search rules
 
 pub other_no_seal : (form : Form) (f : Fields) → is_seal f ≡ false → IsNoSeal form f
 other_no_seal form f h = search rules
-
--- what a record behind a seal, or a seal that does not agree, says of the records that were left
-pub ruleset unlike_seal = (always, found, not_empty)

@@ -1,39 +1,30 @@
 -- What a table in the making holds, and what the output of a source has gained.
-use Rattle.std.proofs.Common.{◌≡◌, ◌+◌, ◌++◌, ℕ, Bool, List, [], ◌∷◌, length, map, Option, None, Some, refl, sym, ap, ◌∙◌}
-use Rattle.std.proofs.Common.{◌≢◌, ◌⊎◌, append_assoc, append-nil, arith, false, inl, inr, length-append, rules}
+use Rattle.std.proofs.Common.{◌≡◌, ◌+◌, ◌++◌, ℕ, Bool, List, [], ◌∷◌, length, map, Option, None, Some, refl, sym, ap}
+use Rattle.std.proofs.Common.{◌∙◌, ◌≢◌, ◌⊎◌, append_assoc, append-nil, arith, false, inl, inr, length-append, rules}
 use Rattle.std.proofs.Common.{subst, true}
-use Rattle.std.specs.Io.KnownBytes.{Appends, append_known}
-use Rattle.std.specs.List.{AllZip, Contains, range_with_len}
+use Rattle.register_records.proofs.Common.{Appends, AllZip, range_with_len, length-map, map-append, ∥∥₁_elim, ∥∥₁_map}
+use Rattle.register_records.proofs.Common.{Target, entry_fault_cause, AreNumberedFrom, HasAllEntries, HasEntries}
+use Rattle.register_records.proofs.Common.{HasFirstEntries, Reading, Numbered, IsRowOf, TableRow, entry_seen}
+use Rattle.register_records.proofs.Common.{IsFrontOfTable, Layout, heading_line, table_text, IsNextRow, table_fault}
+use Rattle.register_records.proofs.Common.{reading_of, row_seen, row_targets, Cause, SourceEnd, EntryFault, Row, Setup}
+use Rattle.register_records.proofs.Common.{Table}
+use Rattle.std.specs.Io.KnownBytes.{append_known}
+use Rattle.std.specs.List.{Contains}
 use Rattle.std.specs.Option.{is_some}
-use Rattle.std.proofs.lemmas.List.{length-map, map-append}
 use Rattle.std.proofs.lemmas.List.Elements.{Contains-append_right, Contains-push_cases}
 use Rattle.std.proofs.lemmas.Bool.{false_from_ne_true}
-use Rattle.std.proofs.Math.Logic.{∥∥₁_elim, ∥∥₁_map, ∥∥₁_prop}
-use Rattle.date_texts.specs.declared.target.Target.{Target}
-use Rattle.register_records.specs.Causes.{entry_fault_cause}
-use Rattle.register_records.specs.Entries.{AreNumberedFrom, HasAllEntries, HasEntries, HasFirstEntries, Reading}
-use Rattle.register_records.specs.Entries.{Numbered}
+use Rattle.std.proofs.Math.Logic.{∥∥₁_prop}
 use Rattle.register_records.specs.Laws.{TablesGrow}
-use Rattle.register_records.specs.Outcomes.{IsRowOf, TableRow}
-use Rattle.register_records.specs.Seen.{entry_seen}
-use Rattle.register_records.specs.Sources.{ArePartOfTable, Gains, IfWhole, IsFrontOfTable, IsTableOf, IsTableOfAll, IsWholeTable}
+use Rattle.register_records.specs.Sources.{ArePartOfTable, Gains, IfWhole, IsTableOf, IsTableOfAll, IsWholeTable}
 use Rattle.register_records.specs.TableStates.{fault_of, lines_waiting, lost_output}
-use Rattle.register_records.specs.Tables.{Layout, heading_line, journal_of, lines_text, refusal_notes, row_line}
-use Rattle.register_records.specs.Tables.{table_text}
-use Rattle.register_records.specs.TablesWritten.{HasEnded, Holds, IsNextRow, IsSameTable, IsTableSoFar, entries_seen}
-use Rattle.register_records.specs.TablesWritten.{has_lost_output, is_headed}
-use Rattle.register_records.specs.TablesWritten.{made_by, made_for, rows_seen, table_fault, waiting_of}
-use Rattle.register_records.specs.Views.{layout_of, line_of, reading_of, row_seen, row_targets, waiting_in, writes_by}
-use Rattle.register_records.specs.declared.ends.Cause.{Cause}
+use Rattle.register_records.specs.Tables.{journal_of, lines_text, refusal_notes, row_line}
+use Rattle.register_records.specs.TablesWritten.{HasEnded, Holds, IsSameTable, IsTableSoFar, entries_seen}
+use Rattle.register_records.specs.TablesWritten.{has_lost_output, is_headed, made_by, made_for, rows_seen, waiting_of}
+use Rattle.register_records.specs.Views.{layout_of, line_of, waiting_in, writes_by}
 use Rattle.register_records.specs.declared.ends.Cause.TheVariants as cause
-use Rattle.register_records.specs.declared.ends.SourceEnd.{SourceEnd}
 use Rattle.register_records.specs.declared.ends.SourceEnd.TheVariants as end
 use Rattle.register_records.specs.declared.outputs.Output as outputs
-use Rattle.register_records.specs.declared.reading.EntryFault.{EntryFault}
 use Rattle.register_records.specs.declared.reading.EntryFault.TheVariants as entry
-use Rattle.register_records.specs.declared.rows.Row.{Row}
-use Rattle.register_records.specs.declared.setups.Setup.{Setup}
-use Rattle.register_records.specs.declared.tables.Table.{Table}
 use Rattle.register_records.specs.declared.tables.TableState.{TableState}
 use Rattle.register_records.specs.declared.tables.TableState.TheVariants as state
 use Rattle.register_records.specs.declared.writing.RowWriter.{RowWriter}

@@ -1,7 +1,7 @@
 -- What an `EntryReader` knows of what it has yet to give. No public contract cites this file.
-use Rattle.std.specs.Prelude.{◌≡◌, ◌⊎◌, ◌<◌, ◌+◌, ◌++◌, ⊤, Bool, true, false, ℕ, List, [], ◌∷◌, length, Option, Some}
-use Rattle.std.specs.Prelude.{None, IfSome, IsTrue, option_map}
-use Rattle.csv.specs.Reading.{Ready, is_flexible, reader_config, reader_state, reader_trim, records_from, source_of}
+use Rattle.std.specs.Prelude.{◌≡◌, ◌≢◌, ◌≤◌, ◌⊎◌, ◌<◌, ◌+◌, ◌++◌, ⊤, Bool, true, false, ℕ, List, [], ◌∷◌, length, Option}
+use Rattle.std.specs.Prelude.{Some, None, Ok, OnOk, IfErr, IfSome, IsTrue, Result, option_map}
+use Rattle.csv.specs.Reading.{Ready, has_failed, is_flexible, reader_config, reader_state, reader_trim, records_from, source_of}
 use Rattle.csv.specs.Reading.{took_first}
 use Rattle.csv.specs.declared.error.ErrorKind.{ErrorKind}
 use Rattle.csv.specs.declared.error.ErrorKind.TheVariants as kind
@@ -9,8 +9,8 @@ use Rattle.csv.specs.declared.parser.Config.{Config}
 use Rattle.csv.specs.declared.parser.State.{State}
 use Rattle.csv.specs.declared.reader.Reader.{Reader}
 use Rattle.csv.specs.declared.reader.Trim.TheVariants as trim
-use Rattle.register_records.specs.Entries.{Fields, HasEntries, HasRecords, Numbered, Reading, body_of, body_seen}
-use Rattle.register_records.specs.Entries.{entries_from}
+use Rattle.register_records.specs.Entries.{Fields, HasEntries, HasRecords, HaveOneDate, Numbered, Reading, body_of}
+use Rattle.register_records.specs.Entries.{body_seen, entries_from, record_limit}
 use Rattle.register_records.specs.Seals.{Agrees, entry_records, is_seal}
 use Rattle.register_records.specs.declared.entries.Entry.{Entry}
 use Rattle.register_records.specs.declared.setups.Form.{Form}
@@ -93,6 +93,36 @@ LacksSeal form count records = (entry_records form records ≡ []) × ¬ (EndsAt
 -- what is left has an entry
 abbrev pub HasEntry : Form → List Fields → Type 0
 HasEntry form records = 0 < length (entry_records form records)
+
+-- behind this seal, which agrees with so many entries, such a reader finds no record, or a fault
+pub record EndsBehind {S : Type 0} (remaining : S → Option (List ℕ)) (count : ℕ) (seal : Fields) (old new : Reader S)
+    (result : Result Bool EntryFault) : Type 0 where
+  pub live : OnOk result (HasBegun new)
+  pub none : result ≢ Ok true
+  pub agrees : OnOk result (Agrees seal count)
+  pub last : OnOk result (IfSome (records_left remaining old) (λ left. left ≡ []))
+  pub not_sealed : IfErr result (λ e. e ≡ fault.NotSealed
+      → IfSome (records_left remaining old) (λ left. left ≡ [] → ¬ (Agrees seal count)))
+  pub never : IfErr result (λ e. (e ≢ fault.BadHeader) × (e ≢ fault.Failed) × (e ≢ fault.TooManyRecords))
+  pub read_fault : IfErr result (λ e. e ≡ fault.ReadFault → has_failed new ≡ true)
+
+-- a reader of csv that has begun reads the entry after so many into another, or finds an end, or a fault; and it says
+-- whether the date is that of what lay there
+pub record ReadsEntry {S : Type 0} (remaining : S → Option (List ℕ)) (form : Form) (count : ℕ) (old new : Reader S)
+    (before after : Entry) (is_same : Bool) (result : Result Bool EntryFault)
+    : Type 0 where
+  pub live : OnOk result (HasBegun new)
+  pub gives : result ≡ Ok true → Gives form count (records_left remaining old) (records_left remaining new) after
+  pub number : result ≡ Ok true → (after.number ≡ count + 1) × (after.number ≤ record_limit)
+  pub same : result ≢ Ok true → after ≡ before
+  pub same_date : result ≡ Ok true → is_same ≡ true → HaveOneDate (body_seen before.body) (body_seen after.body)
+  pub ends : result ≡ Ok false → Ends form count (records_left remaining old)
+  pub many : IfErr result (λ e. e ≡ fault.TooManyRecords
+      → (count ≡ record_limit) × IfSome (records_left remaining old) (HasEntry form))
+  pub not_sealed : IfErr result (λ e. e ≡ fault.NotSealed
+      → (form ≡ Sealed) × IfSome (records_left remaining old) (LacksSeal form count))
+  pub never : IfErr result (λ e. (e ≢ fault.BadHeader) × (e ≢ fault.Failed))
+  pub read_fault : IfErr result (λ e. e ≡ fault.ReadFault → has_failed new ≡ true)
 
 -- these entries are the first of a text, which may be unknown. While no call failed and none found that no entry is
 -- left, those of the records that are left follow them; once a call found it so, they are all

@@ -3,7 +3,7 @@
 //! They are made by hand, in memory that is used again: the writer of `csv` can be had back only by consuming it. All
 //! of the memory is filled once, so that a byte is put by a store, and a text by a copy.
 
-ghost use Rattle.std.specs.Prelude.{◌≡◌, ◌≤◌, ◌<◌, ◌+◌, ◌++◌, ◌∷◌, [], List, true, false, length, take, ℕ};
+ghost use Rattle.std.specs.Prelude.{◌≡◌, ◌≤◌, ◌<◌, ◌+◌, ◌++◌, ◌∷◌, [], List, true, false, length, ℕ};
 ghost use Rattle.std.specs.Prelude.{◌==◌, IfOk, IsOk, OnOk, if◌then◌else◌, vec_len};
 ghost use Rattle.std.specs.Fmt.{decimal};
 ghost use Rattle.csv.specs.Writing as Spec;
@@ -143,18 +143,6 @@ impl LineBuffer {
         };
         self.bytes.resize(end, 0)?;
         self.bytes.resize(self.bytes.capacity(), 0)
-    }
-
-    /// Begins a line by a field that needs no quotes.
-    #[inline(always)]
-    #[tactic(auto, using(crate::proofs::LineLemmas::only_field))]
-    pub(crate) fn begin(&mut self, field: &[u8])
-        requires unquoted { Spec.needs_quotes (writing self.old.delimiter) field.now ≡ false }
-        requires room { self.old.len + length field.now ≤ line_capacity self.old }
-        ensures value { Begins self.old.delimiter (line_bytes self.old) (field.now ∷ []) (line_bytes self.new) }
-        ensures grows { GrowsBy (length field.now) self.old self.new }
-    {
-        self.put(field);
     }
 
     /// Begins a line by a field, quoted where it must be.

@@ -5,10 +5,10 @@ ghost use Rattle.std.specs.Prelude.{Option};
 ghost use Rattle.csv.specs.Reading.{error_kind, has_failed, stops_reader};
 ghost use Rattle.csv.specs.Records.{fields_of};
 ghost use Rattle.register_records.specs.Entries.{HasFirstEntries, HaveOneDate, body_seen, record_limit};
-ghost use Rattle.register_records.specs.ReadingState.{Ends, Gives, HasBegun, HasEntry, IsLive, IsOfReading, LacksSeal};
+ghost use Rattle.register_records.specs.ReadingState.{EndsBehind, HasBegun, IsLive, IsOfReading, ReadsEntry};
 ghost use Rattle.register_records.specs.ReadingState.{Reads, HasRead, fault_of, reading_by, records_left};
 ghost use Rattle.register_records.specs.Retrying.{inner_remaining};
-ghost use Rattle.register_records.specs.Seals.{Agrees, is_seal as is_seal_record};
+ghost use Rattle.register_records.specs.Seals.{is_seal as is_seal_record};
 ghost use Rattle.register_records.specs.declared.reading.ReaderState.{ReaderState};
 
 use crate::entries::{Entry, MAX_RECORDS};
@@ -79,7 +79,7 @@ pub struct EntryReader<R: Read> {
     state: ReaderState,
     // How many entries were given, and whether the last has the calendar and the date of what lay in its place.
     count: u32,
-    same_date: bool,
+    pub(crate) same_date: bool,
     // For clauses alone: the reader underneath as it was, and the entries given.
     source: Snapshot<R>,
     given: EntryLog,
@@ -123,52 +123,27 @@ fn read_record<R: Read>(
     }
 }
 
-/// Finds that a seal agrees with so many entries and that no record follows it. It asks for one more record.
+/// Finds that a seal agrees with so many entries and that no record follows it, and returns `false`, since there is no
+/// entry. It asks for one more record.
 ///
 /// # Errors
 ///
 /// `NotSealed` where it does not agree or one follows, and the faults of reading.
-#[tactic(auto, using(crate::proofs::StepLemmas::unlike_seal))]
 fn read_behind_seal<R: Read>(
     records: &mut Reader<Retrying<R>>,
     csv_record: &mut ByteRecord,
     count: u32,
-) -> Result<(), EntryFault>
+) -> Result<bool, EntryFault>
     requires live { HasBegun records.old }
     requires seal { is_seal_record (fields_of csv_record.old) ≡ true }
-    ensures live { OnOk result (HasBegun records.new) }
-    ensures agrees { OnOk result (Agrees (fields_of csv_record.old) count) }
-    ensures last { OnOk result
-        (IfSome (records_left (inner_remaining R.remaining) records.old) (λ left. left ≡ [])) }
-    ensures not_sealed { IfErr result (λ e. e ≡ EntryFault.NotSealed
-        → IfSome (records_left (inner_remaining R.remaining) records.old)
-        (λ left. left ≡ [] → ¬ (Agrees (fields_of csv_record.old) count))) }
-    ensures never { IfErr result (λ e. (e ≢ EntryFault.BadHeader) × (e ≢ EntryFault.Failed)
-        × (e ≢ EntryFault.TooManyRecords)) }
-    ensures read_fault { IfErr result (λ e. e ≡ EntryFault.ReadFault → has_failed records.new ≡ true) }
+    ensures { EndsBehind (inner_remaining R.remaining) count (fields_of csv_record.old) records.old records.new result }
 {
     let agrees = agrees(csv_record, count);
-    let more = read_record(records, csv_record)?;
-    if more || !agrees {
-        return Err(EntryFault::NotSealed);
+    match read_record(records, csv_record) {
+        Ok(more) if more || !agrees => Err(EntryFault::NotSealed),
+        Ok(_) => Ok(false),
+        Err(fault) => Err(fault),
     }
-    Ok(())
-}
-
-/// The number of the entry after so many.
-///
-/// # Errors
-///
-/// `TooManyRecords` where there are as many as there may be.
-fn number_after(count: u32) -> Result<u32, EntryFault>
-    requires few { count ≤ record_limit }
-    ensures number { IfOk result (λ n. (n ≡ count + 1) × (n ≤ record_limit)) }
-    ensures many { IfErr result (λ e. (e ≡ EntryFault.TooManyRecords) × (count ≡ record_limit)) }
-{
-    if count >= MAX_RECORDS {
-        return Err(EntryFault::TooManyRecords);
-    }
-    Ok(count + 1)
 }
 
 /// Reads the entry after so many into `entry`, and finds whether its calendar and its date are those of what lay there.
@@ -185,34 +160,26 @@ fn read_entry<R: Read>(
 ) -> Result<bool, EntryFault>
     requires live { HasBegun records.old }
     requires few { count ≤ record_limit }
-    ensures live { OnOk result (HasBegun records.new) }
-    ensures gives { result ≡ Ok true
-        → Gives form count (records_left (inner_remaining R.remaining) records.old)
-        (records_left (inner_remaining R.remaining) records.new) entry.new }
-    ensures number { result ≡ Ok true → (entry.new.number ≡ count + 1) × (entry.new.number ≤ record_limit) }
-    ensures same { result ≢ Ok true → entry.new ≡ entry.old }
-    ensures same_date { result ≡ Ok true → same_date.new ≡ true
-        → HaveOneDate (body_seen entry.old.body) (body_seen entry.new.body) }
-    ensures ends { result ≡ Ok false → Ends form count (records_left (inner_remaining R.remaining) records.old) }
-    ensures many { IfErr result (λ e. e ≡ EntryFault.TooManyRecords → (count ≡ record_limit)
-        × IfSome (records_left (inner_remaining R.remaining) records.old) (HasEntry form)) }
-    ensures not_sealed { IfErr result (λ e. e ≡ EntryFault.NotSealed → (form ≡ Form.Sealed)
-        × IfSome (records_left (inner_remaining R.remaining) records.old) (LacksSeal form count)) }
-    ensures never { IfErr result (λ e. (e ≢ EntryFault.BadHeader) × (e ≢ EntryFault.Failed)) }
-    ensures read_fault { IfErr result (λ e. e ≡ EntryFault.ReadFault → has_failed records.new ≡ true) }
+    ensures { ReadsEntry (inner_remaining R.remaining) form count records.old records.new entry.old entry.new
+        same_date.new result }
 {
-    if !read_record(records, csv_record)? {
-        return match form {
-            Form::Plain => Ok(false),
-            Form::Sealed => Err(EntryFault::NotSealed),
-        };
+    match read_record(records, csv_record) {
+        Ok(true) => (),
+        Ok(false) => {
+            return match form {
+                Form::Plain => Ok(false),
+                Form::Sealed => Err(EntryFault::NotSealed),
+            };
+        }
+        Err(fault) => return Err(fault),
     }
     if form == Form::Sealed && is_seal(csv_record) {
-        read_behind_seal(records, csv_record, count)?;
-        return Ok(false);
+        return read_behind_seal(records, csv_record, count);
     }
-    let number = number_after(count)?;
-    *same_date = entry.set(number, csv_record, form);
+    if count >= MAX_RECORDS {
+        return Err(EntryFault::TooManyRecords);
+    }
+    *same_date = entry.set(count + 1, csv_record, form);
     Ok(true)
 }
 
@@ -309,13 +276,6 @@ impl<R: Read + Drop> EntryReader<R> {
             Err(_) => self.state = ReaderState::Failed,
         }
         found
-    }
-
-    /// Whether the entry that was read last has the calendar and the date of what lay in its place.
-    pub(crate) fn same_date(&self) -> bool
-        ensures { result ≡ self.now.same_date }
-    {
-        self.same_date
     }
 
     /// The next entry, or `None` at the end of the text, and again after it: `read_next` into an entry of its own.

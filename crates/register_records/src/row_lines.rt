@@ -34,7 +34,7 @@ fn put_entry_names(lines: &mut LineBuffer, has_notes: bool)
     ensures grows { GrowsBy entry_name_room lines.old lines.new }
 {
     let columns = entry_columns(has_notes);
-    lines.begin(columns[0].name().as_bytes());
+    lines.begin_quotable(columns[0].name().as_bytes());
     'columns: for i in 1..columns.len() {
         lines.field(columns[i].name().as_bytes());
     }
@@ -134,8 +134,8 @@ fn put_tail(lines: &mut LineBuffer, row: &Row)
     ensures value { GainsFields lines.old.delimiter (tail_fields row.now) (line_bytes lines.old) (line_bytes lines.new) }
     ensures grows { GrowsBy TAIL_ROOM lines.old lines.new }
 {
-    if row.tail().delimiter() == lines.delimiter() {
-        lines.written(row.tail().as_slice());
+    if row.tail.delimiter == lines.delimiter() {
+        lines.written(row.tail.as_slice());
     } else {
         lines.written(row.tail_with(lines.delimiter()).as_slice());
     }

@@ -45,7 +45,8 @@ pub const TAIL_ROOM: usize = (1 + DAY_NUMBER_LIMIT)
 pub(crate) struct RowTail {
     buffer: [u8; TAIL_ROOM],
     len: u16,
-    delimiter: u8,
+    // The byte before each field.
+    pub(crate) delimiter: u8,
     ghost held: { len ≤ TAIL_ROOM },
     ghost separated: { is_delimiter delimiter ≡ true },
     ghost plain: { take len buffer ≡ fields_text (writing delimiter) (fields_behind delimiter (take len buffer)) },
@@ -152,13 +153,6 @@ impl RowTail {
             len: 0,
             delimiter,
         }
-    }
-
-    /// The byte before each field.
-    pub fn delimiter(&self) -> u8
-        ensures { result ≡ self.now.delimiter }
-    {
-        self.delimiter
     }
 
     /// The bytes.
@@ -279,7 +273,7 @@ impl RowTail {
         ensures grows { self.new.len ≤ self.old.len + plain_room ColumnKind.Cells }
         ensures delimiter { self.new.delimiter ≡ self.old.delimiter }
     {
-        if targets.are_default() {
+        if targets.are_default {
             self.push_default_cells(outcome);
         } else {
             self.push_listed_cells(targets.as_slice(), outcome);
@@ -359,6 +353,6 @@ impl RowTail {
     {
         is_same_outcome(outcome, next)
             && self.delimiter == setup.delimiter()
-            && targets.is_same(setup.target_list())
+            && targets.is_same(&setup.targets)
     }
 }

@@ -30,7 +30,7 @@ pub struct Row {
     entry: Entry,
     outcome: Result<Day, Refusal>,
     targets: TargetList,
-    tail: RowTail,
+    pub(crate) tail: RowTail,
     pub ghost is_row: { ∥ IsRowOf (items_in targets.items) (entry_seen entry)
         (row_made entry outcome (cells_of (items_in targets.items) outcome tail)) ∥₁ },
     ghost written: { fields_of tail ≡ tail_texts (items_in targets.items) (outcome_seen outcome)
@@ -120,9 +120,9 @@ fn reconvert(
     if tail.stands(targets, *outcome, setup, next) {
         return;
     }
-    tail.set(setup.target_list(), next, setup.delimiter());
+    tail.set(&setup.targets, next, setup.delimiter());
     *outcome = next;
-    *targets = *setup.target_list();
+    *targets = setup.targets;
 }
 
 impl Row {
@@ -196,10 +196,10 @@ impl Row {
         let before = Snapshot::of(self.entry.body());
         match entries.read_next(&mut self.entry) {
             Ok(true) => (),
-            other => return other,
+            Ok(false) => return Ok(false),
+            Err(fault) => return Err(fault),
         }
-        let same_date = entries.same_date();
-        let next = next_outcome(before, self.outcome, self.entry.body(), same_date);
+        let next = next_outcome(before, self.outcome, self.entry.body(), entries.same_date);
         reconvert(
             &self.entry,
             next,
@@ -246,14 +246,7 @@ impl Row {
         self.tail.cells(count)
     }
 
-    /// The fields of the row behind those of its entry, as a table with its tail's delimiter has them.
-    pub(crate) fn tail(&self) -> &RowTail
-        ensures { result.now ≡ self.now.tail }
-    {
-        &self.tail
-    }
-
-    /// The same for a table with another delimiter, written anew.
+    /// The fields of the row behind those of its entry, as a table with another delimiter has them: written anew.
     #[inline(never)]
     pub(crate) fn tail_with(&self, delimiter: u8) -> RowTail
         requires { is_delimiter delimiter ≡ true }
@@ -270,7 +263,7 @@ impl Row {
     pub fn delimiter(&self) -> u8
         ensures { result ≡ row_delimiter self.now }
     {
-        self.tail.delimiter()
+        self.tail.delimiter
     }
 
     /// Appends to a line what a table with the same delimiter shows of the row behind its entry, without the first
@@ -285,7 +278,7 @@ impl Row {
     {
         let mut bytes = self.tail.as_slice();
         'passed: for _ in 0..passed {
-            bytes = behind_field(bytes, self.tail.delimiter());
+            bytes = behind_field(bytes, self.tail.delimiter);
         }
         lines.written(bytes);
     }
@@ -294,7 +287,7 @@ impl Row {
     pub fn is_for(&self, setup: &Setup) -> bool
         ensures { (result ≡ true) ↔ (row_targets self.now ≡ targets_of setup.now) }
     {
-        self.targets.is_same(setup.target_list())
+        self.targets.is_same(&setup.targets)
     }
 
     /// What the journal gains by the row: its number and its refusal, where it was refused.

@@ -1,7 +1,6 @@
 //! What a conversion is asked for.
 
 ghost use Rattle.std.specs.Prelude.{◌≡◌, ◌≤◌, ◌<◌, ◌↔◌, ◌≢◌, ◌∷◌, [], ℕ, length, IfOk, Err, true, false, slice_get};
-ghost use Rattle.register_records.specs.ShortLists.{items_in};
 ghost use Rattle.register_records.specs.SetupRules.{NamesTwice, is_delimiter, is_ring_size, is_stripe_count};
 
 use crate::target_lists::TargetList;
@@ -52,7 +51,7 @@ impl Form {
 /// The targets, the size of the rings, the delimiter, the number of converters and the form of a conversion.
 #[derive(Clone, Copy)]
 pub struct Setup {
-    targets: TargetList,
+    pub(crate) targets: TargetList,
     ring: usize,
     delimiter: u8,
     stripes: usize,
@@ -163,13 +162,6 @@ impl Setup {
         ensures few { length result.now ≤ MAX_TARGETS }
     {
         self.targets.as_slice()
-    }
-
-    /// The targets as a list to be kept.
-    pub(crate) fn target_list(&self) -> &TargetList
-        ensures { items_in result.now.items ≡ targets_of self.now }
-    {
-        &self.targets
     }
 
     /// How many items a ring holds, from 1 to 4096.

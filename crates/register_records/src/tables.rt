@@ -218,8 +218,10 @@ impl<W: Output> Table<W> {
         ensures sink { IfErr result (λ c. c ≡ cause.SinkFault → W.has_failed output.new ≡ true) }
         ensures mark { W.own_mark output.new ≡ W.own_mark output.old }
     {
-        self.add_next(row)?;
-        self.send_lines(output)
+        match self.add_next(row) {
+            Ok(()) => self.send_lines(output),
+            Err(cause) => Err(cause),
+        }
     }
 
     /// Whether the heading was written, and the row has the next number and the setup's targets.

@@ -24,7 +24,7 @@ pub(crate) struct TargetList {
     items: ShortList<Target>,
     ranks: [u8; RANK_ROOM],
     // Whether they are known to be the default ones in their order.
-    are_default: bool,
+    pub(crate) are_default: bool,
     ghost ranked: { ranks ≡ ranks_in RANK_ROOM (items_in items) },
     ghost default: { are_default ≡ true → items_in items ≡ default_targets },
 }
@@ -69,13 +69,6 @@ impl TargetList {
         ensures few { length result.now ≤ MAX_TARGETS }
     {
         self.items.as_slice()
-    }
-
-    /// Whether they are known to be the default targets in their order.
-    pub fn are_default(&self) -> bool
-        ensures { result ≡ true → items_in self.now.items ≡ default_targets }
-    {
-        self.are_default
     }
 
     /// Whether the other list has the same targets in the same order.

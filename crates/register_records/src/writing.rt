@@ -238,8 +238,10 @@ impl RowWriter {
             → (result ≡ Err RowFault.Failed) × (output.new ≡ output.old) × (self.new ≡ self.old) }
         ensures mark { W.own_mark output.new ≡ W.own_mark output.old }
     {
-        self.add(row)?;
-        self.send(output)
+        match self.add(row) {
+            Ok(()) => self.send(output),
+            Err(fault) => Err(fault),
+        }
     }
 
     /// Ends the writing.

@@ -1,6 +1,5 @@
 use Rattle.std.proofs.Common.{◌≡◌, take}
-use Rattle.std.specs.List.{list_all}
-use Rattle.register_records.specs.BareTexts.{is_plain_byte}
+use Rattle.register_records.proofs.Common.{list_all, is_plain_byte}
 use Rattle.register_records.proofs.entries.are_plain.Given as goal
 
 abbrev pub invariant-bytes : goal.invariant-bytes

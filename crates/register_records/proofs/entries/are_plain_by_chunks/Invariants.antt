@@ -1,6 +1,5 @@
 use Rattle.std.proofs.Common.{◌≡◌, ◌-◌, drop, length, take, true}
-use Rattle.register_records.specs.BareTexts.{IsPlain}
-use Rattle.register_records.specs.declared.entries.TheConstants.{CHUNK}
+use Rattle.register_records.proofs.Common.{IsPlain, CHUNK}
 use Rattle.register_records.proofs.BareLemmas.{ArePlain}
 use Rattle.register_records.proofs.entries.are_plain_by_chunks.Given as goal
 

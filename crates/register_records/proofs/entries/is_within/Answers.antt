@@ -1,4 +1,4 @@
-use Rattle.std.proofs.lemmas.Str.{is_utf8-from_IsUtf8}
+use Rattle.register_records.proofs.Common.{is_utf8-from_IsUtf8}
 use Rattle.register_records.proofs.entries.is_within.Goals as goal
 
 pub returns-clause-is_text : goal.returns-clause-is_text

@@ -1,6 +1,5 @@
 use Rattle.std.proofs.Common.{arith, rules}
-use Rattle.csv.proofs.WriteFacts.{slice-end}
-use Rattle.std.proofs.lemmas.Bool.Decides.{nat_tests}
+use Rattle.register_records.proofs.Common.{slice-end, nat_tests}
 use Rattle.register_records.proofs.HeaderLemmas.{mark_not, mark_there}
 use Rattle.csv.proofs.ReadFacts.{strip-short}
 use Rattle.register_records.proofs.header.without_mark.Goals as goal

@@ -1,4 +1,4 @@
-use Rattle.register_records.specs.Views.{row_seen}
+use Rattle.register_records.proofs.Common.{row_seen}
 use Rattle.register_records.proofs.laws.every_entry_has_row.Goals as goal
 
 pub returns : goal.returns

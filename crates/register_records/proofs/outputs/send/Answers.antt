@@ -1,7 +1,6 @@
 use Rattle.std.proofs.Common.{◌≡◌, ◌≢◌, ◌∙◌, ℕ, Bool, arith, rules, take-add, length-drop, ◌==◌, ◌&&◌, ◌||◌}
-use Rattle.std.proofs.lemmas.Bool.Decides.{nat_tests}
+use Rattle.register_records.proofs.Common.{nat_tests, slice-end}
 use Rattle.std.proofs.KnownBytes.{Appends-trans}
-use Rattle.csv.proofs.WriteFacts.{slice-end}
 use Rattle.register_records.proofs.outputs.send.Goals as goal
 
 -- an offer that took some did not fail

@@ -1,6 +1,5 @@
 use Rattle.std.proofs.Common.{rules}
-use Rattle.csv.specs.Records.{fields_of}
-use Rattle.register_records.specs.Retrying.{inner_remaining}
+use Rattle.register_records.proofs.Common.{fields_of, inner_remaining}
 use Rattle.register_records.proofs.EntryStepLemmas.{reads}
 use Rattle.register_records.proofs.reading.read_record.Goals as goal
 

@@ -1,12 +1,8 @@
 use Rattle.std.proofs.Common.{◌∷◌, ◌∙◌, [], arith, map, refl}
-use Rattle.std.specs.Fmt.{decimal}
-use Rattle.register_records.specs.Columns.{entry_order}
+use Rattle.register_records.proofs.Common.{decimal, entry_order, Begins, line_bytes, entry_field, text_shown, row_seen}
+use Rattle.register_records.proofs.Common.{Id, Note}
 use Rattle.register_records.specs.Entries.{body_seen}
-use Rattle.register_records.specs.LineRoom.{Begins}
-use Rattle.register_records.specs.LineViews.{line_bytes}
-use Rattle.register_records.specs.TableColumns.{entry_field, text_shown}
-use Rattle.register_records.specs.Views.{row_seen}
-use Rattle.register_records.specs.declared.table_columns.ColumnKind.TheVariants.{Calendar, Date, Id, Note}
+use Rattle.register_records.specs.declared.table_columns.ColumnKind.TheVariants.{Calendar, Date}
 use Rattle.register_records.proofs.LineLemmas.{gained, same_body}
 use Rattle.register_records.proofs.row_lines.put_entry.Goals as goal
 use Rattle.register_records.proofs.row_lines.put_entry.Goals.{After-put_column-3}

@@ -1,8 +1,5 @@
 use Rattle.std.proofs.Common.{◌*◌, ◌+◌, map, take}
-use Rattle.register_records.specs.Columns.{entry_order}
-use Rattle.register_records.specs.LineRoom.{Begins, field_room, name_limit}
-use Rattle.register_records.specs.LineViews.{GrowsBy, line_bytes}
-use Rattle.register_records.specs.TableColumns.{kind_name}
+use Rattle.register_records.proofs.Common.{entry_order, Begins, field_room, name_limit, GrowsBy, line_bytes, kind_name}
 use Rattle.register_records.proofs.row_lines.put_entry_names.Given as goal
 
 abbrev pub invariant-columns : goal.invariant-columns

@@ -1,8 +1,5 @@
 use Rattle.std.proofs.Common.{◌∙◌, ℕ, List, ap, append-nil, map, subst, sym, rules}
-use Rattle.std.proofs.lemmas.List.{take_all}
-use Rattle.date_texts.specs.Calendars.{target_name}
-use Rattle.register_records.specs.LineRoom.{GainsFields}
-use Rattle.register_records.specs.LineViews.{line_bytes}
+use Rattle.register_records.proofs.Common.{take_all, target_name, GainsFields, line_bytes}
 use Rattle.register_records.proofs.LineLemmas.{name_columns, same_body}
 use Rattle.register_records.proofs.row_lines.put_target_names.Goals as goal
 

@@ -1,7 +1,5 @@
 use Rattle.std.proofs.Common.{◌+◌, ◌*◌, map, take}
-use Rattle.date_texts.specs.Calendars.{target_name}
-use Rattle.register_records.specs.LineRoom.{GainsFields, field_room, name_limit}
-use Rattle.register_records.specs.LineViews.{GrowsBy, line_bytes}
+use Rattle.register_records.proofs.Common.{target_name, GainsFields, field_room, name_limit, GrowsBy, line_bytes}
 use Rattle.register_records.proofs.row_lines.put_target_names.Given as goal
 
 abbrev pub invariant-targets : goal.invariant-targets

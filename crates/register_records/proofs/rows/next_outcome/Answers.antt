@@ -1,4 +1,4 @@
-use Rattle.std.proofs.Math.Logic.{∥∥₁_map}
+use Rattle.register_records.proofs.Common.{∥∥₁_map}
 use Rattle.register_records.proofs.OneTableLemmas.{known_outcome}
 use Rattle.register_records.proofs.OutcomeLemmas.{outcome_of_same}
 use Rattle.register_records.proofs.rows.next_outcome.Goals as goal

@@ -1,4 +1,4 @@
-use Rattle.csv.specs.Records.{fields_of}
+use Rattle.register_records.proofs.Common.{fields_of}
 use Rattle.register_records.proofs.SealLemmas.{agrees_by_second, second_there}
 use Rattle.register_records.proofs.seals.number_in.Goals as goal
 

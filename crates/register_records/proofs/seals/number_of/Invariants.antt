@@ -1,5 +1,5 @@
 use Rattle.std.proofs.Common.{◌≡◌, ◌<◌, ◌^◌, true, take}
-use Rattle.date_texts.proofs.TextWords.{all_digits, value_after}
+use Rattle.register_records.proofs.Common.{all_digits, value_after}
 use Rattle.register_records.proofs.seals.number_of.Given as goal
 
 abbrev pub invariant-digits : goal.invariant-digits

@@ -1,12 +1,8 @@
 use Rattle.std.proofs.Common.{◌≡◌, ◌≢◌, ◌∙◌, ◌+◌, ◌++◌, ◌∷◌, [], None, Some, ap, inl, inr, length, refl, sym, ℕ}
-use Rattle.std.proofs.lemmas.List.{length-map, map-append}
-use Rattle.register_records.specs.Causes.{entry_fault_cause}
-use Rattle.register_records.specs.Entries.{HasEntries, HasFirstEntries}
-use Rattle.register_records.specs.Seen.{entry_seen}
-use Rattle.register_records.specs.TablesWritten.{IsNextRow, table_fault}
-use Rattle.register_records.specs.Views.{given_of, targets_of, text_of}
+use Rattle.register_records.proofs.Common.{length-map, map-append, entry_fault_cause, HasEntries, HasFirstEntries}
+use Rattle.register_records.proofs.Common.{entry_seen, IsNextRow, table_fault, given_of, text_of, Row}
+use Rattle.register_records.specs.Views.{targets_of}
 use Rattle.register_records.specs.declared.ends.Cause.TheVariants as cause
-use Rattle.register_records.specs.declared.rows.Row.{Row}
 use Rattle.register_records.proofs.SourceTableLemmas.{broken_by_reader, broken_by_table, fewer_left, of_row}
 use Rattle.register_records.proofs.StepLemmas.{passed_on}
 use Rattle.register_records.proofs.TableLemmas.{Follows, faultless, flushed, kept, marked, of_reader, other_cause}

@@ -1,7 +1,6 @@
 use Rattle.std.proofs.Common.{◌≡◌, ◌-◌, None, false, length}
-use Rattle.register_records.specs.Entries.{record_limit}
-use Rattle.register_records.specs.TablesWritten.{table_fault}
-use Rattle.register_records.specs.Views.{given_of, reader_failed, reading_of, reads_by, text_of}
+use Rattle.register_records.proofs.Common.{record_limit, table_fault, given_of, reader_failed, reading_of, reads_by}
+use Rattle.register_records.proofs.Common.{text_of}
 use Rattle.register_records.proofs.TableLemmas.{Follows}
 use Rattle.register_records.proofs.sources.write_table.Given as goal
 

@@ -1,7 +1,5 @@
 use Rattle.std.proofs.Common.{◌≡◌, ◌<◌, ℕ, false, get_or}
-use Rattle.date_texts.specs.Calendars.{all_targets}
-use Rattle.date_texts.specs.declared.target.Target.TheVariants.{Haab}
-use Rattle.register_records.specs.TargetRanks.{have_one_name}
+use Rattle.register_records.proofs.Common.{all_targets, Haab, have_one_name}
 use Rattle.register_records.proofs.target_lists.rank.Given as goal
 
 abbrev pub invariant-ranks : goal.invariant-ranks

@@ -1,13 +1,8 @@
 use Rattle.std.proofs.Common.{◌≡◌, ◌∙◌, ap, arith, length, rules, sym}
-use Rattle.csv.specs.Reading.{default_config, reader_config}
-use Rattle.csv.specs.Records.{fields_of}
-use Rattle.register_records.specs.ReadingState.{records_left}
-use Rattle.register_records.specs.Retrying.{inner_remaining}
+use Rattle.register_records.proofs.Common.{default_config, reader_config, fields_of, records_left, inner_remaining}
 use Rattle.register_records.proofs.EntryStepLemmas.{at_start}
 use Rattle.register_records.proofs.GivenLemmas.{first_step, may_first}
 use Rattle.register_records.proofs.reading.EntryReader.open.Goals as goal
-use Rattle.register_records.proofs.reading.EntryReader.open.Goals.{then-not-found-via-else-not-found+then-not-is_header}
-use Rattle.register_records.proofs.reading.EntryReader.open.Goals.{then-not-found-via-then-not-found}
 
 pub read_record-requires : goal.read_record-requires
 read_record-requires g c = search rules

@@ -1,11 +1,11 @@
 use Rattle.std.proofs.Common.{◌≡◌, ◌∙◌, ◌∷◌, [], ap, arith, length, length-append, refl, rules, sym, true}
-use Rattle.register_records.specs.Seen.{entry_seen}
+use Rattle.register_records.proofs.Common.{entry_seen}
 use Rattle.register_records.proofs.GivenLemmas.{may_above, may_all, may_end, may_ended, may_fail, may_first, may_lack}
 use Rattle.register_records.proofs.GivenLemmas.{may_many, may_more}
 use Rattle.register_records.proofs.reading.EntryReader.read_next.Goals as goal
 
-pub returns-in-Ended-clause-reads : goal.returns-in-Ended-clause-reads
-returns-in-Ended-clause-reads g c = search (rules, may_ended)
+pub returns-in-Ended : goal.returns-in-Ended
+returns-in-Ended g c = search (rules, may_ended)
 
 pub invariant_of-self : goal.invariant_of-self
 invariant_of-self g c =
@@ -30,8 +30,8 @@ invariant_of-self-in-Ok-false-clause-has_read g c = search (rules, may_end)
 pub invariant_of-self-in-Err-clause-has_read : goal.invariant_of-self-in-Err-clause-has_read
 invariant_of-self-in-Err-clause-has_read g c = search (rules, may_fail)
 
-pub returns-in-Ok-false-clause-reads : goal.returns-in-Ok-false-clause-reads
-returns-in-Ok-false-clause-reads g c = search (rules, may_all)
+pub returns-in-Ok-false : goal.returns-in-Ok-false
+returns-in-Ok-false g c = search (rules, may_all)
 
-pub returns-in-Err-clause-reads : goal.returns-in-Err-clause-reads
-returns-in-Err-clause-reads g c = search (rules, may_many, may_lack, may_above)
+pub returns-in-Err : goal.returns-in-Err
+returns-in-Err g c = search (rules, may_many, may_lack, may_above)

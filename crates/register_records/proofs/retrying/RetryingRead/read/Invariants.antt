@@ -1,4 +1,4 @@
-use Rattle.std.specs.Io.KnownBytes.{Keeps}
+use Rattle.register_records.proofs.Common.{Keeps}
 use Rattle.register_records.proofs.retrying.RetryingRead.read.Given as goal
 
 abbrev pub invariant-tries : goal.invariant-tries

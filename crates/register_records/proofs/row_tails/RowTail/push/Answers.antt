@@ -1,5 +1,4 @@
-use Rattle.byte_buffers.proofs.BufferLemmas.{put_then}
-use Rattle.register_records.specs.RowTails.{tail_bytes}
+use Rattle.register_records.proofs.Common.{put_then, tail_bytes}
 use Rattle.register_records.proofs.RowTailLemmas.{grown}
 use Rattle.register_records.proofs.row_tails.RowTail.push.Goals as goal
 

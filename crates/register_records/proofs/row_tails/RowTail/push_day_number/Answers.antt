@@ -1,7 +1,5 @@
 use Rattle.std.proofs.Common.{◌∷◌, [], rules, take, to_z-of_z, FitsSigned, w64}
-use Rattle.std.specs.Fmt.{signed_decimal}
-use Rattle.byte_buffers.proofs.BufferLemmas.{put_then}
-use Rattle.register_records.specs.RowTails.{tail_bytes}
+use Rattle.register_records.proofs.Common.{signed_decimal, put_then, tail_bytes}
 use Rattle.register_records.proofs.LineLemmas.{plain_day}
 use Rattle.register_records.proofs.RowTailLemmas.{Grown, grown}
 use Rattle.register_records.proofs.row_tails.RowTail.push_day_number.Goals as goal

@@ -1,8 +1,5 @@
 use Rattle.std.proofs.Common.{List, arith, subst, rules, sym, take}
-use Rattle.std.proofs.lemmas.List.{take_all, take_more}
-use Rattle.date_texts.specs.declared.target.Target.{Target}
-use Rattle.register_records.specs.RowTails.{tail_bytes}
-use Rattle.register_records.specs.Seen.{outcome_seen}
+use Rattle.register_records.proofs.Common.{take_all, take_more, Target, tail_bytes, outcome_seen}
 use Rattle.register_records.proofs.RowTailLemmas.{HasCells, all_cells, no_cell, one_more_cell}
 use Rattle.register_records.proofs.row_tails.RowTail.push_listed_cells.Goals as goal
 

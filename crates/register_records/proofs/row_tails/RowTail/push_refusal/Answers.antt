@@ -1,6 +1,5 @@
 use Rattle.std.proofs.Common.{◌≡◌, ◌∙◌, ap, arith}
-use Rattle.std.specs.Fmt.{decimal}
-use Rattle.date_texts.specs.Refusals.{refusal_number}
+use Rattle.register_records.proofs.Common.{decimal, refusal_number}
 use Rattle.register_records.proofs.RowTailLemmas.{Fits, refusal_fits}
 use Rattle.register_records.proofs.row_tails.RowTail.push_refusal.Goals as goal
 use Rattle.register_records.proofs.row_tails.RowTail.push_refusal.Goals.{After-as_bytes}

@@ -1,8 +1,6 @@
 use Rattle.std.proofs.Common.{◌≡◌, ◌∙◌, ℕ, List, ap, arith, drop, subst, sym}
 use Rattle.csv.specs.Writing.{fields_text}
-use Rattle.register_records.specs.LineRoom.{GainsFields, writing}
-use Rattle.register_records.specs.LineViews.{line_bytes}
-use Rattle.register_records.specs.Views.{row_seen, row_targets, tail_fields}
+use Rattle.register_records.proofs.Common.{GainsFields, writing, line_bytes, row_seen, row_targets, tail_fields}
 use Rattle.register_records.proofs.LineLemmas.{tail_alike}
 use Rattle.register_records.proofs.RowTailLemmas.{one_passed}
 use Rattle.register_records.proofs.rows.Row.put_tail_from.Goals as goal
@@ -22,7 +20,7 @@ passed-preserved c =
     record {
       behind = one_passed row.tail.delimiter row.tail.separated row.outcome (row_targets row) (row_seen row).cells
           c.passed.counter c.passed.bytes.now c.behind_field-bytes.result.now (omega arith) inv.behind
-          (rw c.delimiter.ensures at c.behind_field-bytes.ensures.value);
+          c.behind_field-bytes.ensures.value;
       short = omega (arith, c.behind_field-bytes.ensures.short, inv.short);
     }
 

@@ -1,10 +1,5 @@
 use Rattle.std.proofs.Common.{◌≡◌, ◌∙◌, List, ℕ, ap}
-use Rattle.std.proofs.Math.Logic.{∥∥₁_elim}
-use Rattle.std.proofs.Props.{props}
-use Rattle.register_records.specs.RowTails.{cells_of}
-use Rattle.register_records.specs.Seen.{outcome_seen}
-use Rattle.register_records.specs.TableColumns.{tail_texts}
-use Rattle.register_records.specs.Views.{row_targets}
+use Rattle.register_records.proofs.Common.{∥∥₁_elim, props, cells_of, outcome_seen, tail_texts, row_targets}
 use Rattle.register_records.proofs.RowTailLemmas.{one_cells}
 use Rattle.register_records.proofs.rows.Row.tail_with.Goals as goal
 

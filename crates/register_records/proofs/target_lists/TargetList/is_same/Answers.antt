@@ -1,10 +1,6 @@
 use Rattle.std.proofs.Common.{◌≡◌, ◌≤◌, ◌*◌, ◌∙◌, ap, arith, length, length-take, rules, sym, take_all}
-use Rattle.date_texts.specs.declared.target.Target.{Target}
-use Rattle.register_records.specs.ShortLists.{items_in}
+use Rattle.register_records.proofs.Common.{Target, items_in, WORD_LEN, RANK_ROOM, ranks_in}
 use Rattle.register_records.specs.declared.short_lists.ShortList.{ShortList}
-use Rattle.byte_buffers.specs.declared.comparing.TheConstants.{WORD_LEN}
-use Rattle.register_records.specs.declared.target_lists.TheConstants.{RANK_ROOM}
-use Rattle.register_records.specs.TargetRanks.{ranks_in}
 use Rattle.register_records.proofs.TargetRankLemmas.{more_compared, one_list}
 use Rattle.register_records.proofs.target_lists.TargetList.is_same.Goals as goal
 

@@ -1,5 +1,5 @@
 use Rattle.std.proofs.Common.{◌≡◌, ◌*◌, take, true, ◌↔◌}
-use Rattle.byte_buffers.specs.declared.comparing.TheConstants.{WORD_LEN}
+use Rattle.register_records.proofs.Common.{WORD_LEN}
 use Rattle.register_records.proofs.target_lists.TargetList.is_same.Given as goal
 
 abbrev pub invariant-words : goal.invariant-words

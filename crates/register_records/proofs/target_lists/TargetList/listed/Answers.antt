@@ -1,6 +1,5 @@
 use Rattle.std.proofs.Common.{◌∙◌, add-one, arith, sym}
-use Rattle.std.proofs.lemmas.List.{take_more}
-use Rattle.register_records.specs.declared.target_lists.TheConstants.{RANK_ROOM}
+use Rattle.register_records.proofs.Common.{take_more, RANK_ROOM}
 use Rattle.register_records.proofs.TargetRankLemmas.{more_ranks}
 use Rattle.register_records.proofs.target_lists.TargetList.listed.Goals as goal
 

@@ -1,7 +1,5 @@
 use Rattle.std.proofs.Common.{◌≡◌, take}
-use Rattle.register_records.specs.declared.target_lists.TheConstants.{RANK_ROOM}
-use Rattle.register_records.specs.ShortLists.{items_in}
-use Rattle.register_records.specs.TargetRanks.{ranks_in}
+use Rattle.register_records.proofs.Common.{RANK_ROOM, items_in, ranks_in}
 use Rattle.register_records.proofs.target_lists.TargetList.listed.Given as goal
 
 abbrev pub invariant-targets : goal.invariant-targets

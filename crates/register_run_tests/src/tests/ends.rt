@@ -2,11 +2,10 @@
 //! what was sent before the sender was dropped is taken.
 
 use super::Host;
-use lane_rings::{Item, Receiver, Sender, lane};
-use std::alloc::{AllocError, Global};
+use lane_rings::{Gone, Item, Receiver, Sender, lane};
+use std::alloc::Global;
 use std::sync::Wait;
-use std::sync::atomic::{AtomicU64, Ordering};
-use std::test::Fail;
+use std::sync::atomic::{AtomicBool, AtomicU32, Ordering};
 use std::thread;
 use std::time::{Clock, CpuClock};
 
@@ -19,19 +18,39 @@ const FEW: u32 = 20;
 /// How often a receiver looks in vain.
 const MOST_LOOKS: u32 = 100_000_000;
 
-/// Which end waits between two items.
-#[derive(Clone, Copy, PartialEq)]
-enum Slow {
-    Sender,
-    Receiver,
-    Neither,
+/// How a receiver gets what is there.
+#[derive(Clone, Copy)]
+enum Way {
+    Look,
+    Try,
+    Take,
 }
 
-const SLOW: [(Slow, &str); 3] = [
-    (Slow::Sender, "the sender is slow"),
-    (Slow::Receiver, "the receiver is slow"),
-    (Slow::Neither, "neither is slow"),
-];
+/// Lanes between two threads, one after the other.
+#[derive(Clone, Copy)]
+struct Trial {
+    lanes: u32,
+    // How many items are sent over each, and how many are taken at most before its receiver is dropped.
+    sent: u32,
+    taken: u32,
+    way: Way,
+    // Which end waits between two items.
+    slow_sender: bool,
+    slow_receiver: bool,
+}
+
+impl Trial {
+    /// Whether so many items were taken, and the senders have seen so many sent: all of each lane, where its receiver
+    /// waits for its end, and else, of one lane, less than all.
+    fn is_met(self, taken: u32, sent: u32) -> bool {
+        let most = self.sent.saturating_mul(self.lanes);
+        if self.sent < self.taken {
+            (taken, sent) == (most, most)
+        } else {
+            taken == self.taken && (taken..most).contains(&sent)
+        }
+    }
+}
 
 /// Gives the processor away for a while.
 fn linger(slow: bool) {
@@ -42,272 +61,185 @@ fn linger(slow: bool) {
     }
 }
 
-/// Sends the items from 0 on and drops the sender, or stops where the receiver is gone.
-fn send_items(rt: &(impl Wait + Clock + CpuClock), sender: Sender<u32>, slow: bool) {
-    let mut sender = sender;
-    for item in 0..ITEMS {
-        linger(slow);
-        if sender.send(rt, item).is_err() {
-            return;
-        }
-    }
-}
-
-/// Takes items until the sender is gone, and says how many came in order.
-fn take_items(rt: &(impl Wait + Clock + CpuClock), receiver: Receiver<u32>, slow: bool) -> u32 {
-    let mut receiver = receiver;
-    for item in 0..ITEMS {
-        linger(slow);
-        if receiver.take(rt) != Ok(Item::Entry(item)) {
-            return item;
-        }
-    }
-    if receiver.take(rt).is_err() { ITEMS } else { 0 }
-}
-
-/// The same without a wait.
-fn try_items(receiver: Receiver<u32>, slow: bool) -> u32 {
-    let mut receiver = receiver;
-    let mut count = 0u32;
-    for _ in 0..MOST_LOOKS {
-        linger(slow);
-        match receiver.try_take() {
-            Ok(Some(item)) => {
-                if item != Item::Entry(count) {
-                    return 0;
-                }
-                count = count.saturating_add(1);
-            }
-            Ok(None) => thread::yield_now(),
-            Err(_) => return count,
-        }
-    }
-    0
-}
-
-/// How many items come in order over a lane before its sender is reported as gone.
-fn count_over_lane(
-    rt: &impl Host,
-    alloc: Global,
-    slow: Slow,
-    waits: bool,
-) -> Result<u32, AllocError> {
-    let (sender, receiver) = lane::<u32>(alloc, 2)?;
-    let count = thread::scope(thread::scope_env(), rt, move |scope| {
-        let Ok(_started) = scope.spawn(move || send_items(rt, sender, slow == Slow::Sender)) else {
-            return 0;
-        };
-        if waits {
-            take_items(rt, receiver, slow == Slow::Receiver)
-        } else {
-            try_items(receiver, slow == Slow::Receiver)
-        }
-    });
-    Ok(count)
-}
-
-#[test]
-fn all_that_was_sent_is_taken_before_the_sender_is_gone(rt: HostRuntime) -> Result<(), Fail> {
-    for (slow, name) in SLOW {
-        for waits in [false, true] {
-            let count = count_over_lane(&rt, rt.alloc(), slow, waits)?;
-            assert!(rt; count == ITEMS, "{name}, {waits}: {count}");
-        }
-    }
-    Ok(())
-}
-
-/// What a sender has seen: nothing yet, that the receiver is gone once it was to be dropped, or something else.
-const RIGHT: u64 = 1;
-
-const WRONG: u64 = 2;
-
-/// Sends items until the receiver is gone, and notes whether this came with the item that was sent, and not before
-/// the receiver was to be dropped.
-fn send_until_gone(
+/// Sends items from 0 on, drops the sender and adds how many were sent. Where the receiver is gone, this has to come
+/// with the item that was sent, and not before the receiver was to be dropped: else nothing is added.
+fn send_items(
     rt: &(impl Wait + Clock + CpuClock),
     sender: Sender<u32>,
-    slow: bool,
-    dropping: &AtomicU64,
-    seen: &AtomicU64,
+    trial: Trial,
+    dropping: &AtomicBool,
+    sent: &AtomicU32,
 ) {
     let mut sender = sender;
-    for item in 0..ITEMS {
-        linger(slow);
+    for item in 0..trial.sent {
+        linger(trial.slow_sender);
         if let Err(gone) = sender.send(rt, item) {
-            let right = gone.value == item && dropping.load(Ordering::SeqCst) == 1;
-            seen.store(if right { RIGHT } else { WRONG }, Ordering::SeqCst);
+            if gone.value == item && dropping.load(Ordering::SeqCst) {
+                sent.fetch_add(item, Ordering::SeqCst);
+            }
             return;
         }
     }
-    seen.store(WRONG, Ordering::SeqCst);
+    sent.fetch_add(trial.sent, Ordering::SeqCst);
 }
 
-/// Takes a few items and drops the receiver.
-fn take_few(
+/// Passes the next item, if a look finds one.
+fn pass_next(receiver: &mut Receiver<u32>) -> Result<Option<Item<u32>>, Gone<()>> {
+    if !receiver.look()? {
+        return Ok(None);
+    }
+    let Some(Item::Entry(item)) = receiver.next() else {
+        return Ok(Some(Item::Stop));
+    };
+    let item = *item;
+    receiver.pass();
+    Ok(Some(Item::Entry(item)))
+}
+
+/// The next item, and none where the sender is gone or nothing comes.
+fn next_of(
+    rt: &(impl Wait + Clock + CpuClock),
+    receiver: &mut Receiver<u32>,
+    way: Way,
+) -> Option<Item<u32>> {
+    for look in 0..MOST_LOOKS {
+        let found = match way {
+            Way::Look => pass_next(receiver),
+            Way::Try => receiver.try_take(),
+            Way::Take => return receiver.take(rt).ok(),
+        };
+        match found {
+            Ok(Some(item)) => return Some(item),
+            Ok(None) if look % 1000 == 999 => thread::yield_now(),
+            Ok(None) => {}
+            Err(_) => return None,
+        }
+    }
+    None
+}
+
+/// Takes items and drops the receiver, and says how many came in order before the sender was gone.
+fn take_items(
     rt: &(impl Wait + Clock + CpuClock),
     receiver: Receiver<u32>,
-    slow: bool,
-    dropping: &AtomicU64,
-) {
+    trial: Trial,
+    dropping: &AtomicBool,
+) -> u32 {
     let mut receiver = receiver;
-    for _ in 0..FEW {
-        linger(slow);
-        if receiver.take(rt).is_err() {
-            return;
+    for item in 0..trial.taken {
+        linger(trial.slow_receiver);
+        match next_of(rt, &mut receiver, trial.way) {
+            Some(Item::Entry(found)) if found == item => {}
+            Some(_) => return 0,
+            None => return item,
         }
     }
-    linger(slow);
-    dropping.store(1, Ordering::SeqCst);
+    linger(trial.slow_receiver);
+    dropping.store(true, Ordering::SeqCst);
     drop(receiver);
+    trial.taken
 }
 
-/// What a sender sees whose receiver takes a few items and is dropped.
-fn seen_by_sender(rt: &impl Host, alloc: Global, slow: Slow) -> Result<u64, AllocError> {
-    let (sender, receiver) = lane::<u32>(alloc, 2)?;
-    let (dropping, seen) = (AtomicU64::new(0), AtomicU64::new(0));
-    let (to_drop, to_note) = (&dropping, &seen);
-    thread::scope(thread::scope_env(), rt, move |scope| {
-        let started = scope.spawn(move || {
-            send_until_gone(rt, sender, slow == Slow::Sender, to_drop, to_note)
-        });
-        if started.is_ok() {
-            take_few(rt, receiver, slow == Slow::Receiver, to_drop);
-        }
-    });
-    Ok(seen.load(Ordering::SeqCst))
-}
-
-#[test]
-fn a_receiver_is_gone_only_when_it_is_dropped(rt: HostRuntime) -> Result<(), Fail> {
-    for (slow, name) in SLOW {
-        let seen = seen_by_sender(&rt, rt.alloc(), slow)?;
-        assert!(rt; seen == RIGHT, "{name}: {seen}");
-    }
-    Ok(())
-}
-
-/// Sends one item and drops the sender at once.
-fn send_one(rt: &(impl Wait + Clock + CpuClock), sender: Sender<u32>) {
-    let mut sender = sender;
-    let _ = sender.send(rt, 7);
-}
-
-/// How many lanes are looked at, one after the other.
-const LANES: usize = 2000;
-
-/// Waits a moment after many looks in vain.
-fn rest_after(look: u32) {
-    if look % 1000 == 999 {
-        thread::yield_now();
-    }
-}
-
-/// Sends an item over each lane and drops its sender at once, when this lane is looked at.
-fn send_one_each(
+/// Sends items over each lane that comes.
+fn send_over_each(
     rt: &(impl Wait + Clock + CpuClock),
-    senders: Vec<Sender<u32>>,
-    looked_at: &AtomicU64,
+    senders: Receiver<Sender<u32>>,
+    trial: Trial,
+    dropping: &AtomicBool,
+    sent: &AtomicU32,
 ) {
-    for (place, sender) in senders.into_iter().enumerate() {
-        for look in 0..MOST_LOOKS {
-            if looked_at.load(Ordering::SeqCst) >= place as u64 {
-                break;
-            }
-            rest_after(look);
-        }
-        send_one(rt, sender);
+    let mut senders = senders;
+    for _ in 0..trial.lanes {
+        let Ok(Item::Entry(sender)) = senders.take(rt) else {
+            return;
+        };
+        send_items(rt, sender, trial, dropping, sent);
     }
 }
 
-/// Looks until an item is there or the sender is gone, and says whether it is that item.
-fn is_seen(receiver: Receiver<u32>) -> bool {
-    let mut receiver = receiver;
-    for look in 0..MOST_LOOKS {
-        match receiver.look() {
-            Ok(true) => return receiver.next() == Some(&Item::Entry(7)),
-            Ok(false) => rest_after(look),
-            Err(_) => return false,
-        }
-    }
-    false
-}
-
-/// Waits for an item and for the end of the sender, and says whether they come.
-fn is_taken(rt: &(impl Wait + Clock + CpuClock), receiver: Receiver<u32>) -> bool {
-    let mut receiver = receiver;
-    let first = receiver.take(rt);
-    first == Ok(Item::Entry(7)) && receiver.take(rt).is_err()
-}
-
-/// How the receivers of many lanes get what is there.
-#[derive(Clone, Copy, PartialEq)]
-enum Way {
-    Look,
-    Take,
-}
-
-/// How many of these lanes give their item.
-fn count_items(
+/// Gives the other thread the sender of a new lane, and says how many items came over it.
+fn take_over_lane(
     rt: &(impl Wait + Clock + CpuClock),
-    receivers: Vec<Receiver<u32>>,
-    looked_at: &AtomicU64,
-    way: Way,
-) -> usize {
-    let mut count = 0usize;
-    for (place, receiver) in receivers.into_iter().enumerate() {
-        looked_at.store(place as u64, Ordering::SeqCst);
-        let came = match way {
-            Way::Look => is_seen(receiver),
-            Way::Take => is_taken(rt, receiver),
-        };
-        if came {
-            count = count.saturating_add(1);
+    alloc: Global,
+    to_sender: &mut Sender<Sender<u32>>,
+    trial: Trial,
+    dropping: &AtomicBool,
+) -> u32 {
+    let Ok((sender, receiver)) = lane(alloc, 2) else {
+        return 0;
+    };
+    if to_sender.send(rt, sender).is_err() {
+        return 0;
+    }
+    take_items(rt, receiver, trial, dropping)
+}
+
+/// How many items come over all lanes.
+fn take_over_each(
+    rt: &(impl Wait + Clock + CpuClock),
+    alloc: Global,
+    to_sender: Sender<Sender<u32>>,
+    trial: Trial,
+    dropping: &AtomicBool,
+) -> u32 {
+    let mut to_sender = to_sender;
+    let mut taken = 0u32;
+    for _ in 0..trial.lanes {
+        let came = take_over_lane(rt, alloc, &mut to_sender, trial, dropping);
+        taken = taken.saturating_add(came);
+    }
+    taken
+}
+
+/// Whether lanes go as they should.
+fn goes(rt: &impl Host, alloc: Global, trial: Trial) -> bool {
+    let Ok((to_sender, senders)) = lane(alloc, 1) else {
+        return false;
+    };
+    let (dropping, sent) = (AtomicBool::new(false), AtomicU32::new(0));
+    let (to_drop, to_add) = (&dropping, &sent);
+    let taken = thread::scope(thread::scope_env(), rt, move |scope| {
+        let started = scope.spawn(move || send_over_each(rt, senders, trial, to_drop, to_add));
+        if started.is_ok() {
+            take_over_each(rt, alloc, to_sender, trial, to_drop)
+        } else {
+            0
+        }
+    });
+    trial.is_met(taken, sent.load(Ordering::SeqCst))
+}
+
+/// How many lanes give an item that is sent just before the sender is dropped, while the receiver waits.
+const LANES: u32 = 10_000;
+
+/// A name, the lanes, how many items are sent and are taken at most, and how.
+static TRIALS: [(&str, u32, u32, u32, Way); 7] = [
+    ("all are seen", 1, ITEMS, ITEMS + 1, Way::Look),
+    ("all are tried", 1, ITEMS, ITEMS + 1, Way::Try),
+    ("all are taken", 1, ITEMS, ITEMS + 1, Way::Take),
+    ("few are taken", 1, ITEMS, FEW, Way::Take),
+    // The item may come after a look at the ring, and the sender leave before the look at the sender.
+    ("the last is seen", LANES, 1, 2, Way::Look),
+    ("the last is tried", LANES, 1, 2, Way::Try),
+    ("the last is taken", LANES, 1, 2, Way::Take),
+];
+
+#[test]
+fn an_end_is_gone_only_when_it_is_dropped(rt: HostRuntime) {
+    for (name, lanes, sent, taken, way) in &TRIALS {
+        for (slow_sender, slow_receiver) in [(false, false), (true, false), (false, true)] {
+            let trial = Trial {
+                lanes: *lanes,
+                sent: *sent,
+                taken: *taken,
+                way: *way,
+                slow_sender: slow_sender && *lanes == 1,
+                slow_receiver: slow_receiver && *lanes == 1,
+            };
+            assert!(rt;
+                goes(&rt, rt.alloc(), trial),
+                "{name}, {slow_sender}, {slow_receiver}"
+            );
         }
     }
-    count
-}
-
-/// How many of the lanes give an item that is sent just before the sender is dropped, while the receiver waits.
-fn count_over_lanes(rt: &impl Host, alloc: Global, way: Way) -> Result<usize, AllocError> {
-    let mut senders = Vec::new(alloc);
-    let mut receivers = Vec::new(alloc);
-    for _ in 0..LANES {
-        let (sender, receiver) = lane::<u32>(alloc, 2)?;
-        senders.push(sender)?;
-        receivers.push(receiver)?;
-    }
-    let looked_at = AtomicU64::new(0);
-    let looked_at_seen = &looked_at;
-    let count = thread::scope(thread::scope_env(), rt, move |scope| {
-        let Ok(_started) = scope.spawn(move || send_one_each(rt, senders, looked_at_seen)) else {
-            return 0;
-        };
-        count_items(rt, receivers, looked_at_seen, way)
-    });
-    Ok(count)
-}
-
-/// The least of five such counts.
-fn least_over_lanes(rt: &impl Host, alloc: Global, way: Way) -> Result<usize, AllocError> {
-    let mut least = LANES;
-    for _ in 0..5 {
-        least = least.min(count_over_lanes(rt, alloc, way)?);
-    }
-    Ok(least)
-}
-
-// The item may come after a look at the ring, and the sender leave before the look at the sender.
-#[test]
-fn an_item_that_was_sent_just_before_its_end_is_seen(rt: HostRuntime) -> Result<(), Fail> {
-    let least = least_over_lanes(&rt, rt.alloc(), Way::Look)?;
-    assert!(rt; least == LANES, "{least}");
-    Ok(())
-}
-
-#[test]
-fn an_item_that_was_sent_just_before_its_end_is_taken(rt: HostRuntime) -> Result<(), Fail> {
-    let least = least_over_lanes(&rt, rt.alloc(), Way::Take)?;
-    assert!(rt; least == LANES, "{least}");
-    Ok(())
 }

@@ -1,5 +1,5 @@
-//! Date texts, names and cells of known days, a line of a table each: a table has one test, whose one assertion asks of
-//! each line whether it is right.
+//! Date texts, names and cells of known days, a line of a table each. One assertion asks of each line whether it is
+//! right.
 
 use date_texts::{
     Calendar, CivilDate, MAX_CELL, Refusal, Target, calendar_named, cell, day_of_date, read_date,
@@ -11,7 +11,7 @@ mod examples;
 
 /// A calendar, a text, the canonical text of the date that it says, and the fixed day number of that date, or why the
 /// date has none: `none` where the calendar has no such date, and `out` where its day is out of range.
-static DATES: &str = "\
+const DATES: &str = "\
 gregorian|1945-11-12|1945-11-12|710347
 gregorian|-0-3-1|0000-03-01|-305
 gregorian|1945-00-12|1945-00-12|none
@@ -73,8 +73,7 @@ roman|1-1-n04|0001-01-N4|0
 roman|1-99-I99|0001-99-I99|none
 roman|-99999-1-K2|-99999-01-K2|out
 roman|\t1945-11-K3 |1945-11-K3|710347
-roman|1752-9-N3|1752-09-N3|639797
-";
+roman|1752-9-N3|1752-09-N3|639797";
 
 /// Whether this is the day of a date, or why it has none, as tables write it.
 fn is_answer(day: Result<Day, Refusal>, answer: &str) -> bool {
@@ -108,16 +107,9 @@ fn says_date(line: &str) -> bool {
         && is_answer(day_of_date(&date), answer)
 }
 
-#[test]
-fn date_texts_name_days(rt: HostRuntime) {
-    for line in DATES.lines() {
-        assert!(rt; says_date(line), "at {line:?}");
-    }
-}
-
 /// Texts, and after a bar the names of the calendars that read them, if any does. Most are near those that are read: of
 /// years, months and days, of weeks, of long counts and of Roman names.
-static READERS: &str = "\
+const READERS: &str = "\
 1945-11-12|gregorian julian coptic ethiopic egyptian armenian islamic hebrew french republican;\
 1945-W11-2|iso;1.9.4.5.11|longcount;1945-11-K2|roman;\
  01945-011-12;100000-01-01;100000-W01-1;000001-01-01;+1945-11-12;-;--1-1-1;1945;1945-11;1945-11-;\
@@ -145,16 +137,9 @@ fn has_readers(entry: &str) -> bool {
     true
 }
 
-#[test]
-fn each_calendar_has_its_grammar(rt: HostRuntime) {
-    for entry in READERS.split(';') {
-        assert!(rt; has_readers(entry), "at {entry:?}");
-    }
-}
-
 /// Texts, and after a bar the name of the target that they name, or `none`. Blanks at the ends and the case of letters
 /// do not matter.
-static NAMES: &str = "\
+const NAMES: &str = "\
 gregorian|gregorian
 iso|iso
 julian|julian
@@ -189,8 +174,7 @@ julia|none
 \u{a0}julian|none
 \u{212a}ulian|none
 |none
- \t |none
-";
+ \t |none";
 
 /// Whether the text on a line names the target there, and its calendar where it is one.
 fn names_target(line: &str) -> bool {
@@ -205,20 +189,13 @@ fn names_target(line: &str) -> bool {
     }
 }
 
-#[test]
-fn targets_have_names(rt: HostRuntime) {
-    for line in NAMES.lines() {
-        assert!(rt; names_target(line), "at {line:?}");
-    }
-}
-
 /// A day number and the cells of its day in all fifteen targets: one day, and the day 0.0.0.0.0 and the day before
 /// it, on which some calendars have no date yet.
 ///
 /// After them stand days as another program has them: the calendar of GNU Emacs, for the Egyptian and Armenian columns
 /// a division of the days since the epoch by 365, for the Roman column a table of the days of a month, looked up at the
 /// Julian date, and for the last column a count of years of 365 and 366 days.
-static CELLS: &str = "\
+const CELLS: &str = "\
 710347,1945-11-12,1945-W46-1,1945-10-30,1662-03-03,1938-03-03,2694-07-10,1395-04-05,\
 1364-12-06,5706-09-07,12.16.11.16.9,0154-02-21,1945-11-K3,7 Zac,11 Muluc,0154-02-20
 -1137142,-3113-08-11,-3113-W33-1,-3114-09-06,,,,,\
@@ -242,8 +219,7 @@ static CELLS: &str = "\
 764652,2094-07-18,2094-W28-7,2094-07-05,1810-11-11,2086-11-11,2843-04-20,1544-01-15,\
 1518-03-05,5854-05-05,13.4.2.13.14,0302-11-01,2094-07-N3,7 Yaxkin,2 Ix,0302-10-28
 1000000,2738-11-28,2738-W48-1,2738-11-09,2455-03-13,2731-03-13,3488-02-03,2188-11-03,\
-2182-04-23,6499-08-24,14.16.16.9.2,0947-03-07,2738-11-I5,10 Zip,11 Ik,0947-02-30
-";
+2182-04-23,6499-08-24,14.16.16.9.2,0947-03-07,2738-11-I5,10 Zip,11 Ik,0947-02-30";
 
 /// The day of a number.
 fn day_numbered(number: &str) -> Option<Day> {
@@ -281,15 +257,8 @@ fn has_cells(line: &str) -> bool {
     parts.next().is_none()
 }
 
-#[test]
-fn days_have_cells_in_each_target(rt: HostRuntime) {
-    for line in CELLS.lines() {
-        assert!(rt; has_cells(line), "in {line}");
-    }
-}
-
 /// A target, a day number and the cell of the day in the target's column: the first day of each calendar that has one.
-static FIRST_CELLS: &str = "\
+const FIRST_CELLS: &str = "\
 coptic,103605,0001-01-01
 ethiopic,2796,0001-01-01
 egyptian,-272787,0001-01-01
@@ -298,11 +267,10 @@ islamic,227015,0001-01-01
 hebrew,-1373427,0001-07-01
 longcount,-1137142,0.0.0.0.0
 french,654415,0001-01-01
-republican,654415,0001-01-01
-";
+republican,654415,0001-01-01";
 
 /// The same of known days of the calendars that have no first day, among them the ends of the range.
-static CELLS_OF_ONE_TARGET: &str = "\
+const CELLS_OF_ONE_TARGET: &str = "\
 gregorian,577736,1582-10-15
 julian,577736,1582-10-05
 roman,577736,1582-10-N3
@@ -320,8 +288,7 @@ julian,3652059,9999-10-19
 roman,3652059,9999-11-K14
 gregorian,-3652424,-9999-01-01
 julian,-3652424,-10000-03-19
-roman,-3652424,-10000-04-K14
-";
+roman,-3652424,-10000-04-K14";
 
 /// The target, the day and the cell on a line.
 fn cell_on(line: &str) -> Option<(Target, Day, &str)> {
@@ -350,20 +317,6 @@ fn has_first_cell(line: &str) -> bool {
     }
 }
 
-#[test]
-fn calendars_begin_with_a_cell(rt: HostRuntime) {
-    for line in FIRST_CELLS.lines() {
-        assert!(rt; has_first_cell(line), "at {line}");
-    }
-}
-
-#[test]
-fn days_have_cells_from_end_to_end(rt: HostRuntime) {
-    for line in CELLS_OF_ONE_TARGET.lines() {
-        assert!(rt; has_one_cell(line), "at {line}");
-    }
-}
-
 /// Whether a date that is made of a calendar and of a year, a month and a day keeps them.
 fn keeps_parts(calendar: Calendar, year: i32, month: u8, day: u8) -> bool {
     let Some(ymd) = Ymd::new(year, month, day) else {
@@ -375,22 +328,66 @@ fn keeps_parts(calendar: Calendar, year: i32, month: u8, day: u8) -> bool {
     date.calendar() == calendar && date.ymd() == ymd
 }
 
-#[test]
-fn dates_keep_their_parts(rt: HostRuntime) {
-    assert!(rt; keeps_parts(Calendar::Julian, 1752, 9, 3));
+/// Refusals and their numbers.
+static NUMBERS: [(Refusal, u8); 7] = [
+    (Refusal::FieldCount, 1),
+    (Refusal::FieldTooLong, 2),
+    (Refusal::NotUtf8, 3),
+    (Refusal::UnknownCalendar, 4),
+    (Refusal::DateText, 5),
+    (Refusal::NoSuchDate, 6),
+    (Refusal::OutOfRange, 7),
+];
+
+/// Whether each refusal has its number.
+fn have_numbers() -> bool {
+    for (refusal, number) in &NUMBERS {
+        if refusal.number() != *number {
+            return false;
+        }
+    }
+    true
+}
+
+/// What a line of a table says.
+#[derive(Clone, Copy)]
+enum Kind {
+    Date,
+    Readers,
+    Name,
+    Cells,
+    FirstCell,
+    OneCell,
+}
+
+/// What its lines say, what stands between them, and a table.
+const TABLES: [(Kind, char, &str); 6] = [
+    (Kind::Date, '\n', DATES),
+    (Kind::Readers, ';', READERS),
+    (Kind::Name, '\n', NAMES),
+    (Kind::Cells, '\n', CELLS),
+    (Kind::FirstCell, '\n', FIRST_CELLS),
+    (Kind::OneCell, '\n', CELLS_OF_ONE_TARGET),
+];
+
+/// Whether a line is right.
+fn is_right(kind: Kind, line: &str) -> bool {
+    match kind {
+        Kind::Date => says_date(line),
+        Kind::Readers => has_readers(line),
+        Kind::Name => names_target(line),
+        Kind::Cells => has_cells(line),
+        Kind::FirstCell => has_first_cell(line),
+        Kind::OneCell => has_one_cell(line),
+    }
 }
 
 #[test]
-fn refusals_have_numbers(rt: HostRuntime) {
-    for (refusal, number) in &[
-        (Refusal::FieldCount, 1),
-        (Refusal::FieldTooLong, 2),
-        (Refusal::NotUtf8, 3),
-        (Refusal::UnknownCalendar, 4),
-        (Refusal::DateText, 5),
-        (Refusal::NoSuchDate, 6),
-        (Refusal::OutOfRange, 7),
-    ] {
-        assert!(rt; refusal.number() == *number);
+fn texts_names_and_cells_are_right(rt: HostRuntime) {
+    for (kind, between, table) in TABLES {
+        for line in table.split(between) {
+            assert!(rt; is_right(kind, line), "at {line:?}");
+        }
     }
+    assert!(rt; keeps_parts(Calendar::Julian, 1752, 9, 3) && have_numbers());
 }

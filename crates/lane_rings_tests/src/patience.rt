@@ -1,16 +1,15 @@
 //! How a thread waits, by clocks that cannot be read, stand still, go back, jump or run.
 
 use lane_rings::{Gone, Patience, Sender, patient_lane};
-use std::alloc::{AllocError, Global};
+use std::alloc::Global;
 use std::cell::Cell;
 use std::io;
 use std::io::ErrorKind;
 use std::sync::Wait;
-use std::test::Fail;
 use std::time::{Clock, CpuClock, Duration};
 
 // What a clock does each time it is read, in microseconds.
-#[derive(Clone, Copy, Debug)]
+#[derive(Clone, Copy)]
 enum Step {
     Fails,
     Forward(u64),
@@ -19,8 +18,12 @@ enum Step {
 
 const HOUR: u64 = 3_600_000_000;
 
-// A clock that cannot be read, one that stands still and one that goes back.
-const NO_CLOCK: [Step; 3] = [Step::Fails, Step::Forward(0), Step::Back(1000)];
+// Clocks by which a thread yields.
+static NO_CLOCK: [(&str, Step); 3] = [
+    ("cannot be read", Step::Fails),
+    ("stands still", Step::Forward(0)),
+    ("goes back", Step::Back(1000)),
+];
 
 // By readings of the clock that are so far apart each yield is long, and six milliseconds lie between the ends of two.
 const BETWEEN_READINGS: u64 = 3000;
@@ -119,18 +122,14 @@ impl CpuClock for StepClock {
     }
 }
 
-// Whether a thread never sleeps by such a clock, in one wait and in many.
+// Whether a thread never sleeps by such a clock, in one wait and in many, and yields that are all long never lead to a
+// nap by such a clock of the process.
 fn never_sleeps(step: Step) -> bool {
     let mut patience = Patience::for_run(1, 4);
     let clock = StepClock::new(step);
-    clock.rest(&mut patience, 1000) == (0, 0) && clock.rest_anew(&mut patience, 1000) == (0, 0)
-}
-
-#[test]
-fn a_clock_that_cannot_be_read_stands_still_or_goes_back_lets_a_thread_yield(rt: HostRuntime) {
-    for step in NO_CLOCK {
-        assert!(rt; never_sleeps(step), "{step:?}");
-    }
+    clock.rest(&mut patience, 1000) == (0, 0)
+        && clock.rest_anew(&mut patience, 1000) == (0, 0)
+        && never_naps(step)
 }
 
 // Whether, by a clock that jumps an hour a reading, the second long yield leads to naps, and a wait that lasted hours
@@ -141,11 +140,6 @@ fn naps_and_sleeps_by_jumps() -> bool {
     clock.rest_anew(&mut patience, 2) == (0, 0)
         && clock.rest(&mut patience, 256) == (256, 12)
         && clock.rest(&mut patience, 1) == (1, 10_000)
-}
-
-#[test]
-fn a_clock_that_jumps_makes_a_yield_long_and_a_silence(rt: HostRuntime) {
-    assert!(rt; naps_and_sleeps_by_jumps());
 }
 
 // Whether a wait by a clock that runs a millisecond a reading yields three times, and then sleeps an eighth of the six
@@ -159,12 +153,22 @@ fn sleeps_longer_in_a_long_wait() -> bool {
         && clock.rest_anew(&mut patience, 1) == (0, 0)
 }
 
-#[test]
-fn a_thread_sleeps_where_nothing_comes(rt: HostRuntime) {
-    assert!(rt; sleeps_longer_in_a_long_wait());
-}
+// What a wait that has lasted so long sleeps, 0 where it yields: an eighth of itself up to a millisecond, and in a
+// silence less of itself, up to ten milliseconds.
+static SLEEPS: [(u64, u64); 10] = [
+    (5000, 0),
+    (5008, 626),
+    (8000, 1000),
+    (100_000, 1000),
+    (249_999, 1000),
+    (250_000, 976),
+    (512_000, 2000),
+    (1_024_000, 4000),
+    (2_560_000, 10_000),
+    (HOUR, 10_000),
+];
 
-// The sleep of a wait that has lasted so long, 0 where it yields.
+// The sleep of a wait that has lasted so long.
 fn sleep_after(waited: u64) -> u64 {
     let clock = StepClock::new(Step::Forward(0));
     let mut patience = Patience::for_run(1, 4);
@@ -173,19 +177,14 @@ fn sleep_after(waited: u64) -> u64 {
     clock.rest(&mut patience, 1).1
 }
 
-#[test]
-fn a_long_wait_sleeps_an_eighth_of_itself_up_to_a_millisecond(rt: HostRuntime) {
-    assert!(rt;
-        [5000, 5008, 8000, 100_000, 249_999].map(sleep_after) == [0, 626, 1000, 1000, 1000]
-    );
-}
-
-#[test]
-fn a_silence_sleeps_less_of_itself_up_to_ten_milliseconds(rt: HostRuntime) {
-    assert!(rt;
-        [250_000, 512_000, 1_024_000, 2_560_000, HOUR].map(sleep_after)
-            == [976, 2000, 4000, 10_000, 10_000]
-    );
+// The first wait that does not sleep so.
+fn wrong_sleep() -> Option<u64> {
+    for (waited, sleep) in &SLEEPS {
+        if sleep_after(*waited) != *sleep {
+            return Some(*waited);
+        }
+    }
+    None
 }
 
 // Whether yields that are all long never lead to a nap by such a clock of the process.
@@ -194,15 +193,22 @@ fn never_naps(process: Step) -> bool {
     StepClock::of_long_yields(process).rest_anew(&mut patience, 1000) == (0, 0)
 }
 
-#[test]
-fn a_clock_of_the_process_that_jumps_or_tells_nothing_lets_a_thread_yield(rt: HostRuntime) {
-    assert!(rt; never_naps(Step::Forward(HOUR)));
-    for process in NO_CLOCK {
-        assert!(rt; never_naps(process), "{process:?}");
-    }
-}
+// The nap after two long yields of a run with so many sources on so many processors, between which the process had so
+// many microseconds, 0 where there is none: one follows a share under seven eighths of six milliseconds of one
+// processor or of four, which are 5250 microseconds, and 21,000.
+static NAPS: [(usize, usize, u64, u64); 9] = [
+    (1, 1, 5249, 12),
+    (1, 1, 5250, 0),
+    (1, 1, 6000, 0),
+    (4, 4, 20_999, 12),
+    (4, 4, 21_000, 0),
+    (4, 4, 24_000, 0),
+    (5, 4, 20_999, 100),
+    (5, 4, 21_000, 0),
+    (5, 4, 24_000, 0),
+];
 
-// The nap after two long yields between which the process had so many microseconds, 0 where there is none.
+// The nap after two long yields.
 fn nap_after(sources: usize, processors: usize, used: u64) -> u64 {
     let mut patience = Patience::for_run(sources, processors);
     StepClock::of_long_yields(Step::Forward(used))
@@ -210,12 +216,14 @@ fn nap_after(sources: usize, processors: usize, used: u64) -> u64 {
         .1
 }
 
-// Six milliseconds of one processor or of four: seven eighths are 5250 microseconds, and 21,000.
-#[test]
-fn naps_follow_a_share_under_seven_eighths(rt: HostRuntime) {
-    assert!(rt; [5249, 5250, 6000].map(|used| nap_after(1, 1, used)) == [12, 0, 0]);
-    assert!(rt; [20_999, 21_000, 24_000].map(|used| nap_after(4, 4, used)) == [12, 0, 0]);
-    assert!(rt; [20_999, 21_000, 24_000].map(|used| nap_after(5, 4, used)) == [100, 0, 0]);
+// The first share that is not followed so.
+fn wrong_nap() -> Option<(usize, u64)> {
+    for (sources, processors, used, nap) in &NAPS {
+        if nap_after(*sources, *processors, *used) != *nap {
+            return Some((*sources, *used));
+        }
+    }
+    None
 }
 
 // Whether so many naps of a run with so many sources follow the first time, and so many the next time.
@@ -229,29 +237,20 @@ fn naps_grow(sources: usize, naps: [u32; 2], nap: u64) -> bool {
         && clock.rest_anew(&mut patience, 1) == (0, 0)
 }
 
-#[test]
-fn naps_grow_beside_others_that_stay(rt: HostRuntime) {
-    assert!(rt; naps_grow(4, [256, 1024], 12) && naps_grow(5, [64, 256], 100));
+// The nap of a thread.
+fn nap_of(patience: Patience) -> u64 {
+    let mut patience = patience;
+    StepClock::of_long_yields(Step::Forward(1))
+        .rest_anew(&mut patience, 3)
+        .1
 }
 
-// The naps of the reader's thread and of those one and two lanes downstream.
-fn naps_by_lane(sources: usize, processors: usize) -> [u64; 3] {
+// Whether these are the naps of the reader's thread and of those one and two lanes downstream.
+fn naps_by_lane(sources: usize, processors: usize, naps: [u64; 3]) -> bool {
     let reader = Patience::for_run(sources, processors);
     let converter = reader.one_lane_downstream();
-    [reader, converter, converter.one_lane_downstream()].map(|patience| {
-        let mut patience = patience;
-        StepClock::of_long_yields(Step::Forward(1))
-            .rest_anew(&mut patience, 3)
-            .1
-    })
-}
-
-#[test]
-fn naps_are_longer_one_lane_downstream_where_threads_share_processors(rt: HostRuntime) {
-    assert!(rt; naps_by_lane(1, 2) == [12, 17, 22]);
-    assert!(rt; naps_by_lane(5, 2) == [100, 115, 130]);
-    assert!(rt; naps_by_lane(1, 4) == [12, 12, 12]);
-    assert!(rt; naps_by_lane(5, 4) == [100, 100, 100]);
+    let writer = converter.one_lane_downstream();
+    [nap_of(reader), nap_of(converter), nap_of(writer)] == naps
 }
 
 // The runtime of a lane by a clock at whose first reading the sender leaves the lane.
@@ -291,23 +290,63 @@ impl<'a, R> CpuClock for LeavingClock<'a, R> {
 
 // Whether a receiver whose last wait was so long that it slept begins the next one anew: it yields before it looks
 // again, and finds the sender gone.
-fn waits_anew(rt: &impl Wait, alloc: Global) -> Result<bool, AllocError> {
+fn waits_anew(rt: &impl Wait, alloc: Global) -> bool {
     let clock = StepClock::new(Step::Forward(1000));
     let mut patience = Patience::for_run(1, 4);
     let slept = clock.rest(&mut patience, 4);
     clock.sleeps.set(0);
-    let (sender, mut receiver) = patient_lane(alloc, 1, patience)?;
+    let Ok((sender, mut receiver)) = patient_lane(alloc, 1, patience) else {
+        return false;
+    };
     let clock = LeavingClock {
         rt,
         clock,
         sender: Cell::new(Some(sender)),
     };
     let is_gone = receiver.wait(&clock) == Err(Gone { value: () });
-    Ok(is_gone && slept == (1, 750) && clock.clock.sleeps.get() == 0)
+    is_gone && slept == (1, 750) && clock.clock.sleeps.get() == 0
+}
+
+// What a thread does that waits, and whether it does it.
+fn deeds(rt: &impl Wait, alloc: Global) -> [(&'static str, bool); 8] {
+    [
+        (
+            "naps and sleeps by a clock that jumps",
+            naps_and_sleeps_by_jumps(),
+        ),
+        (
+            "yields by a clock of the process that jumps",
+            never_naps(Step::Forward(HOUR)),
+        ),
+        ("sleeps where nothing comes", sleeps_longer_in_a_long_wait()),
+        (
+            "naps more often beside others that stay, on its own",
+            naps_grow(4, [256, 1024], 12),
+        ),
+        (
+            "naps more often beside others that stay, with many",
+            naps_grow(5, [64, 256], 100),
+        ),
+        (
+            "naps longer downstream where threads share processors",
+            naps_by_lane(1, 2, [12, 17, 22]) && naps_by_lane(5, 2, [100, 115, 130]),
+        ),
+        (
+            "naps no longer downstream on many processors",
+            naps_by_lane(1, 4, [12; 3]) && naps_by_lane(5, 4, [100; 3]),
+        ),
+        ("waits anew each time", waits_anew(rt, alloc)),
+    ]
 }
 
 #[test]
-fn each_wait_of_a_receiver_begins_anew(rt: HostRuntime) -> Result<(), Fail> {
-    assert!(rt; waits_anew(&rt, rt.alloc())?);
-    Ok(())
+fn a_thread_waits_by_its_clocks(rt: HostRuntime) {
+    for (name, step) in &NO_CLOCK {
+        assert!(rt; never_sleeps(*step), "by a clock that {name}");
+    }
+    for (deed, is_done) in deeds(&rt, rt.alloc()) {
+        assert!(rt; is_done, "a thread {deed}");
+    }
+    let wrong = (wrong_sleep(), wrong_nap());
+    assert!(rt; wrong == (None, None), "{wrong:?}");
 }

@@ -7,7 +7,6 @@ use lane_rings::{Closed, Confirmed, Gone, Item, Receiver, Sender, Unconfirmed, l
 use std::alloc::{AllocError, Global};
 use std::rc::Rc;
 use std::sync::Wait;
-use std::test::Fail;
 use std::time::{Clock, CpuClock};
 
 // The runtime of a lane: its ends wait and tell the time.
@@ -39,6 +38,24 @@ impl Leave {
     }
 }
 
+impl Leave {
+    // The last item of the lane.
+    fn last(self) -> Item<u32> {
+        match self {
+            Leave::Close(count) => Item::End(count),
+            Leave::Stop => Item::Stop,
+        }
+    }
+
+    // The count that the lane is closed with.
+    fn count(self) -> Option<u64> {
+        match self {
+            Leave::Close(count) => Some(count),
+            Leave::Stop => None,
+        }
+    }
+}
+
 // Whether the next item is taken, and is this one.
 fn takes(receiver: &mut Receiver<u32>, wanted: &Item<u32>) -> bool
     ensures { receiver_lane receiver.new ≡ receiver_lane receiver.old }
@@ -57,64 +74,49 @@ fn has_ended(confirmed: Result<Confirmed<u32>, Unconfirmed>, count: Option<u64>)
     }
 }
 
-// Whether a lane with one entry lives, on one thread, and ends with this item and count.
-fn lives(
-    rt: &impl Host,
-    alloc: Global,
-    leave: Leave,
-    last: &Item<u32>,
-    count: Option<u64>,
-) -> Result<bool, AllocError> {
+// Whether a lane with one entry lives, on one thread, and ends as its sender leaves it.
+fn lives(rt: &impl Host, alloc: Global, leave: Leave) -> Result<bool, AllocError> {
     let (mut sender, mut receiver) = lane(alloc, 1)?;
     let mut lives = sender.send(rt, 7).is_ok();
     lives &= takes(&mut receiver, &Item::Entry(7));
     lives &= receiver.try_take() == Ok(None);
     let closed = leave.leave(rt, sender);
-    lives &= takes(&mut receiver, last);
-    Ok(has_ended(receiver.confirm(closed), count) && lives)
-}
-
-#[test]
-fn a_lane_lives_from_its_first_item_to_its_confirmation(rt: HostRuntime) -> Result<(), Fail> {
-    let alloc = rt.alloc();
-    assert!(rt; lives(&rt, alloc, Leave::Close(1), &Item::End(1), Some(1))?);
-    assert!(rt; lives(&rt, alloc, Leave::Stop, &Item::Stop, None)?);
-    Ok(())
+    lives &= takes(&mut receiver, &leave.last());
+    Ok(has_ended(receiver.confirm(closed), leave.count()) && lives)
 }
 
 // The one test that passes whichever allocation is refused.
 #[test]
 fn a_lane_is_refused_its_memory_or_lives(rt: HostRuntime) {
-    let lived = lives(&rt, rt.alloc(), Leave::Close(1), &Item::End(1), Some(1));
+    let lived = lives(&rt, rt.alloc(), Leave::Close(1));
     assert!(rt; lived.unwrap_or(true));
 }
 
 // Whether a lane is confirmed of which nothing was taken.
-fn is_confirmed_unread(rt: &impl Host, alloc: Global) -> Result<bool, AllocError> {
-    let (sender, receiver) = lane::<u32>(alloc, 1)?;
+fn is_confirmed_unread(rt: &impl Host, alloc: Global) -> bool {
+    let Ok((sender, receiver)) = lane::<u32>(alloc, 1) else {
+        return false;
+    };
     let closed = sender.stop(rt);
-    Ok(receiver.confirm(closed).is_ok())
+    receiver.confirm(closed).is_ok()
 }
 
 // Whether a lane is refused of which all but its end was taken.
-fn is_refused_without_end(rt: &impl Host, alloc: Global) -> Result<bool, AllocError> {
-    let (mut sender, mut receiver) = lane::<u32>(alloc, 2)?;
+fn is_refused_without_end(rt: &impl Host, alloc: Global) -> bool {
+    let Ok((mut sender, mut receiver)) = lane::<u32>(alloc, 2) else {
+        return false;
+    };
     let mut goes = sender.send(rt, 7).is_ok();
     let closed = sender.close(rt, 1);
     goes &= takes(&mut receiver, &Item::Entry(7));
-    Ok(receiver.confirm(closed).is_err() && goes)
-}
-
-#[test]
-fn a_lane_with_items_left_is_not_confirmed(rt: HostRuntime) -> Result<(), Fail> {
-    assert!(rt; !is_confirmed_unread(&rt, rt.alloc())?);
-    assert!(rt; is_refused_without_end(&rt, rt.alloc())?);
-    Ok(())
+    receiver.confirm(closed).is_err() && goes
 }
 
 // Whether `take` gives what was sent, and `Gone` behind it.
-fn gives_what_was_sent(rt: &impl Host, alloc: Global) -> Result<bool, AllocError> {
-    let (mut sender, mut receiver) = lane::<u32>(alloc, 1)?;
+fn gives_what_was_sent(rt: &impl Host, alloc: Global) -> bool {
+    let Ok((mut sender, mut receiver)) = lane::<u32>(alloc, 1) else {
+        return false;
+    };
     let mut gives = sender.send(rt, 7).is_ok();
     gives &= receiver.take(rt) == Ok(Item::Entry(7));
     gives &= sender.send_copy(rt, &8).is_ok();
@@ -122,13 +124,7 @@ fn gives_what_was_sent(rt: &impl Host, alloc: Global) -> Result<bool, AllocError
     let closed = sender.close(rt, 2);
     gives &= receiver.take(rt) == Ok(Item::End(2));
     gives &= receiver.take(rt) == Err(Gone { value: () });
-    Ok(has_ended(receiver.confirm(closed), Some(2)) && gives)
-}
-
-#[test]
-fn take_gives_what_was_sent(rt: HostRuntime) -> Result<(), Fail> {
-    assert!(rt; gives_what_was_sent(&rt, rt.alloc())?);
-    Ok(())
+    has_ended(receiver.confirm(closed), Some(2)) && gives
 }
 
 // Whether a look finds this item, which is then passed.
@@ -156,8 +152,10 @@ fn sees_nothing(receiver: &mut Receiver<u32>) -> bool
 }
 
 // Whether looks and waits find what is sent and leave it to be passed, and find `Gone` behind it.
-fn finds_what_was_sent(rt: &impl Host, alloc: Global) -> Result<bool, AllocError> {
-    let (mut sender, mut receiver) = lane::<u32>(alloc, 2)?;
+fn finds_what_was_sent(rt: &impl Host, alloc: Global) -> bool {
+    let Ok((mut sender, mut receiver)) = lane::<u32>(alloc, 2) else {
+        return false;
+    };
     let mut finds = sees_nothing(&mut receiver);
     finds &= sender.send(rt, 7).is_ok();
     let closed = sender.close(rt, 1);
@@ -166,69 +164,48 @@ fn finds_what_was_sent(rt: &impl Host, alloc: Global) -> Result<bool, AllocError
     finds &= passes(&mut receiver, &Item::End(1));
     finds &= receiver.look() == Err(Gone { value: () });
     finds &= receiver.wait(rt) == Err(Gone { value: () });
-    Ok(has_ended(receiver.confirm(closed), Some(1)) && finds)
-}
-
-#[test]
-fn a_look_leaves_the_item_that_a_pass_takes(rt: HostRuntime) -> Result<(), Fail> {
-    assert!(rt; finds_what_was_sent(&rt, rt.alloc())?);
-    Ok(())
+    has_ended(receiver.confirm(closed), Some(1)) && finds
 }
 
 // Whether a lane is refused whose end was seen and not passed.
-fn is_refused_with_seen_end(rt: &impl Host, alloc: Global) -> Result<bool, AllocError> {
-    let (sender, mut receiver) = lane::<u32>(alloc, 1)?;
+fn is_refused_with_seen_end(rt: &impl Host, alloc: Global) -> bool {
+    let Ok((sender, mut receiver)) = lane::<u32>(alloc, 1) else {
+        return false;
+    };
     let closed = sender.close(rt, 0);
     let sees = receiver.look() == Ok(true);
-    Ok(receiver.confirm(closed).is_err() && sees)
-}
-
-// An item that was seen and not passed is left in the lane.
-#[test]
-fn a_lane_with_a_seen_item_is_not_confirmed(rt: HostRuntime) -> Result<(), Fail> {
-    assert!(rt; is_refused_with_seen_end(&rt, rt.alloc())?);
-    Ok(())
+    receiver.confirm(closed).is_err() && sees
 }
 
 // Whether a sender sees that its receiver was dropped, and leaves all the same.
-fn sees_dropped_receiver(rt: &impl Host, alloc: Global, leave: Leave) -> Result<bool, AllocError> {
-    let (mut sender, receiver) = lane::<u32>(alloc, 2)?;
+fn sees_dropped_receiver(rt: &impl Host, alloc: Global, leave: Leave) -> bool {
+    let Ok((mut sender, receiver)) = lane::<u32>(alloc, 2) else {
+        return false;
+    };
     let mut sees = sender.send(rt, 7).is_ok();
     drop(receiver);
     sees &= sender.send(rt, 8) == Err(Gone { value: 8 });
     sees &= sender.send_copy(rt, &9) == Err(Gone { value: () });
     let _closed = leave.leave(rt, sender);
-    Ok(sees)
-}
-
-#[test]
-fn a_dropped_receiver_is_seen(rt: HostRuntime) -> Result<(), Fail> {
-    for leave in [Leave::Close(1), Leave::Stop] {
-        assert!(rt; sees_dropped_receiver(&rt, rt.alloc(), leave)?);
-    }
-    Ok(())
+    sees
 }
 
 // Whether a receiver takes what is left in the lane and then sees that its sender was dropped, by each of its calls.
-fn sees_dropped_sender(rt: &impl Host, alloc: Global) -> Result<bool, AllocError> {
-    let (mut sender, mut receiver) = lane::<u32>(alloc, 2)?;
+fn sees_dropped_sender(rt: &impl Host, alloc: Global) -> bool {
+    let Ok((mut sender, mut receiver)) = lane::<u32>(alloc, 2) else {
+        return false;
+    };
     let mut sees = sender.send(rt, 7).is_ok();
     drop(sender);
     sees &= takes(&mut receiver, &Item::Entry(7));
     sees &= receiver.try_take() == Err(Gone { value: () });
     sees &= receiver.take(rt) == Err(Gone { value: () });
     sees &= receiver.try_take() == Err(Gone { value: () });
-    Ok(sees)
-}
-
-#[test]
-fn a_dropped_sender_is_seen(rt: HostRuntime) -> Result<(), Fail> {
-    assert!(rt; sees_dropped_sender(&rt, rt.alloc())?);
-    Ok(())
+    sees
 }
 
 // Which end of a lane goes first, with an item left in it.
-#[derive(Clone, Copy, Debug)]
+#[derive(Clone, Copy)]
 enum First {
     Receiver,
     Sender,
@@ -318,16 +295,56 @@ fn are_dropped(rt: &impl Host, alloc: Global, first: First) -> Result<bool, Allo
     Ok(go && items.are_alone())
 }
 
-// Each item is a second owner of memory of its own, and drops out of it once.
-#[test]
-fn each_item_is_dropped_once(rt: HostRuntime) -> Result<(), Fail> {
+// Whether all items that are second owners of memory of their own drop out of a lane once, whichever end goes first.
+fn each_item_is_dropped_once(rt: &impl Host, alloc: Global) -> bool {
     for first in [
         First::Receiver,
         First::Sender,
         First::ClosedSender,
         First::Neither,
     ] {
-        assert!(rt; are_dropped(&rt, rt.alloc(), first)?, "{first:?}");
+        if are_dropped(rt, alloc, first) != Ok(true) {
+            return false;
+        }
     }
-    Ok(())
+    true
+}
+
+// What lanes do, and whether they do it.
+fn deeds(rt: &impl Host, alloc: Global) -> [(&'static str, bool); 8] {
+    [
+        (
+            "lives to its confirmation",
+            lives(rt, alloc, Leave::Close(1)) == Ok(true),
+        ),
+        ("lives to a stop", lives(rt, alloc, Leave::Stop) == Ok(true)),
+        (
+            "is not confirmed with items left",
+            !is_confirmed_unread(rt, alloc)
+                && is_refused_without_end(rt, alloc)
+                && is_refused_with_seen_end(rt, alloc),
+        ),
+        ("gives what was sent", gives_what_was_sent(rt, alloc)),
+        (
+            "leaves what a look finds to a pass",
+            finds_what_was_sent(rt, alloc),
+        ),
+        (
+            "sees that its receiver was dropped",
+            sees_dropped_receiver(rt, alloc, Leave::Close(1))
+                && sees_dropped_receiver(rt, alloc, Leave::Stop),
+        ),
+        (
+            "sees that its sender was dropped",
+            sees_dropped_sender(rt, alloc),
+        ),
+        ("drops each item once", each_item_is_dropped_once(rt, alloc)),
+    ]
+}
+
+#[test]
+fn a_lane_lives_from_its_first_item_to_its_confirmation(rt: HostRuntime) {
+    for (deed, is_done) in deeds(&rt, rt.alloc()) {
+        assert!(rt; is_done, "a lane {deed}");
+    }
 }

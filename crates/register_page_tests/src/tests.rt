@@ -6,14 +6,13 @@ use register_page::{Converted, RequestFault, convert_text};
 use register_records::SourceEnd;
 use register_sheets::{WriteFault, pick, write};
 use std::alloc::Global;
-use std::test::Fail;
 
 mod days;
 mod examples;
 mod names;
 mod orders;
 
-const REGISTER: &str = "id,calendar,date
+const REGISTER: &[u8] = b"id,calendar,date
 B-1582-17,Julian,1582-10-04
 B-1582-18,Gregorian,1582-10-15
 \"Smith, Anne\",Julian,1700-2-29
@@ -35,120 +34,156 @@ fn ending(converted: &Converted) -> u8 {
     }
 }
 
-/// Whether the register ends so in a room of 400 bytes, with these bytes in its front, and is as it was behind them.
-fn fills(
-    alloc: Global,
-    register: &[u8],
-    sealed: bool,
-    wanted: u8,
-    front: &str,
-) -> Result<bool, Fail> {
-    let mut room = [b'#'; 400];
-    let converted = convert_text(alloc, register, &[2, 0], b',', sealed, &mut room)?;
-    let length = converted.length;
-    Ok(
-        ending(&converted) == wanted
-            && length == front.len()
-            && length <= 400
-            && &room[..length] == front.as_bytes()
-            && room[length..].iter().all(|byte| *byte == b'#'),
-    )
-}
-
-#[test]
-fn a_register_fills_the_front_of_the_room(rt: HostRuntime) -> Result<(), Fail> {
-    let heading = "row,id,calendar,date,rd,weekday,julian,gregorian,refusal\n";
-    let sealed = "row,id,calendar,date,note,rd,weekday,julian,gregorian,refusal\n";
-    let cases: [(&[u8], bool, u8, &str); 6] = [
-        (REGISTER.as_bytes(), false, 0, TABLE),
-        (b"id,calendar,date", false, 0, heading),
-        (b"", false, 6, ""),
-        (b"\xff\xfe\0\"\r\r\n,", false, 6, ""),
-        (b"id,calendar,date,note\n", true, 8, sealed),
-        (REGISTER.as_bytes(), true, 6, ""),
-    ];
-    for (register, seals, wanted, front) in cases {
-        assert!(rt;
-            fills(rt.alloc(), register, seals, wanted, front)?,
-            "{front}"
-        );
-    }
-    Ok(())
-}
-
 const EVERY_COLUMN: &str =
     "row,id,calendar,date,rd,weekday,gregorian,iso,julian,coptic,ethiopic,egyptian,armenian,\
 islamic,hebrew,longcount,french,roman,haab,tzolkin,republican,refusal\n";
 
-#[test]
-fn each_column_has_its_place(rt: HostRuntime) -> Result<(), Fail> {
-    let columns = [0, 1, 2, 3, 4, 5, 6, 7, 8, 9, 10, 11, 12, 13, 14];
-    let register = b"id,calendar,date\n";
-    let mut room = [b'#'; 400];
-    let converted = convert_text(rt.alloc(), register, &columns, b',', false, &mut room)?;
-    let length = converted.length;
-    assert!(rt; length <= 400 && &room[..length] == EVERY_COLUMN.as_bytes());
-    Ok(())
-}
+const HEADING: &str = "row,id,calendar,date,rd,weekday,julian,gregorian,refusal\n";
 
-#[test]
-fn a_room_that_is_too_small_stays_as_it_was(rt: HostRuntime) -> Result<(), Fail> {
-    let mut room = [b'#'; 100];
-    let converted = convert_text(
-        rt.alloc(),
-        REGISTER.as_bytes(),
-        &[2, 0],
-        b',',
+const SEALED: &str = "row,id,calendar,date,note,rd,weekday,julian,gregorian,refusal\n";
+
+/// A register, its columns, whether it is sealed, the cause, and its table.
+type Case = (&'static [u8], &'static [u8], bool, u8, &'static str);
+
+static CASES: [Case; 7] = [
+    (REGISTER, &[2, 0], false, 0, TABLE),
+    (b"id,calendar,date", &[2, 0], false, 0, HEADING),
+    (b"", &[2, 0], false, 6, ""),
+    (b"\xff\xfe\0\"\r\r\n,", &[2, 0], false, 6, ""),
+    (b"id,calendar,date,note\n", &[2, 0], true, 8, SEALED),
+    (REGISTER, &[2, 0], true, 6, ""),
+    (
+        b"id,calendar,date\n",
+        &[0, 1, 2, 3, 4, 5, 6, 7, 8, 9, 10, 11, 12, 13, 14],
         false,
-        &mut room,
-    )?;
-    assert!(rt; ending(&converted) == 0 && converted.length == TABLE.len());
-    assert!(rt; room.iter().all(|byte| *byte == b'#'));
-    let counts = converted.end.refusal_counts();
-    assert!(rt; counts.count(Refusal::NoSuchDate) == 1);
-    assert!(rt; counts.count(Refusal::NotUtf8) == 0);
-    Ok(())
-}
+        0,
+        EVERY_COLUMN,
+    ),
+];
 
-#[test]
-fn what_cannot_be_asked_is_a_fault(rt: HostRuntime) -> Result<(), Fail> {
-    let all = [0, 1, 2, 3, 4, 5, 6, 7, 8, 9, 10, 11, 12, 13, 14, 0];
-    let cases: [(&[u8], u8, Option<RequestFault>); 7] = [
-        (&all[..15], b',', None),
-        (&all[..0], b'\t', None),
-        (&all, b',', Some(RequestFault::ColumnTwice)),
-        (&[3, 2, 3], b',', Some(RequestFault::ColumnTwice)),
-        (&[3, 15, 3], b'|', Some(RequestFault::NoSuchColumn)),
-        (&[3, 2, 3], b'|', Some(RequestFault::ColumnTwice)),
-        (&[3, 2], b'|', Some(RequestFault::Delimiter)),
-    ];
-    for (columns, delimiter, wanted) in cases {
-        let mut room = [b'#'; 9];
-        let fault = convert_text(rt.alloc(), b"", columns, delimiter, false, &mut room).err();
-        assert!(rt; fault == wanted && room.iter().all(|byte| *byte == b'#'));
+/// Whether these are bytes of a room that nothing was written to.
+fn are_free(bytes: &[u8]) -> bool {
+    for byte in bytes {
+        if *byte != b'#' {
+            return false;
+        }
     }
-    Ok(())
+    true
+}
+
+/// Whether the register ends so in a room of 400 bytes, with its table in its front, and is as it was behind it.
+fn fills(alloc: Global, case: &Case) -> bool {
+    let (register, columns, sealed, cause, table) = *case;
+    let mut room = [b'#'; 400];
+    let Ok(converted) = convert_text(alloc, register, columns, b',', sealed, &mut room) else {
+        return false;
+    };
+    let Some((front, rest)) = room.split_at_checked(converted.length) else {
+        return false;
+    };
+    ending(&converted) == cause && front == table.as_bytes() && are_free(rest)
 }
 
 #[test]
-fn few_records_are_picked_of_a_sheet(rt: HostRuntime) -> Result<(), Fail> {
+fn a_register_fills_the_front_of_the_room(rt: HostRuntime) {
+    for case in &CASES {
+        assert!(rt; fills(rt.alloc(), case), "{}", case.4);
+    }
+}
+
+/// Whether a room that is too small for the table stays as it was, and the refusals are counted.
+fn small_room_stays(alloc: Global) -> bool {
+    let mut room = [b'#'; 100];
+    let register = REGISTER;
+    let Ok(converted) = convert_text(alloc, register, &[2, 0], b',', false, &mut room) else {
+        return false;
+    };
+    let counts = converted.end.refusal_counts();
+    ending(&converted) == 0
+        && converted.length == TABLE.len()
+        && are_free(&room)
+        && counts.count(Refusal::NoSuchDate) == 1
+        && counts.count(Refusal::NotUtf8) == 0
+}
+
+/// What is asked of columns and a delimiter, and why it is refused.
+static ASKED: [(&[u8], u8, Option<RequestFault>); 7] = [
+    (
+        &[0, 1, 2, 3, 4, 5, 6, 7, 8, 9, 10, 11, 12, 13, 14],
+        b',',
+        None,
+    ),
+    (&[], b'\t', None),
+    (
+        &[0, 1, 2, 3, 4, 5, 6, 7, 8, 9, 10, 11, 12, 13, 14, 0],
+        b',',
+        Some(RequestFault::ColumnTwice),
+    ),
+    (&[3, 2, 3], b',', Some(RequestFault::ColumnTwice)),
+    (&[3, 15, 3], b'|', Some(RequestFault::NoSuchColumn)),
+    (&[3, 2, 3], b'|', Some(RequestFault::ColumnTwice)),
+    (&[3, 2], b'|', Some(RequestFault::Delimiter)),
+];
+
+/// Whether a text without bytes gets this fault, with nothing written to its room.
+fn has_fault(alloc: Global, columns: &[u8], delimiter: u8, fault: Option<RequestFault>) -> bool {
+    let mut room = [b'#'; 9];
+    let found = convert_text(alloc, b"", columns, delimiter, false, &mut room).err();
+    found == fault && are_free(&room)
+}
+
+#[test]
+fn what_cannot_be_asked_is_a_fault(rt: HostRuntime) {
+    for (columns, delimiter, fault) in &ASKED {
+        assert!(rt;
+            has_fault(rt.alloc(), columns, *delimiter, *fault),
+            "{columns:?}"
+        );
+    }
+    assert!(rt; small_room_stays(rt.alloc()));
+}
+
+/// Whether of two records of a sheet these bytes, of fields of these lengths, are picked.
+fn is_picked(
+    alloc: Global,
+    sheet: &[u8],
+    columns: &[u32],
+    (bytes, lengths): (&[u8], &[u32]),
+    (records, widest): (usize, usize),
+) -> bool {
+    let Ok(picked) = pick(alloc, sheet, b',', columns, 2) else {
+        return false;
+    };
+    picked.bytes.as_slice() == bytes
+        && picked.lengths.as_slice() == lengths
+        && picked.records == records
+        && picked.widest == widest
+}
+
+/// Whether fields of these lengths are written so, three records of one column.
+fn is_written(alloc: Global, bytes: &[u8], lengths: &[u32], wanted: &[u8]) -> bool {
+    match write(alloc, bytes, lengths, 1, b';') {
+        Ok(text) => text.as_slice() == wanted,
+        Err(_) => false,
+    }
+}
+
+#[test]
+fn records_of_a_sheet_are_picked_and_written(rt: HostRuntime) {
     let sheet = b"\xef\xbb\xbfKB-1,Julian\r\n\r\n\"KB-\"\"2\"\"\",\"Old\nStyle\",1700\n\xff";
-    let picked = pick(rt.alloc(), sheet, b',', &[1, 0, 1], 2)?;
+    let fields = b"JulianKB-1JulianOld\nStyleKB-\"2\"Old\nStyle";
     assert!(rt;
-        picked.bytes.as_slice() == b"JulianKB-1JulianOld\nStyleKB-\"2\"Old\nStyle".as_slice()
+        is_picked(
+            rt.alloc(),
+            sheet,
+            &[1, 0, 1],
+            (fields, &[6, 4, 6, 9, 6, 9]),
+            (2, 3)
+        ) && is_picked(rt.alloc(), b"", &[0], (b"", &[]), (0, 0))
     );
-    assert!(rt; picked.lengths.as_slice() == [6, 4, 6, 9, 6, 9].as_slice());
-    assert!(rt; picked.records == 2 && picked.widest == 3);
-    let none = pick(rt.alloc(), b"", b';', &[0], 2)?;
-    assert!(rt; none.lengths.is_empty() && none.records == 0 && none.widest == 0);
-    Ok(())
-}
-
-#[test]
-fn records_without_a_byte_are_written_in_quotes(rt: HostRuntime) -> Result<(), Fail> {
-    let text = write(rt.alloc(), b"a;", &[0, 1, 9], 1, b';')?;
-    assert!(rt; text.as_slice() == b"\"\"\na\n\";\"\n".as_slice());
-    let fault = write(rt.alloc(), b"", &[], 0, b';').err();
-    assert!(rt; fault == Some(WriteFault::NoWidth));
-    Ok(())
+    // A record without a byte is written in quotes.
+    assert!(rt;
+        is_written(rt.alloc(), b"a;", &[0, 1, 9], b"\"\"\na\n\";\"\n")
+            && write(rt.alloc(), b"", &[], 0, b';').err() == Some(WriteFault::NoWidth)
+    );
 }

@@ -1,15 +1,14 @@
 //! Texts, and what is written for them, a line of a table each.
 
-use date_texts::Calendar;
+use date_texts::{Calendar, calendar_named};
 use std::alloc::{AllocError, Global};
-use std::test::Fail;
 use written_dates::{
     Calendars, Choice, ListFault, Mark, Meaning, Name, NameFault, Names, NamesError, Order, Short,
     roman_number, write_date,
 };
 
 /// Names: a text, what it means, and the calendars in which it does, none for all.
-static NAMES: &str = "\
+const NAMES: &str = "\
 Jänner|month 1|gregorian julian roman
 Ian|month 1|gregorian julian roman
 März|month 3|gregorian julian roman
@@ -52,14 +51,6 @@ Mi||
 anno||
 anno domini||
 ";
-
-/// The calendar of this name.
-fn calendar_named(name: &str) -> Option<Calendar> {
-    Calendar::ALL
-        .iter()
-        .find(|calendar| calendar.name() == name)
-        .copied()
-}
 
 /// The number that a text is, or 0.
 fn number_of(text: &str) -> u32 {
@@ -108,10 +99,10 @@ fn name_on(line: &str) -> Option<Name<'_>> {
     })
 }
 
-/// The names on lines.
-fn names_on(alloc: Global, lines: &str) -> Result<Vec<Name<'_>>, AllocError> {
+/// The names of a list, with this sign between them.
+fn names_in(alloc: Global, list: &str, between: char) -> Result<Vec<Name<'_>>, AllocError> {
     let mut names = Vec::new(alloc);
-    for line in lines.lines() {
+    for line in list.split(between) {
         if let Some(name) = name_on(line) {
             names.push(name)?;
         }
@@ -122,7 +113,7 @@ fn names_on(alloc: Global, lines: &str) -> Result<Vec<Name<'_>>, AllocError> {
 /// After a sign `#`: a calendar, the order, what is done with short years and with short Hebrew ones, and whether the
 /// year of a Roman date is that of its day. Below it: a text, and what is written for it, `=` where that is the text.
 /// The answers were found by hand.
-static DATES: &str = "\
+const DATES: &str = "\
 #gregorian day refuse refuse day-of-mark
 12. Mai 1806|1806-5-12
 1806 Mai 12|1806-5-12
@@ -392,7 +383,7 @@ fn short_named(text: &str) -> Short {
     }
 }
 
-/// The calendar and the choice of a line.
+/// The calendar and the choice of a line behind its sign.
 fn choice_on(line: &str) -> Option<(Option<Calendar>, Choice)> {
     let mut words = line.split(' ');
     let name = words.next()?;
@@ -421,42 +412,61 @@ fn is_written(
     calendar: Option<Calendar>,
     choice: &Choice,
     line: &str,
-) -> Result<bool, AllocError> {
+) -> bool {
     let Some((text, date)) = line.split_once('|') else {
-        return Ok(false);
+        return false;
     };
     let mut out = Vec::new(alloc);
-    write_date(&mut out, text.as_bytes(), calendar, names, choice)?;
+    let is_out = write_date(&mut out, text.as_bytes(), calendar, names, choice).is_ok();
     let wanted = if date == "=" { text } else { date };
-    Ok(out.as_slice() == wanted.as_bytes())
+    is_out && out.as_slice() == wanted.as_bytes()
 }
 
-#[test]
-fn texts_become_dates(rt: HostRuntime) -> Result<(), Fail> {
-    let listed = names_on(rt.alloc(), NAMES)?;
-    let names = Names::layered(rt.alloc(), listed.as_slice())?;
-    let mut calendar = None;
-    let mut choice = Choice {
-        order: Order::DayFirst,
-        short_years: Short::Refuse,
-        short_hebrew_years: Short::Refuse,
-        charters: false,
-    };
-    for line in DATES.lines() {
-        match line.strip_prefix("#").and_then(choice_on) {
-            Some((of, chosen)) => {
-                calendar = of;
-                choice = chosen;
-            }
-            None => {
-                assert!(rt;
-                    is_written(rt.alloc(), &names, calendar, &choice, line)?,
-                    "at {line:?}"
-                );
-            }
+/// The first line on which a text is not written as the line says, by the choice above it.
+fn wrong_line<'a>(alloc: Global, names: &Names, lines: &'a str) -> Option<&'a str> {
+    let mut by = None;
+    for line in lines.lines() {
+        if let Some(text) = line.strip_prefix("#") {
+            by = choice_on(text);
+            continue;
+        }
+        let Some((calendar, choice)) = by else {
+            return Some(line);
+        };
+        if !is_written(alloc, names, calendar, &choice, line) {
+            return Some(line);
         }
     }
-    Ok(())
+    None
+}
+
+/// The same by the names of a list, each on a line of its own.
+fn wrong_by_list<'a>(alloc: Global, list: &str, lines: &'a str) -> Option<&'a str> {
+    let Ok(listed) = names_in(alloc, list, '\n') else {
+        return Some("a list in memory");
+    };
+    match Names::layered(alloc, listed.as_slice()) {
+        Ok(names) => wrong_line(alloc, &names, lines),
+        Err(_) => Some("names in memory"),
+    }
+}
+
+/// Lists of names, and dates by them. In the second the first of two names holds.
+static LISTED: [(&str, &str); 2] = [
+    (NAMES, DATES),
+    (
+        "Mai|month 4|gregorian\nMai|month 5|\nmai|month 6|",
+        "#gregorian day refuse refuse day-of-mark\n12 Mai 1806|1806-4-12\n\
+        #julian day refuse refuse day-of-mark\n12 Mai 1806|1806-5-12",
+    ),
+];
+
+#[test]
+fn texts_become_dates(rt: HostRuntime) {
+    for (list, dates) in &LISTED {
+        let wrong = wrong_by_list(rt.alloc(), list, dates);
+        assert!(rt; wrong.is_none(), "at {wrong:?}");
+    }
 }
 
 /// Names, as above, with a sign `;` between them, and the first fault of the list, with the place of the name that has
@@ -483,111 +493,64 @@ Kal|K|;kal|K|=sound
 =sound
 ";
 
-/// What is said of a list of names.
-fn said_of(listed: &[Name], alloc: Global) -> Option<(usize, &'static str)> {
+/// The name of a fault.
+fn name_of(fault: NameFault) -> &'static str {
+    match fault {
+        NameFault::Character => "Character",
+        NameFault::NoWord => "NoWord",
+        NameFault::NoMeaning => "NoMeaning",
+        NameFault::TwoMeanings => "TwoMeanings",
+    }
+}
+
+/// Whether this is said of a list of names: a place and a fault, or that it is sound.
+fn is_said(alloc: Global, listed: &[Name], wanted: &str) -> bool {
     match Names::checked(alloc, listed) {
-        Ok(_) => Some((0, "sound")),
-        Err(NamesError::Memory) => None,
-        Err(NamesError::Fault(ListFault { place, fault })) => {
-            let what = match fault {
-                NameFault::Character => "Character",
-                NameFault::NoWord => "NoWord",
-                NameFault::NoMeaning => "NoMeaning",
-                NameFault::TwoMeanings => "TwoMeanings",
-            };
-            Some((place, what))
-        }
+        Ok(_) => wanted == "sound",
+        Err(NamesError::Memory) => false,
+        Err(NamesError::Fault(ListFault { place, fault })) => match wanted.split_once(' ') {
+            Some((at, name)) => at.parse() == Ok(place) && name == name_of(fault),
+            None => false,
+        },
     }
 }
 
 /// Whether the list on a line has the fault there.
-fn has_fault(alloc: Global, line: &str) -> Result<bool, AllocError> {
+fn has_fault(alloc: Global, line: &str) -> bool {
     let Some((list, wanted)) = line.split_once('=') else {
-        return Ok(false);
+        return false;
     };
-    let mut listed = Vec::new(alloc);
-    for one in list.split(';') {
-        if let Some(name) = name_on(one) {
-            listed.push(name)?;
-        }
-    }
-    let Some((place, what)) = said_of(listed.as_slice(), alloc) else {
-        return Ok(false);
-    };
-    match wanted.split_once(' ') {
-        Some((at, fault)) => Ok(at.parse() == Ok(place) && fault == what),
-        None => Ok(wanted == what),
+    match names_in(alloc, list, ';') {
+        Ok(listed) => is_said(alloc, listed.as_slice(), wanted),
+        Err(_) => false,
     }
 }
 
 #[test]
-fn lists_have_faults(rt: HostRuntime) -> Result<(), Fail> {
+fn lists_have_faults(rt: HostRuntime) {
     for line in LISTS.lines() {
-        assert!(rt; has_fault(rt.alloc(), line)?, "at {line:?}");
+        assert!(rt; has_fault(rt.alloc(), line), "at {line:?}");
     }
-    Ok(())
 }
 
-#[test]
-fn the_first_of_two_lists_holds(rt: HostRuntime) -> Result<(), Fail> {
-    let listed = names_on(
-        rt.alloc(),
-        "Mai|month 4|gregorian\nMai|month 5|\nmai|month 6|",
-    )?;
-    let names = Names::layered(rt.alloc(), listed.as_slice())?;
-    let choice = Choice {
-        order: Order::DayFirst,
-        short_years: Short::Refuse,
-        short_hebrew_years: Short::Refuse,
-        charters: false,
-    };
-    let gregorian = Some(Calendar::Gregorian);
-    let met = is_written(
-        rt.alloc(),
-        &names,
-        gregorian,
-        &choice,
-        "12 Mai 1806|1806-4-12",
-    )? && is_written(
-        rt.alloc(),
-        &names,
-        Some(Calendar::Julian),
-        &choice,
-        "12 Mai 1806|1806-5-12",
-    )?;
-    assert!(rt; met);
-    Ok(())
-}
+/// Words, and the numbers that they are.
+static NUMBERS: [(&str, Option<u32>); 11] = [
+    ("MCMXCIV", Some(1994)),
+    ("MMMCMXCIX", Some(3999)),
+    ("IV", Some(4)),
+    ("IIII", None),
+    ("VV", None),
+    ("IC", None),
+    ("MMMM", None),
+    ("xiv", None),
+    ("", None),
+    ("XIVI", None),
+    ("MDCCCVI", Some(1806)),
+];
 
 #[test]
 fn roman_numbers(rt: HostRuntime) {
-    let words = [
-        "MCMXCIV",
-        "MMMCMXCIX",
-        "IV",
-        "IIII",
-        "VV",
-        "IC",
-        "MMMM",
-        "xiv",
-        "",
-        "XIVI",
-        "MDCCCVI",
-    ];
-    let numbers = [
-        Some(1994),
-        Some(3999),
-        Some(4),
-        None,
-        None,
-        None,
-        None,
-        None,
-        None,
-        None,
-        Some(1806),
-    ];
-    for (word, number) in words.iter().zip(&numbers) {
+    for (word, number) in &NUMBERS {
         assert!(rt; roman_number(word.as_bytes()) == *number, "at {word:?}");
     }
 }

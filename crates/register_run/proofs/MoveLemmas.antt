@@ -1,8 +1,9 @@
 -- Items that are moved from the front of one list to the end of another.
 use Rattle.std.proofs.Common.{rules, ◌≡◌, ◌∙◌, ◌+◌, ◌++◌, ◌∷◌, [], ℕ, List, ap, append_assoc, arith, length, map, refl}
 use Rattle.std.proofs.Common.{replicate, get_or, set, subst, sym, All, append-nil}
+use Rattle.register_run.proofs.Common.{map-append}
 use Rattle.std.proofs.Math.Seq.{map-set_same}
-use Rattle.std.proofs.lemmas.List.{map-append, replicate-append-replicate}
+use Rattle.std.proofs.lemmas.List.{replicate-append-replicate}
 use Rattle.std.proofs.lemmas.List.Elements.{All-push}
 
 -- one more, where each is made into another, and both are seen as values of one kind

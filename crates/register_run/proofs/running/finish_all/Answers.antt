@@ -1,5 +1,5 @@
 use Rattle.std.proofs.Common.{◌≡◌, ◌∙◌, length, rules, sym}
-use Rattle.std.specs.Vec.Iter.{into_iter_items}
+use Rattle.register_run.proofs.Common.{into_iter_items}
 use Rattle.register_run.proofs.MoveLemmas.{all_made, made_more, none_made_yet}
 use Rattle.register_run.proofs.running.finish_all.Goals as goal
 

@@ -4,8 +4,6 @@ use Rattle.register_run.proofs.Common.{AllZip, Target, HasFirstEntries, Numbered
 use Rattle.register_run.proofs.Common.{numbers}
 use Rattle.striped_lanes.specs.Places.{HaveNumbersFrom, KeepNumbers}
 use Rattle.striped_lanes.proofs.NumberLemmas.{numbered_front}
-use Rattle.striped_lanes.proofs.EndLemmas as ends
-use Rattle.striped_lanes.proofs.ScheduleLemmas as machine
 use Rattle.register_records.specs.Entries.{Fields, body_of, entries_from}
 use Rattle.register_records.specs.Seals.{entry_records}
 use Rattle.register_records.specs.declared.setups.Form.{Form}

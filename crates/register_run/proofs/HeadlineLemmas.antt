@@ -94,7 +94,8 @@ module _ {R W : Type 0} {r : reads.Ghosts R} {o : outputs.Ghosts W} (setup : Set
           known.threads,
         );
       }
-  are_known all sources given len is = absurd (grind arith)
+  are_known all (x ∷ xs) [] len is = absurd (omega (arith, len))
+  are_known all sources given len is = absurd (omega (arith, len, ap length is))
 
   module _ (all : List (EndedSource R W r o)) (sources : List R) (given : List W) (len : length sources ≡ length given)
       (is : map ended_case all ≡ cases setup sources given) where

@@ -1,4 +1,4 @@
-use Rattle.std.proofs.Common.{◌≡◌, ◌≢◌, ◌∙◌, ℕ, Bool, arith, rules, take-add, length-drop, ◌==◌, ◌&&◌, ◌||◌}
+use Rattle.std.proofs.Common.{◌≡◌, ◌≢◌, ℕ, Bool, rules, take-add, length-drop, ◌==◌, ◌&&◌, ◌||◌}
 use Rattle.register_records.proofs.Common.{nat_tests, slice-end}
 use Rattle.std.proofs.KnownBytes.{Appends-trans}
 use Rattle.register_records.proofs.outputs.send.Goals as goal

@@ -5,8 +5,8 @@ use Rattle.register_records.proofs.Common.{∥∥₁_map, nat_tests, append_canc
 use Rattle.register_records.proofs.Common.{HasFirstEntries, HasRecords, Reading, HasTooMany, IsNotSealed, Numbered}
 use Rattle.register_records.proofs.Common.{body_of, entries_of, record_limit, text_records, AreClosed, entry_records}
 use Rattle.register_records.proofs.Common.{is_seal, entry_seen, Ends, HasEntry, IsNoSeal, LacksSeal, TakesFirst, Entry}
-use Rattle.register_records.proofs.Common.{Form}
-use Rattle.register_records.specs.Entries.{Fields, entries_from}
+use Rattle.register_records.proofs.Common.{Form, Fields}
+use Rattle.register_records.specs.Entries.{entries_from}
 use Rattle.register_records.specs.Seals.{before_seal}
 use Rattle.register_records.specs.ReadingState.{reading_by, EndsAt, Gives, HasRead}
 use Rattle.register_records.specs.declared.reading.ReaderState.{ReaderState}

@@ -1,5 +1,5 @@
 -- Which file serves which public clause:
---   RecordsLeftLemmas, FieldLemmas, BareLemmas, HeaderLemmas, SealLemmas, EntryStepLemmas, StepLemmas: `gives`,
+--   RecordsLeftLemmas, FieldLemmas, BareLemmas, SealLemmas, EntryStepLemmas, StepLemmas: `gives`,
 --     `number` and `all` of `ReadsNext`, for `EntryReader::read_next`. GivenLemmas: what it has given.
 --   OutcomeLemmas: that a row is the row of its entry, for `convert`.
 --   RowTailLemmas, LineLemmas, BareLemmas: that a line is the fields of its row, for `put`, `add` and `open` of
@@ -14,7 +14,6 @@
 pub mod Common
 pub mod FieldLemmas
 pub mod SealLemmas
-pub mod HeaderLemmas
 pub mod RecordsLeftLemmas
 pub mod EntryStepLemmas
 pub mod GivenLemmas

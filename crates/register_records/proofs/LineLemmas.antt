@@ -72,11 +72,7 @@ ended_from d before fields n begun old mid new long at is m e =
     same_test n begun (length (body d fields))
     (long ∙ ap length is ∙ length-append before (body d fields) ∙ ap (λ k. k + length (body d fields)) at)
     ∙ sym (blank_shows_none d fields) in
-    e ∙ ap (λ (t : List ℕ). t ++ 10 ∷ []) (m ∙ ap (λ b. old ++ (if b then 34 ∷ 34 ∷ [] else [])) test
-    ∙ ap (λ (t : List ℕ). t ++ (if is_blank (writing d) fields then 34 ∷ 34 ∷ [] else [])) is)
-    ∙ ap (λ (t : List ℕ). t ++ 10 ∷ []) (append_assoc before (body d fields) _)
-    ∙ append_assoc before _ (10 ∷ [])
-    ∙ ap (λ (t : List ℕ). before ++ t) (append_assoc (body d fields) _ (10 ∷ []))
+    search (rules, test, append_assoc, body)
 
 -- a line of two fields or more is never blank
 pub ended : (d : ℕ) (before : List ℕ) (fields : List (List ℕ)) (old new : List ℕ) → 2 ≤ length fields

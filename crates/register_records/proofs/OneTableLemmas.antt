@@ -3,8 +3,7 @@ use Rattle.std.proofs.Common.{◌≡◌, ℕ, List, refl, subst, sym, ◌∙◌,
 use Rattle.register_records.proofs.Common.{∥∥₁_elim, props, IsDayNumber, calendar_name, IsDateOfCalendar}
 use Rattle.register_records.proofs.Common.{day_number_of_date, IsDateText, Numbered, IsNamed, IsOutcome, IsRowOf, Says}
 use Rattle.register_records.proofs.Common.{TableRow, accepted, no_date_text, no_such_date, out_of_range, refused}
-use Rattle.register_records.proofs.Common.{unknown_calendar, Calendar, Target, Date, Refusal, OneCell}
-use Rattle.register_records.specs.Entries.{Texts}
+use Rattle.register_records.proofs.Common.{unknown_calendar, Calendar, Target, Date, Refusal, OneCell, Texts}
 use Rattle.register_records.specs.Laws.{OneTable}
 use Rattle.date_texts.specs.Laws.{OneCalendar, OneDateText}
 use Rattle.register_records.proofs.EveryTableLemmas.{has_outcome}

@@ -1,15 +1,15 @@
 -- The fields of a tail, while they are appended, and the cells among them.
 use Rattle.std.proofs.Common.{◌≡◌, ◌<◌, ◌≤◌, ◌+◌, ◌++◌, ℕ, List, [], ◌∷◌, true, false, refl, sym, ap, ◌∙◌, rules, arith}
-use Rattle.std.proofs.Common.{add-one, append_assoc, append-nil, drop, drop-cons, get_or, length, length-drop, map}
-use Rattle.std.proofs.Common.{subst, take, ◌==◌, ℤ, pos, negsuc, Bool, IsTrue, nat_le, Ok, Err, Result, take_all, ◌-◌}
-use Rattle.std.proofs.Common.{min, suc, take_at, zero}
-use Rattle.std.proofs.lemmas.Slice.Zip.{AllZip-long, all_zipped_more}
+use Rattle.std.proofs.Common.{eq-eqb, add-one, append_assoc, append-nil, drop, drop-cons, get_or, length, length-drop}
+use Rattle.std.proofs.Common.{map, subst, take, ◌==◌, ℤ, pos, negsuc, Bool, IsTrue, nat_le, Ok, Err, Result, take_all}
+use Rattle.std.proofs.Common.{◌-◌, min, suc, take_at, zero}
 use Rattle.register_records.proofs.Common.{decimal, signed_decimal, AllZip, flat_map, list_all, position_or_len}
 use Rattle.register_records.proofs.Common.{or_parts, nat_tests, length-decimal-le, ints, ∥∥₁_elim, props, needs_byte}
 use Rattle.register_records.proofs.Common.{needs_quotes, IsDayNumber, weekday_names, weekday_number, Day, is_plain}
 use Rattle.register_records.proofs.Common.{refusal_number, Target, Refusal, OneCell, cells_of, is_cells, Column}
 use Rattle.register_records.proofs.Common.{cell_columns, tail_order, column_texts, row_with, tail_texts, writing}
 use Rattle.register_records.proofs.Common.{AreCells, outcome_seen, is_delimiter, Cells}
+use Rattle.std.proofs.lemmas.Slice.Zip.{AllZip-long, all_zipped_more}
 use Rattle.std.specs.List.{onto_first, slice_split}
 use Rattle.std.proofs.lemmas.Fmt.{length_signed_le}
 use Rattle.std.proofs.lemmas.List.Splits.{length-slice_split}
@@ -42,9 +42,6 @@ cuts d b = b == d
 plain_byte_stays : (d b : ℕ) → needs_byte (writing d) b ≡ false → cuts d b ≡ false
 plain_byte_stays d b h = grind (arith, nat_tests)
 
-same_byte_cuts : (d : ℕ) → cuts d d ≡ true
-same_byte_cuts d = grind (arith, nat_tests)
-
 -- a field that needs no quotes is not cut
 plain_is_whole : (d : ℕ) (field : List ℕ) → needs_quotes (writing d) field ≡ false
     → slice_split (cuts d) field ≡ field ∷ []
@@ -67,7 +64,7 @@ some_parts d bytes = omega (arith, length-slice_split (cuts d) bytes)
 
 one_more_part : (d : ℕ) (bytes field : List ℕ) → needs_quotes (writing d) field ≡ false
     → slice_split (cuts d) (bytes ++ d ∷ field) ≡ slice_split (cuts d) bytes ++ field ∷ []
-one_more_part d [] field h = rw (same_byte_cuts d, plain_is_whole d field h) refl
+one_more_part d [] field h = rw (eq-eqb d d refl, plain_is_whole d field h) refl
 one_more_part d (b ∷ bytes) field h = search (rules, cuts, part_behind, some_parts, one_more_part d bytes field h)
 
 -- bytes to which these fields were appended
@@ -141,7 +138,7 @@ ends_at : (d : ℕ) (field : List ℕ) (more : List (List ℕ)) → needs_quotes
     → position_or_len (cuts d) (field ++ text d more) ≡ length field
 unfolding fields_text
 ends_at d [] [] h = refl
-ends_at d [] (next ∷ more) h = rw (same_byte_cuts d) refl
+ends_at d [] (next ∷ more) h = rw (eq-eqb d d refl) refl
 ends_at d (b ∷ field) more h =
     let both = or_parts (needs_byte (writing d) b) (needs_quotes (writing d) field) h in
     rw (plain_byte_stays d b both.0, ends_at d field more both.1) (omega arith)

@@ -1,10 +1,10 @@
 -- How writing the table of a source ends, for `convert_source`.
 use Rattle.std.proofs.Common.{◌≡◌, ◌≢◌, ◌⊎◌, ◌∙◌, ◌+◌, ◌-◌, ◌<◌, ◌≤◌, ◌++◌, ◌∷◌, ℕ, List, [], Option, None, Some, Err}
 use Rattle.std.proofs.Common.{IfSome, ap, arith, false, length, length-append, refl, rules, sym, true}
-use Rattle.std.specs.declared.io.traits.Read.{Ghosts}
 use Rattle.register_records.proofs.Common.{entry_fault_cause, HasAllEntries, HasTooMany, IsNotSealed, Numbered, Reading}
 use Rattle.register_records.proofs.Common.{record_limit, table_fault, given_of, reader_failed, reading_of, reads_by}
 use Rattle.register_records.proofs.Common.{text_of, Cause, SourceEnd, Entry, EntryFault, Setup, Table}
+use Rattle.std.specs.declared.io.traits.Read.{Ghosts}
 use Rattle.register_records.specs.NextEntries.{ReadsNext}
 use Rattle.register_records.specs.Sources.{IfBroken}
 use Rattle.register_records.specs.SourceTables.{IsBroken}
@@ -49,15 +49,8 @@ module _ {W : Type 0} (o : outputs.Ghosts W) (start : W) (setup : Setup) (text :
       → ((c ≢ cause.SinkFault) → Follows o start setup text given table output)
       → IsBroken o setup text start output c
   broken_by_table c fault known failed mark follows =
-      let not = λ (d : Cause) (e : is_of_table d ≡ false). other_than _ c d fault table.of_table e in record {
-        part = λ other. front _ _ _ _ _ _ _ (follows other) (other_cause _ _ _ fault other);
-        too_many = λ is. absurd (not cause.TooManyRecords refl is);
-        not_sealed = λ is. absurd (not cause.NotSealed refl is);
-        never = (not cause.BadHeader refl, not cause.NoThread refl, known);
-        sink = failed;
-        kept = λ other. kept _ _ _ _ _ _ _ (follows other) (other_cause _ _ _ fault other);
-        mark = mark;
-      }
+      let not = λ (d : Cause) (e : is_of_table d ≡ false). other_than _ c d fault table.of_table e in
+      search (rules, front, kept, other_cause, not, follows, failed)
 
   -- a fault of reading
   pub broken_by_reader : {R : Type 0} {g : Ghosts R} (old new : EntryReader R g) (entry : Entry) (f : EntryFault)

@@ -2,8 +2,7 @@
 use Rattle.std.proofs.Common.{◌≡◌, ℕ, List, [], ◌∷◌, Bool, Option, Some, None, true, false, refl, sym, ◌∙◌, arith}
 use Rattle.std.proofs.Common.{rules, IfSome, IfErr, IsErrAnd, Result, Ok, Err}
 use Rattle.register_records.proofs.Common.{Fields, Agrees, is_seal, Ends, HasEntry, IsNoSeal, LacksSeal, Reads}
-use Rattle.register_records.proofs.Common.{TakesFirst, records_left, Entry, EntryFault, Form, Sealed}
-use Rattle.csv.specs.declared.reader.Reader.{Reader}
+use Rattle.register_records.proofs.Common.{TakesFirst, records_left, Entry, EntryFault, Form, Sealed, Reader}
 use Rattle.register_records.specs.ReadingState.{EndsBehind, ReadsEntry}
 use Rattle.register_records.proofs.GivenLemmas.{before_none, if_some, no_seal_first, seal_first}
 

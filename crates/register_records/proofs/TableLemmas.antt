@@ -119,21 +119,11 @@ pub holds_more : {W : Type 0} (o : outputs.Ghosts W) (old new : Table W) (output
     → new.journal.items ≡ old.journal.items ++ refusal_notes (row_seen row).number (row_seen row).outcome
     → new.rows ≡ old.rows + 1 → Holds o new output (rows ++ row ∷ [])
 holds_more o old new output w more rows row h next is now state same line by notes counted =
-    record {
-      stands = λ good.
-          rw (now, same.0, same.1) (stands_more o (layout_of old.setup) (made_for old) output w more rows row
-          (rw is at (h.stands (rw state at good))) line by next.2);
-      failed = rw state h.failed;
-      good = rw (state, same.0) h.good;
-      mark = rw same.0 h.mark;
-      numbered = numbered_row rows row old.rows h.numbered h.counted next.1;
-      counted = omega (arith, length-append rows (row ∷ []), h.counted, counted);
-      targets =
-          rw same.1 (targets_row (λ (r : Row). row_targets r ≡ (layout_of old.setup).targets) rows row h.targets next.2);
-      noted = rw map-append (notes ∙ ap (λ b.
-          b ++ refusal_notes (row_seen row).number (row_seen row).outcome) h.noted
-          ∙ sym (journal_last (rows_seen rows) (row_seen row)));
-    }
+    let stands = λ (good : has_lost_output old ≡ false).
+    stands_more o (layout_of old.setup) (made_for old) output w more rows row (rw is at (h.stands good)) line by next.2 in
+    let targets = targets_row (λ (r : Row). row_targets r ≡ (layout_of old.setup).targets) rows row h.targets next.2 in
+    let noted = journal_last (rows_seen rows) (row_seen row) in
+    search (rules, stands, targets, noted, numbered_row, length-append, map-append)
 
 -- rows that were made for these targets are the rows of their entries
 rows_are : (targets : List Target) (rows : List Row) → ((row : Row) → Contains rows row → row_targets row ≡ targets)

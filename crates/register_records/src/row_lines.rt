@@ -40,19 +40,6 @@ fn put_entry_names(lines: &mut LineBuffer, has_notes: bool)
     }
 }
 
-/// Puts the names of the targets, which head their columns.
-fn put_target_names(lines: &mut LineBuffer, targets: &[Target])
-    requires few { length targets.now ≤ MAX_TARGETS }
-    requires room { lines.old.len + name_room ColumnKind.Cells ≤ line_capacity lines.old }
-    ensures value { GainsFields lines.old.delimiter (kind_names targets.now ColumnKind.Cells) (line_bytes lines.old)
-        (line_bytes lines.new) }
-    ensures grows { GrowsBy (name_room ColumnKind.Cells) lines.old lines.new }
-{
-    'targets: for target in targets {
-        lines.field(target.name().as_bytes());
-    }
-}
-
 /// Puts what heads a column: its name, or for the cells those of their targets.
 #[tactic(auto, using(crate::proofs::LineLemmas::one_name))]
 fn put_names(lines: &mut LineBuffer, column: ColumnKind, targets: &[Target])
@@ -63,7 +50,11 @@ fn put_names(lines: &mut LineBuffer, column: ColumnKind, targets: &[Target])
     ensures grows { GrowsBy (name_room column) lines.old lines.new }
 {
     match column {
-        ColumnKind::Cells => put_target_names(lines, targets),
+        ColumnKind::Cells => {
+            'targets: for target in targets {
+                lines.field(target.name().as_bytes());
+            }
+        }
         _ => lines.field(column.name().as_bytes()),
     }
 }

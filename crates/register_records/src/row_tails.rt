@@ -19,7 +19,6 @@ ghost use Rattle.register_records.specs.SetupRules.{is_delimiter};
 ghost use Rattle.register_records.specs.TableColumns.{IsCellField, column_texts, tail_texts};
 ghost use Rattle.register_records.specs.declared.row_tails.TheConstants.{CELL_ROOM, TAIL_ROOM};
 
-use crate::setups::Setup;
 use crate::short_lists::ShortList;
 use crate::table_columns::{
     CELLS_PLACE, ColumnKind, DAY_NUMBER_LIMIT, REFUSAL_LIMIT, WEEKDAY_LIMIT,
@@ -126,7 +125,7 @@ pub(crate) fn behind_field(bytes: &[u8], delimiter: u8) -> &[u8]
 }
 
 /// Whether two outcomes are one.
-fn is_same_outcome(outcome: Result<Day, Refusal>, other: Result<Day, Refusal>) -> bool
+pub(crate) fn is_same_outcome(outcome: Result<Day, Refusal>, other: Result<Day, Refusal>) -> bool
     ensures { result ≡ true → outcome_seen outcome ≡ outcome_seen other }
 {
     match (outcome, other) {
@@ -141,7 +140,6 @@ impl RowTail {
     ghost use Rattle.register_records.specs.Columns.{tail_order};
     ghost use Rattle.register_records.specs.RowTails.{cells_of, fields_of, is_cells, is_of_entry};
     ghost use Rattle.register_records.specs.ShortLists.{items_in};
-    ghost use Rattle.register_records.specs.Views.{targets_of};
 
     /// The tail of no field.
     #[tactic(auto, unfolding(csv::specs::Writing::fields_text))]
@@ -336,23 +334,5 @@ impl RowTail {
         self.push_column(ColumnKind::Weekday, targets, outcome);
         self.push_column(ColumnKind::Cells, targets, outcome);
         self.push_column(ColumnKind::Refusal, targets, outcome);
-    }
-
-    /// Whether this tail, of an outcome for some targets, is that of the next outcome for the setup's too: these and the
-    /// delimiter are the same, as for a second entry on a day in a register in order of time.
-    #[inline(always)]
-    pub fn stands(
-        &self,
-        targets: &TargetList,
-        outcome: Result<Day, Refusal>,
-        setup: &Setup,
-        next: Result<Day, Refusal>,
-    ) -> bool
-        ensures outcome { result ≡ true → outcome_seen outcome ≡ outcome_seen next }
-        ensures targets { result ≡ true → items_in targets.now.items ≡ targets_of setup.now }
-    {
-        is_same_outcome(outcome, next)
-            && self.delimiter == setup.delimiter()
-            && targets.is_same(&setup.targets)
     }
 }

@@ -13,7 +13,7 @@ use crate::ends::Note;
 use crate::entries::{Body, Entry};
 use crate::lines::LineBuffer;
 use crate::reading::{EntryFault, EntryReader};
-use crate::row_tails::{RowTail, behind_field};
+use crate::row_tails::{RowTail, behind_field, is_same_outcome};
 use crate::setups::Setup;
 use crate::short_lists::ShortList;
 use crate::target_lists::TargetList;
@@ -117,7 +117,11 @@ fn reconvert(
         (cells_of (items_in targets.new.items) outcome.new tail.new) }
 {
     one_cell();
-    if tail.stands(targets, *outcome, setup, next) {
+    // It stands where all of it is as before, as for a second entry on a day in a register in order of time.
+    if is_same_outcome(*outcome, next)
+        && tail.delimiter == setup.delimiter()
+        && targets.is_same(&setup.targets)
+    {
         return;
     }
     tail.set(&setup.targets, next, setup.delimiter());

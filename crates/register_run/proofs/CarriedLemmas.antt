@@ -2,16 +2,14 @@
 use Rattle.std.proofs.Common.{rules, ◌≡◌, ◌∙◌, ap, sym, subst, refl, zero, suc, List, [], ◌∷◌, ◌++◌, append_assoc}
 use Rattle.std.proofs.Common.{append-nil, ℕ, ◌+◌, length, map, false, true, Option, None, Some, arith, Bool, Err}
 use Rattle.std.proofs.Common.{MatchOption, Ok, OnErr, OnOk, Result, eqb, is_err}
-use Rattle.std.specs.List.{Contains}
+use Rattle.register_run.proofs.Common.{Contains, length-map, map-append, Contains-append_left, IsPrefix, entries_in}
+use Rattle.register_run.proofs.Common.{HasConfirmation, Lane, all_sent, closed_lane, sender_lane, sent, taken, Gone}
+use Rattle.register_run.proofs.Common.{Item, Closed, Sender, entry_seen, Entry, Row, HasPassedOn, AreOfAllTaken}
+use Rattle.register_run.proofs.Common.{AreOfTaken, HasEnded, carried, row_entries, rows_carried, IsConverting, Stripe}
+use Rattle.register_run.proofs.Common.{entries_in_append}
 use Rattle.std.specs.Option.{option_eq}
-use Rattle.std.proofs.lemmas.List.{get_or-map, length-map, length_push, map-append}
-use Rattle.std.proofs.lemmas.List.Elements.{Contains-append_left}
-use mathlib.Core.List.{IsPrefix}
-use Rattle.register_run.proofs.Common.{entries_in, HasConfirmation, Lane, all_sent, closed_lane, sender_lane, sent}
-use Rattle.register_run.proofs.Common.{taken, Gone, Item, Closed, Sender, entry_seen, Entry, Row, HasPassedOn}
-use Rattle.register_run.proofs.Common.{AreOfAllTaken, AreOfTaken, HasEnded, carried, row_entries, rows_carried}
-use Rattle.register_run.proofs.Common.{IsConverting, Stripe}
-use Rattle.lane_rings.proofs.EndLemmas.{entries_in_append, last_mark_append}
+use Rattle.std.proofs.lemmas.List.{get_or-map, length_push}
+use Rattle.lane_rings.proofs.EndLemmas.{last_mark_append}
 use Rattle.lane_rings.specs.Items.{last_mark}
 use Rattle.lane_rings.specs.Lane.{IsWhole, waiting}
 use Rattle.lane_rings.specs.declared.item.Item.TheVariants as item

@@ -1,11 +1,9 @@
 -- How a converter ends the lane of its rows.
 use Rattle.std.proofs.Common.{◌≡◌, ◌∙◌, refl, sym, ℕ, List, [], ◌∷◌, ◌++◌, ◌+◌, append_assoc, arith, length}
 use Rattle.std.proofs.Common.{length-append, Some}
-use mathlib.Core.List.{IsPrefix}
-use Rattle.register_run.proofs.Common.{entries_in, HasConfirmation, all_sent, closed_lane, receiver_lane}
+use Rattle.register_run.proofs.Common.{IsPrefix, entries_in, HasConfirmation, all_sent, closed_lane, receiver_lane}
 use Rattle.register_run.proofs.Common.{Lane, sender_lane, sent, taken, Item, Closed, Sender, Entry, Row, AreOfAllTaken}
-use Rattle.register_run.proofs.Common.{AreOfTaken, IsConverting}
-use Rattle.lane_rings.proofs.EndLemmas.{entries_in_append}
+use Rattle.register_run.proofs.Common.{AreOfTaken, IsConverting, entries_in_append}
 use Rattle.lane_rings.specs.declared.item.Item.TheVariants as item
 use Rattle.lane_rings.specs.declared.receiver.Receiver.{Receiver}
 use Rattle.register_run.proofs.CarriedLemmas.{all_ended, first_ended, no_more, stop_is_no_end}

@@ -2,12 +2,10 @@
 use Rattle.std.proofs.Common.{rules, ◌≡◌, ◌∙◌, ◌+◌, ◌-◌, ◌<◌, ℕ, zero, suc, List, [], ◌∷◌, ◌++◌, append-nil, arith}
 use Rattle.std.proofs.Common.{get_or, set, ap, map, sym, ◌==◌, All, Err, Ok, OnErr, OnOk, Result, false, is_err, true}
 use Rattle.std.proofs.Common.{eq-eqb, ne_eqb}
-use Rattle.std.specs.List.{AllZip, Contains}
-use Rattle.std.proofs.lemmas.List.{map-append}
-use Rattle.std.proofs.lemmas.List.Elements.{All-contains, All-contains_itself, All-filter, All-head, All-tail}
-use Rattle.std.proofs.lemmas.List.Elements.{filter-append}
-use Rattle.register_run.proofs.Common.{Closed, Sender, Gone, Item, entries_in, sent, Numbered, entry_seen, Entry}
-use Rattle.register_run.proofs.Common.{AreDealt, HasEnded, WereDealt, carried, dealt, turn, World}
+use Rattle.register_run.proofs.Common.{AllZip, Contains, map-append, All-contains, All-contains_itself, All-head}
+use Rattle.register_run.proofs.Common.{All-tail, Closed, Sender, Gone, Item, entries_in, sent, Numbered, entry_seen}
+use Rattle.register_run.proofs.Common.{Entry, AreDealt, HasEnded, WereDealt, carried, dealt, turn, World}
+use Rattle.std.proofs.lemmas.List.Elements.{All-filter, filter-append}
 use Rattle.lane_rings.specs.declared.item.Item.TheVariants as item
 use Rattle.register_run.proofs.CarriedLemmas.{one_more}
 

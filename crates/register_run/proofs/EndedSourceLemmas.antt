@@ -1,18 +1,15 @@
 -- What is known of a source that has ended.
-use Rattle.std.proofs.Common.{rules, ◌≡◌, ◌≢◌, ◌∙◌, ap, refl, sym, subst, ℕ, List, [], ◌++◌, length, Option, None}
-use Rattle.std.proofs.Common.{Some, ◌≤◌, inl, inr, arith, length-append, true, false, Bool, Err, Ok, IfOk, IfSome}
-use Rattle.std.specs.List.{AllZip, Contains}
-use Rattle.std.proofs.lemmas.Bool.{cases_eq, false_from_ne_true}
-use Rattle.std.proofs.lemmas.List.{length-map}
-use Rattle.std.proofs.Props.{props}
-use Rattle.std.proofs.Math.Logic.{∥∥₁_elim, ∥∥₁_map, ∥∥₁_prop}
-use Rattle.register_run.proofs.Common.{Row, Cause, SourceEnd, HasAllEntries, HasEntries, HasFirstEntries, Numbered}
-use Rattle.register_run.proofs.Common.{record_limit, IsRowOf, entry_seen, IfBroken, IfWhole, cause_number, Layout}
-use Rattle.register_run.proofs.Common.{Reading, layout_of, reading_of, Stripe, Sent, Findings, Table, HasMetNone, IsLowest, IsMet}
+use Rattle.std.proofs.Common.{rules, ◌≡◌, ◌≢◌, ◌∙◌, ap, refl, sym, subst, ℕ, List, [], ◌++◌, length, Option, None, Some}
+use Rattle.std.proofs.Common.{◌≤◌, inl, inr, arith, length-append, true, false, Bool, Err, Ok, IfOk, IfSome}
+use Rattle.register_run.proofs.Common.{AllZip, Contains, length-map, props, ∥∥₁_elim, ∥∥₁_map, ∥∥₁_prop, Row, Cause}
+use Rattle.register_run.proofs.Common.{SourceEnd, HasAllEntries, HasEntries, HasFirstEntries, Numbered, record_limit}
+use Rattle.register_run.proofs.Common.{IsRowOf, entry_seen, IfBroken, IfWhole, cause_number, Layout, Reading, layout_of}
+use Rattle.register_run.proofs.Common.{reading_of, Stripe, Sent, Findings, Table, HasMetNone, IsLowest, IsMet}
 use Rattle.register_run.proofs.Common.{is_of_table, IsSourceEnd, Carries, IsMachineWithTable, HasPassed, IsGiven}
-use Rattle.register_run.proofs.Common.{IsOfGiven, Holds, entries_seen, rows_seen}
+use Rattle.register_run.proofs.Common.{IsOfGiven, Holds, entries_seen, rows_seen, table_fault}
+use Rattle.std.proofs.lemmas.Bool.{cases_eq, false_from_ne_true}
 use Rattle.register_records.specs.Tables.{table_text}
-use Rattle.register_records.specs.TablesWritten.{HasEnded, has_lost_output, is_headed, made_for, table_fault, waiting_of}
+use Rattle.register_records.specs.TablesWritten.{HasEnded, has_lost_output, is_headed, made_for, waiting_of}
 use Rattle.register_run.specs.JoinedThreads.{IsNotOfOutput, is_of_reading, speaks_of_text}
 use Rattle.register_records.specs.declared.outputs.Output as outputs
 use Rattle.register_records.specs.declared.ends.Cause.TheVariants as cause
@@ -207,15 +204,8 @@ module _ {W : Type 0} (o : outputs.Ghosts W) (text : Option (List ℕ)) (table :
 
   threads_so : (c : Cause) → is_of_reading c ≡ false
       → (c ≡ cause.SinkFault → table_fault table ≡ Some cause.SinkFault) → EndsSo (end.Broken c)
-  threads_so c other sink = ∥∥₁_map (are_rows o table output rows holds sent) (λ are. record {
-    part = λ e. absurd (let k = listed c e in cc);
-    bad_header = λ e. absurd (let k : is_of_reading c ≡ true = ap is_of_reading e in cc);
-    too_many = λ e. absurd (let k : is_of_reading c ≡ true = ap is_of_reading e in cc);
-    not_sealed = λ e. absurd (let k : is_of_reading c ≡ true = ap is_of_reading e in cc);
-    in_order = λ good. in_order_so (not_failed good) are;
-    sink = λ e. holds.failed (table.sink_fault (sink e));
-    kept = λ e. absurd (let k = listed c e in cc);
-  })
+  threads_so c other sink =
+      ∥∥₁_map (are_rows o table output rows holds sent) (λ are. search (rules, listed, in_order_so, not_failed))
 
   broken_so : (b : Bool) (c : Cause) → is_of_reading c ≡ b → (is_of_reading c ≡ true → IsReadingMet met c)
       → (c ≡ cause.SinkFault → table_fault table ≡ Some cause.SinkFault) → EndsSo (end.Broken c)

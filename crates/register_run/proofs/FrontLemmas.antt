@@ -1,10 +1,9 @@
 -- Entries that are numbered in order are the first of those among which they stand.
 use Rattle.std.proofs.Common.{rules, ◌≡◌, ◌∙◌, ap, refl, sym, ℕ, zero, suc, ◌+◌, ◌≤◌, List, [], ◌∷◌, ◌++◌, length}
 use Rattle.std.proofs.Common.{arith, append_assoc, length-append, append-nil, Option}
-use Rattle.std.specs.List.{Contains}
-use Rattle.std.proofs.lemmas.List.Elements.{All-contains, All-contains_itself, All-map, All-weaker}
-use Rattle.register_run.proofs.Common.{AreNumberedFrom, Reading, HasFirstEntries, Numbered, entry_seen, Row, IsOfGiven}
-use Rattle.register_run.proofs.Common.{entries_seen}
+use Rattle.register_run.proofs.Common.{Contains, All-contains, All-contains_itself, AreNumberedFrom, Reading}
+use Rattle.register_run.proofs.Common.{HasFirstEntries, Numbered, entry_seen, Row, IsOfGiven, entries_seen}
+use Rattle.std.proofs.lemmas.List.Elements.{All-map, All-weaker}
 
 later : (k : ℕ) (ys : List Numbered) (z : Numbered) → AreNumberedFrom k ys → Contains ys z → k ≤ z.number
 later k [] z h c = absurd (omega (arith, c.1))

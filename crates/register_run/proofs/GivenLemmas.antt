@@ -1,10 +1,8 @@
 -- What a reader gave of a text, by how it ended.
-use Rattle.std.proofs.Common.{rules, ◌≡◌, ◌∙◌, sym, refl, ℕ, List, [], length, Option}
-use Rattle.std.proofs.Common.{inr, map, Err, IfSome, Ok}
-use Rattle.std.proofs.Math.Logic.{∥∥₁_elim, ∥∥₁_map, ∥∥₁_prop}
-use Rattle.register_run.proofs.Common.{AreNumberedFrom, Reading, HasAllEntries, HasEntries, HasFirstEntries, Numbered}
-use Rattle.register_run.proofs.Common.{record_limit, Cause, Lane, Sender, sender_lane, Entry, Row, AreDealt, World}
-use Rattle.register_run.proofs.Common.{HasPassed, IsGiven, Sent}
+use Rattle.std.proofs.Common.{rules, ◌≡◌, refl, ℕ, List, [], length, Option, map, Err, IfSome, Ok}
+use Rattle.register_run.proofs.Common.{∥∥₁_elim, ∥∥₁_map, ∥∥₁_prop, AreNumberedFrom, Reading, HasAllEntries, HasEntries}
+use Rattle.register_run.proofs.Common.{HasFirstEntries, Numbered, record_limit, Cause, Lane, Sender, sender_lane, Entry}
+use Rattle.register_run.proofs.Common.{Row, AreDealt, World, HasPassed, IsGiven, Sent}
 use Rattle.register_records.specs.Causes.{entry_fault_cause}
 use Rattle.register_records.specs.Entries.{HasNoHeader, HasTooMany, IsNotSealed}
 use Rattle.register_records.specs.declared.reading.EntryFault.{EntryFault}
@@ -81,29 +79,14 @@ module _ (text : Option (List ℕ)) (reading : Reading) where
   pub given_gone : (given : List Numbered) → AreNumberedFrom 1 given
       → ∥ HasFirstEntries reading text given ∥₁ → (sent : Sent) → sent.outcome ≡ Err cause.Unconfirmed
       → ∥ IsGiven text reading sent given ∥₁
-  given_gone given numbered first sent why = ∥∥₁_map first (λ f. record {
-    counted = rw why (λ speaks. cc);
-    numbered = numbered;
-    first = inr f;
-    all = rw why tt;
-    bad_header = rw why (λ e. cc);
-    too_many = rw why (λ e. cc);
-    not_sealed = rw why (λ e. cc);
-  })
+  given_gone given numbered first sent why = ∥∥₁_map first (λ f. search rules)
 
   -- these are all
   pub given_all : (given : List Numbered) → AreNumberedFrom 1 given
       → ∥ HasFirstEntries reading text given ∥₁ → ∥ HasEntries reading text given ∥₁ → (sent : Sent) (n : ℕ)
       → n ≡ length given → sent.count ≡ n → sent.outcome ≡ Ok n → ∥ IsGiven text reading sent given ∥₁
-  given_all given numbered first all sent n count counted is = ∥∥₁_elim first ∥∥₁_prop (λ f. ∥∥₁_map all (λ a. record {
-    counted = λ speaks. sym (counted ∙ count);
-    numbered = numbered;
-    first = inr f;
-    all = rw is (count, a);
-    bad_header = rw is tt;
-    too_many = rw is tt;
-    not_sealed = rw is tt;
-  }))
+  given_all given numbered first all sent n count counted is =
+      ∥∥₁_elim first ∥∥₁_prop (λ f. ∥∥₁_map all (λ a. search rules))
 
 module _ (text text' : Option (List ℕ)) (d d' : Reading) (same : text' ≡ text) (by : d' ≡ d) (given old : List Numbered)
     (kept : given ≡ old) (numbered : AreNumberedFrom 1 old)

@@ -1,10 +1,10 @@
 -- From the sources that have ended, each by itself, to the lists of a report.
-use Rattle.std.proofs.Common.{rules, ◌≡◌, ◌∙◌, ap, refl, sym, subst, List, [], ◌∷◌, ◌++◌, map, length}
-use Rattle.std.proofs.Common.{append_assoc, append-nil, arith, true, ◌↔◌, All}
-use Rattle.std.proofs.lemmas.List.{map-append}
+use Rattle.std.proofs.Common.{rules, ◌≡◌, ◌∙◌, ap, refl, sym, subst, List, [], ◌∷◌, ◌++◌, map, length, append_assoc}
+use Rattle.std.proofs.Common.{append-nil, arith, true, ◌↔◌, All}
+use Rattle.register_run.proofs.Common.{map-append, Setup, SourceEnd, IfWhole, layout_of, reading_of, Stripe, Ran}
+use Rattle.register_run.proofs.Common.{case_of, end_of, ended_case, output_of, ran_of, IsSourceEnd, IsMachineWithTable}
+use Rattle.register_run.proofs.Common.{AreThreadsOf, cases}
 use Rattle.std.specs.declared.io.traits.Read as reads
-use Rattle.register_run.proofs.Common.{Setup, SourceEnd, IfWhole, layout_of, reading_of, Stripe, Ran, case_of, end_of, ended_case}
-use Rattle.register_run.proofs.Common.{output_of, ran_of, IsSourceEnd, IsMachineWithTable, AreThreadsOf}
 use Rattle.register_records.specs.declared.outputs.Output as outputs
 use Rattle.register_records.specs.declared.ends.Cause.TheVariants as cause
 use Rattle.register_records.specs.declared.ends.SourceEnd.TheVariants as end
@@ -13,7 +13,7 @@ use Rattle.register_run.specs.declared.reports.Report.{Report}
 use Rattle.register_run.specs.declared.reports.Verdict.TheVariants.{Complete}
 use Rattle.register_run.specs.declared.ended_sources.EndedSource.{EndedSource}
 use Rattle.register_run.specs.declared.running_sources.RunningSource.{RunningSource}
-use Rattle.register_run.specs.Cases.{Case, case, cases}
+use Rattle.register_run.specs.Cases.{Case, case}
 use Rattle.register_run.specs.Headline.{AtEachPlace}
 use Rattle.register_run.specs.Histories.{AreOfMachine}
 use Rattle.register_run.specs.Reports.{IsReport, IsReportOfMachine, IsReportOfThreads}
@@ -94,28 +94,26 @@ module _ {R W : Type 0} {r : reads.Ghosts R} {o : outputs.Ghosts W} (setup : Set
           known.threads,
         );
       }
-  are_known all sources given len is = absurd (grind arith)
+  are_known all (x ∷ xs) [] len is = absurd (omega (arith, len))
+  are_known all sources given len is = absurd (omega (arith, len, ap length is))
 
   module _ (all : List (EndedSource R W r o)) (sources : List R) (given : List W) (len : length sources ≡ length given)
       (is : map ended_case all ≡ cases setup sources given) where
     known : AreKnown all sources given
     known = are_known all sources given len is
 
-    module _ (report : Report W) (ends : report.ends.items ≡ map end_of all) (by : report.ran.items ≡ map ran_of all)
-      where
-        pub report_of : report.outputs.items ≡ map output_of all
-            → ((report.verdict ≡ Complete) ↔ All (λ e. is_whole_end e ≡ true) report.ends.items)
-            → IsReport r o setup sources given report
-        report_of wrote verdict = record {
-          places = rw (wrote, ends) known.places;
-          marks = ap (map o.own_mark) wrote ∙ known.marks;
-          by_setup = ap (map (λ ran. ran.setup.value)) by ∙ known.setups;
-          verdict = verdict;
-        }
-
-        pub report_of_machine : report.outputs.items ≡ map output_of all
-            → IsReportOfMachine r o setup sources given report
-        report_of_machine wrote = rw (wrote, ends, by) known.machine
-
-        pub report_of_threads : IsReportOfThreads setup report
-        report_of_threads = rw (ends, by) known.threads
+    pub reported : (report : Report W) → report.outputs.items ≡ map output_of all
+        → report.ends.items ≡ map end_of all → report.ran.items ≡ map ran_of all
+        → ((report.verdict ≡ Complete) ↔ All (λ e. is_whole_end e ≡ true) report.ends.items)
+        → IsReport r o setup sources given report × IsReportOfMachine r o setup sources given report
+        × IsReportOfThreads setup report
+    reported report wrote ends by verdict = (
+      record {
+        places = rw (wrote, ends) known.places;
+        marks = ap (map o.own_mark) wrote ∙ known.marks;
+        by_setup = ap (map (λ ran. ran.setup.value)) by ∙ known.setups;
+        verdict = verdict;
+      },
+      rw (wrote, ends, by) known.machine,
+      rw (ends, by) known.threads,
+    )

@@ -1,14 +1,12 @@
 -- Lanes that carried what the machine deals have the histories of the machine's lanes.
 use Rattle.std.proofs.Common.{rules, ◌≡◌, ◌∙◌, ◌+◌, ◌<◌, ℕ, List, [], ◌∷◌, true, false, ap, arith, map, refl, sym, Bool}
 use Rattle.std.proofs.Common.{Err, IfOk, Ok, Option, Result, is_ok, length, nat_lt, replicate, leb-true, lt-ltb}
-use Rattle.std.proofs.Math.Logic.{∥∥₁_map}
-use Rattle.std.proofs.lemmas.Bool.{and_parts}
-use Rattle.std.proofs.lemmas.List.{length-map, length-replicate}
-use Rattle.std.proofs.lemmas.Slice.Zip.{AllZip-long}
+use Rattle.register_run.proofs.Common.{∥∥₁_map, and_parts, length-map, AllZip-long, Closed, AreNumberedFrom, Numbered}
+use Rattle.register_run.proofs.Common.{Entry, reading_of, Setup, Cause, Actor, start, run, AnyTook, HasPassedOn}
+use Rattle.register_run.proofs.Common.{HavePassedOn, feeding_lane, stripe_setup, WereDealt, dealt, Carries, AreOfLanes}
+use Rattle.register_run.proofs.Common.{World, Stripe}
+use Rattle.std.proofs.lemmas.List.{length-replicate}
 use mathlib.Core.Bool.{beq}
-use Rattle.register_run.proofs.Common.{Closed, AreNumberedFrom, Numbered, Entry, reading_of, Setup, Cause, Actor, start}
-use Rattle.register_run.proofs.Common.{run, AnyTook, HasPassedOn, HavePassedOn, feeding_lane, stripe_setup}
-use Rattle.register_run.proofs.Common.{WereDealt, dealt, Carries, AreOfLanes, World, Stripe}
 use Rattle.striped_lanes.specs.Histories.{entries_over, rows_over}
 use Rattle.striped_lanes.specs.Places.{table_rows}
 use Rattle.striped_lanes.proofs.OneByOneLemmas.{all_over, one_by_one}

@@ -1,10 +1,8 @@
 -- Items of lanes, as they are seen and taken.
-use Rattle.std.proofs.Common.{◌≡◌, ◌∙◌, ap, sym, subst, refl, List, [], ◌∷◌, ◌++◌, append_assoc, arith, lit<}
-use Rattle.std.proofs.Common.{◌+◌, length, length-append, take, take_at}
-use Rattle.std.specs.List.{Contains}
-use Rattle.std.proofs.lemmas.List.Elements.{Contains-append_left, Contains-append_right}
-use mathlib.Core.List.{IsPrefix}
-use Rattle.register_run.proofs.Common.{Item}
+use Rattle.std.proofs.Common.{◌≡◌, ◌∙◌, ap, sym, subst, refl, List, [], ◌∷◌, ◌++◌, append_assoc, arith, lit<, ◌+◌}
+use Rattle.std.proofs.Common.{length, length-append, take, take_at}
+use Rattle.register_run.proofs.Common.{Contains, Contains-append_left, IsPrefix, Item}
+use Rattle.std.proofs.lemmas.List.Elements.{Contains-append_right}
 
 module _ {T : Type 0} where
   -- a look takes nothing, and what it saw before it sees still

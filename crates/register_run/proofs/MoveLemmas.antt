@@ -1,18 +1,12 @@
 -- Items that are moved from the front of one list to the end of another.
 use Rattle.std.proofs.Common.{rules, ◌≡◌, ◌∙◌, ◌+◌, ◌++◌, ◌∷◌, [], ℕ, List, ap, append_assoc, arith, length, map, refl}
 use Rattle.std.proofs.Common.{replicate, get_or, set, subst, sym, All, append-nil}
+use Rattle.register_run.proofs.Common.{map-append}
 use Rattle.std.proofs.Math.Seq.{map-set_same}
-use Rattle.std.proofs.lemmas.List.{map-append, replicate-append-replicate}
+use Rattle.std.proofs.lemmas.List.{replicate-append-replicate}
 use Rattle.std.proofs.lemmas.List.Elements.{All-push}
 
--- one more, where each is made into another, and both are seen as values of one kind
-pub made_more : {X Y Z : Type 0} (f : X → Z) (h : Y → Z) (all : List Z) (done new : List X) (one : X)
-    (left rest : List Y) (item : Y)
-    → new ≡ done ++ one ∷ [] → f one ≡ h item → left ≡ item ∷ rest → map f done ++ map h left ≡ all
-    → map f new ++ map h rest ≡ all
-made_more f h all done new one left rest item n s l e = rw (n, map-append, append_assoc, s) (rw l at e)
-
--- the same where what is made is the value that is seen
+-- one more, where each is made into another, which is the value that is seen
 pub seen_more : {Y Z : Type 0} (h : Y → Z) (all done new : List Z) (one : Z) (left rest : List Y) (item : Y)
     → new ≡ done ++ one ∷ [] → one ≡ h item → left ≡ item ∷ rest → done ++ map h left ≡ all → new ++ map h rest ≡ all
 seen_more h all done new one left rest item n s l e = rw (n, append_assoc, s) (rw l at e)
@@ -26,10 +20,6 @@ set_same f xs i new was same here = map-set_same f xs i new was (same ∙ ap f h
 pub none_made : {Y Z : Type 0} (h : Y → Z) (all left : List Y) (done : List Z) → done ≡ [] → left ≡ all
     → done ++ map h left ≡ map h all
 none_made h all left done none is = rw (none, is) refl
-
-pub none_made_yet : {X Y Z : Type 0} (f : X → Z) (h : Y → Z) (all left : List Y) (done : List X) → done ≡ []
-    → left ≡ all → map f done ++ map h left ≡ map h all
-none_made_yet f h all left done none is = rw (none, is) refl
 
 -- once none is left, all are made
 pub all_made : {Y Z : Type 0} (h : Y → Z) (all done : List Z) (left : List Y) → length left ≡ 0

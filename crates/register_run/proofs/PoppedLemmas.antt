@@ -1,11 +1,10 @@
 -- How many rows were popped, as one of the stripes is looked at or gives a row.
 use Rattle.std.proofs.Common.{rules, ◌≡◌, ◌∙◌, ◌+◌, ◌<◌, ℕ, zero, suc, List, [], ◌∷◌, ◌++◌, ap, arith, get_or, length}
 use Rattle.std.proofs.Common.{set, subst, sym, true, Some, slice_get, get_or-set_same, length-set}
-use Rattle.std.proofs.lemmas.List.Elements.{All-cons, All-head, All-tail}
+use Rattle.register_run.proofs.Common.{All-cons, All-head, All-tail, taken, turn, World, popped, Stripe}
 use Rattle.std.proofs.lemmas.List.Sums.{sum_by-append, sum_by-set}
 use Rattle.std.proofs.lemmas.Nat.{mod_below}
 use Rattle.std.proofs.lemmas.Option.{slice_get-get_or}
-use Rattle.register_run.proofs.Common.{taken, turn, World, popped, Stripe}
 use Rattle.register_run.specs.Stripes.{IsRowNext}
 use Rattle.register_run.specs.Popped.{AreOpen, HasLooked, HasLookedAt, HasPopped, IsInTurn, popped_from}
 use Rattle.register_run.specs.declared.stripes.Look.{Look}

@@ -1,14 +1,13 @@
 -- What a source's table holds, as rows are taken from its stripes.
-use Rattle.std.proofs.Common.{rules, ◌≡◌, ◌≢◌, ◌⊎◌, ℕ, List, [], ◌∷◌, ◌++◌, None, Option, inl, inr, Err, IfOk, Ok, Result}
-use Rattle.std.proofs.Math.Logic.{∥∥₁_map}
-use Rattle.register_run.proofs.Common.{Row, Cause, Reading, reading_of, Stripe, Sent, Table, Carries, AnyTook}
-use Rattle.register_run.proofs.Common.{HasPassed, Holds}
+use Rattle.std.proofs.Common.{rules, ◌≡◌, ◌≢◌, ◌⊎◌, ℕ, List, [], ◌∷◌, ◌++◌, None, Option, inl, inr, Err, IfOk, Ok}
+use Rattle.std.proofs.Common.{Result}
+use Rattle.register_run.proofs.Common.{∥∥₁_map, Row, Cause, Reading, reading_of, Stripe, Sent, Table, Carries, AnyTook}
+use Rattle.register_run.proofs.Common.{HasPassed, Holds, table_fault}
 use Rattle.register_records.specs.declared.outputs.Output as outputs
 use Rattle.register_run.specs.Stripes.{start_fault_cause}
 use Rattle.register_run.specs.declared.stripes.StartFault.{StartFault}
 use Rattle.register_run.specs.declared.stripes.StartFault.TheVariants as fault
 use Rattle.register_run.proofs.GivenLemmas.{passed_not}
-use Rattle.register_records.specs.TablesWritten.{table_fault}
 use Rattle.register_records.specs.declared.ends.Cause.TheVariants as cause
 use Rattle.register_run.specs.Written.{Concludes, Wrote}
 use Rattle.register_records.proofs.TableLemmas.{fault_cases, targets_row}

@@ -1,19 +1,13 @@
 -- The law of the machine, for the worlds of texts: their entries are numbered from 1, and their rows as their entries.
-use Rattle.std.proofs.Common.{◌≡◌, ◌+◌, ◌*◌, ◌≤◌, ℕ, List, [], ◌∷◌, Bool, true, false, length, map, refl}
-use Rattle.std.proofs.Common.{Option, if◌then◌else◌, nat_lt}
-use Rattle.std.specs.List.{AllZip}
-use Rattle.register_run.proofs.Common.{Target, Actor, start, run, HasFirstEntries, Numbered, Reading, record_limit}
-use Rattle.register_run.proofs.Common.{IsRowOf, World}
-use Rattle.striped_lanes.specs.Places.{HaveNumbersFrom, ArePoppedInOrder, KeepNumbers}
-use Rattle.striped_lanes.specs.Schedules.{AtMostChange, standing}
+use Rattle.std.proofs.Common.{◌≡◌, ◌+◌, ℕ, List, [], ◌∷◌, Bool, true, false, map, refl, Option, if◌then◌else◌, nat_lt}
+use Rattle.register_run.proofs.Common.{AllZip, Target, HasFirstEntries, Numbered, Reading, record_limit, IsRowOf, World}
+use Rattle.register_run.proofs.Common.{numbers}
+use Rattle.striped_lanes.specs.Places.{HaveNumbersFrom, KeepNumbers}
 use Rattle.striped_lanes.proofs.NumberLemmas.{numbered_front}
-use Rattle.striped_lanes.proofs.EndLemmas as ends
-use Rattle.striped_lanes.proofs.ScheduleLemmas as machine
 use Rattle.register_records.specs.Entries.{Fields, body_of, entries_from}
 use Rattle.register_records.specs.Seals.{entry_records}
 use Rattle.register_records.specs.declared.setups.Form.{Form}
-use Rattle.register_run.specs.EveryScheduleLaw.{EachStandsOnce, Ends, GoesOn, IsWorldOf}
-use Rattle.register_run.specs.Worlds.{numbers}
+use Rattle.register_run.specs.EveryScheduleLaw.{IsWorldOf}
 
 numbered_if : (b : Bool) (k : ℕ) (x : Numbered) (entries : List Numbered) → x.number ≡ k
     → HaveNumbersFrom numbers (k + 1) entries → HaveNumbersFrom numbers k (if b then x ∷ entries else [])
@@ -40,28 +34,7 @@ rows_keep_numbers : (targets : List Target) (w : World) (entries : List Numbered
 rows_keep_numbers targets w [] h = tt
 rows_keep_numbers targets w (x ∷ entries) h = (h.0.number, rows_keep_numbers targets w entries h.1)
 
-module _ (reading : Reading) (targets : List Target) (text : Option (List ℕ)) (w : World) (schedule : List Actor)
-    (h : IsWorldOf reading targets text w) where
-  numbered : HaveNumbersFrom numbers 1 w.entries
-  numbered = first_entries_numbered reading text w.entries h.entries
-
-  same_numbers : KeepNumbers numbers w w.entries
-  same_numbers = rows_keep_numbers targets w w.entries h.rows
-
-  pub in_order : ArePoppedInOrder w (run w schedule start)
-  in_order = machine.in_order numbers w h.some_converters h.some_room numbered same_numbers schedule
-
-  pub one_place : EachStandsOnce w (run w schedule start)
-  one_place = machine.one_place numbers w h.some_converters h.some_room numbered same_numbers schedule
-
-  pub few_changes : AtMostChange w schedule (4 * length w.entries)
-  few_changes = machine.few_changes numbers w h.some_converters h.some_room numbered same_numbers schedule
-
-  pub few_stand : standing w (run w schedule start) ≤ w.converters * (2 * w.ring + 1)
-  few_stand = machine.few_stand numbers w h.some_converters h.some_room numbered same_numbers schedule
-
-  pub next_goes_on : GoesOn w (run w schedule start)
-  next_goes_on = machine.next_goes_on numbers w h.some_converters h.some_room numbered same_numbers schedule
-
-  pub all_ends : Ends w schedule (run w schedule start)
-  all_ends = ends.ends numbers w h.some_converters h.some_room numbered same_numbers schedule
+pub numbers_of : {reading : Reading} {targets : List Target} {text : Option (List ℕ)} {w : World}
+    → IsWorldOf reading targets text w → HaveNumbersFrom numbers 1 w.entries × KeepNumbers numbers w w.entries
+numbers_of {w = w} h =
+    (first_entries_numbered _ _ w.entries h.entries, rows_keep_numbers _ w w.entries h.rows)

@@ -1,11 +1,10 @@
 -- Rows that were taken from one of several stripes, and what is left of the senders of several lanes.
-use Rattle.std.proofs.Common.{◌≡◌, sym, subst, ℕ, zero, suc, ◌<◌, ◌+◌, List, [], ◌∷◌, ◌++◌, inl, inr, set}
-use Rattle.std.proofs.Common.{get_or, length, map, append-nil, arith, refl, Bool, Err}
-use Rattle.std.specs.List.{AllZip, Contains}
-use Rattle.register_run.proofs.Common.{entries_in, Closed, Sender, HasConfirmation, all_sent, sender_lane, taken}
-use Rattle.register_run.proofs.Common.{Numbered, entry_seen, Entry, Row, Stripe, AnyTook, HasPassedOn, HavePassedOn}
-use Rattle.register_run.proofs.Common.{stripe_setup, feeding_lane, HasEnded, WereDealt, carried, dealt, row_entries}
-use Rattle.register_run.proofs.Common.{rows_carried, World, AreOfLanes, IsOfGiven}
+use Rattle.std.proofs.Common.{◌≡◌, sym, subst, ℕ, zero, suc, ◌<◌, ◌+◌, List, [], ◌∷◌, ◌++◌, inl, inr, set, get_or}
+use Rattle.std.proofs.Common.{length, map, append-nil, arith, refl, Bool, Err}
+use Rattle.register_run.proofs.Common.{AllZip, Contains, entries_in, Closed, Sender, HasConfirmation, all_sent}
+use Rattle.register_run.proofs.Common.{sender_lane, taken, Numbered, entry_seen, Entry, Row, Stripe, AnyTook}
+use Rattle.register_run.proofs.Common.{HasPassedOn, HavePassedOn, stripe_setup, feeding_lane, HasEnded, WereDealt}
+use Rattle.register_run.proofs.Common.{carried, dealt, row_entries, rows_carried, World, AreOfLanes, IsOfGiven}
 use Rattle.lane_rings.specs.declared.item.Item.TheVariants as item
 use Rattle.date_texts.specs.declared.refusal.Refusal.TheVariants as refusal
 use Rattle.register_run.specs.Stripes.{AreSameStripes, IsSameStripe, StripeTook}

@@ -1,11 +1,9 @@
 -- What is known of the threads of a source, by how it ended.
-use Rattle.std.proofs.Common.{rules, ◌≡◌, ◌⊎◌, ◌∙◌, ◌≤◌, ◌<◌, ℕ, zero, suc, List, [], ◌∷◌, ap, arith, inl, inr}
-use Rattle.std.proofs.Common.{map, refl, replicate, subst, sym, true, All, Err, IfSome, nat_le, leb-true}
-use Rattle.std.proofs.lemmas.Bool.{and_parts}
-use Rattle.std.proofs.lemmas.List.Elements.{All-cons}
-use Rattle.register_run.proofs.Common.{IfBroken, IfWhole, cause_number, Setup, Cause, Note, SourceEnd, stripe_setup}
-use Rattle.register_run.proofs.Common.{HasMetNone, IsLowest, IsMet, is_of_table, AreStaffed, AreThreadsOf, Stripe, Ran}
-use Rattle.register_run.proofs.Common.{Findings}
+use Rattle.std.proofs.Common.{rules, ◌≡◌, ◌⊎◌, ◌∙◌, ◌≤◌, ◌<◌, ℕ, zero, suc, List, [], ◌∷◌, ap, arith, inl, inr, map}
+use Rattle.std.proofs.Common.{refl, replicate, subst, sym, true, All, Err, IfSome, nat_le, leb-true}
+use Rattle.register_run.proofs.Common.{and_parts, All-cons, IfBroken, IfWhole, cause_number, Setup, Cause, Note}
+use Rattle.register_run.proofs.Common.{SourceEnd, stripe_setup, HasMetNone, IsLowest, IsMet, is_of_table, AreStaffed}
+use Rattle.register_run.proofs.Common.{AreThreadsOf, Stripe, Ran, Findings}
 use Rattle.register_records.specs.SetupRules.{most_stripes}
 use Rattle.register_records.specs.declared.ends.Cause.TheVariants as cause
 use Rattle.register_records.specs.declared.ends.SourceEnd.TheVariants as end

@@ -65,16 +65,6 @@ pub(crate) fn read_source<R: Read + Drop>(
     ReaderResult { closed, sent }
 }
 
-/// A reader that has sent all entries, which are so many.
-fn sent_all(count: u32) -> Sent
-    ensures { (result.count ≡ count) × (result.outcome ≡ Ok count) }
-{
-    Sent {
-        count,
-        outcome: Ok(count),
-    }
-}
-
 /// A reader that stopped after so many entries for this cause.
 pub(crate) fn stopped_after(count: u32, cause: Cause) -> Sent
     ensures { (result.count ≡ count) × (result.outcome ≡ Err cause) }
@@ -126,7 +116,12 @@ fn send_opened<R: Read + Drop>(
     for _ in rt.forever() {
         match entries.read_next(&mut entry) {
             Ok(true) => (),
-            Ok(false) => return sent_all(count),
+            Ok(false) => {
+                return Sent {
+                    count,
+                    outcome: Ok(count),
+                };
+            }
             Err(fault) => return stopped_after(count, Cause::from(fault)),
         }
         count = entry.number();

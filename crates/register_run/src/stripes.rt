@@ -1,6 +1,6 @@
 //! A stripe: a converter with its two lanes, as the writer has it.
 
-ghost use Rattle.std.specs.Prelude.{◌≡◌, ◌<◌, ◌+◌, [], Err, IfErr, IfOk, IfSome, Ok, map, vec_len};
+ghost use Rattle.std.specs.Prelude.{◌≡◌, ◌<◌, ◌+◌, [], Err, IfErr, IfOk, IfSome, Ok};
 ghost use Rattle.lane_rings.specs.Lane.{lane_capacity, receiver_lane, sender_lane, sent, taken};
 ghost use Rattle.register_run.specs.JoinedThreads.{IsConverting};
 

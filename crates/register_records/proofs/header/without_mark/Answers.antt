@@ -1,8 +1,19 @@
-use Rattle.std.proofs.Common.{arith, rules}
+use Rattle.std.proofs.Common.{◌≡◌, ◌≤◌, ◌==◌, ◌&&◌, ℕ, List, arith, drop, false, get_or, length, rules}
+use Rattle.csv.specs.Reading.{strip_bom}
 use Rattle.register_records.proofs.Common.{slice-end, nat_tests}
-use Rattle.register_records.proofs.HeaderLemmas.{mark_not, mark_there}
 use Rattle.csv.proofs.ReadFacts.{strip-short}
 use Rattle.register_records.proofs.header.without_mark.Goals as goal
+
+-- a byte order mark goes
+mark_there : (s : List ℕ) → 3 ≤ length s → get_or s 0 0 ≡ 239 → get_or s 1 0 ≡ 187 → get_or s 2 0 ≡ 191
+    → strip_bom s ≡ drop 3 s
+unfolding strip_bom
+mark_there s h a b c = grind arith
+
+mark_not : (s : List ℕ) → 3 ≤ length s
+    → ((get_or s 0 0 == 239) && (get_or s 1 0 == 187) && (get_or s 2 0 == 191)) ≡ false → strip_bom s ≡ s
+unfolding strip_bom
+mark_not s h a = grind arith
 
 pub returns-then-field-3 : goal.returns-then-field-3
 returns-then-field-3 c =

@@ -1,4 +1,4 @@
-use Rattle.std.proofs.Common.{◌≡◌, ◌≢◌, ◌∙◌, ℕ, Bool, arith, rules, take-add, length-drop, ◌==◌, ◌&&◌, ◌||◌}
+use Rattle.std.proofs.Common.{◌≡◌, ◌≢◌, ℕ, Bool, rules, take-add, length-drop, ◌==◌, ◌&&◌, ◌||◌}
 use Rattle.register_records.proofs.Common.{nat_tests, slice-end}
 use Rattle.std.proofs.KnownBytes.{Appends-trans}
 use Rattle.register_records.proofs.outputs.send.Goals as goal
@@ -9,14 +9,8 @@ took_some a n b h = search (rules, nat_tests)
 
 pub offers-preserved : goal.offers-preserved
 offers-preserved g c =
-    let inv = c.offers.invariant in
     let all = c.args.bytes.now in
-    let sent = c.offers.sent in
-    let more = rw (slice-end all sent) at c.in_ok-n.ensures.bytes in
-    let bound = rw (slice-end all sent) at c.in_ok-n.ensures.bound in
-    let some : c.in_ok-n.n ≢ 0 = search rules in (
-      omega (arith, inv.0, bound, length-drop sent all),
-      rw (take-add sent c.in_ok-n.n all) (Appends-trans _ _ _ _ _ inv.1 more),
-      c.in_ok-n.ensures.fails ∙ (took_some _ c.in_ok-n.n _ some ∙ inv.2),
-      c.in_ok-n.ensures.mark ∙ inv.3,
-    )
+    let more = rw (slice-end all c.offers.sent) at c.in_ok-n.ensures.bytes in
+    let bound = rw (slice-end all c.offers.sent) at c.in_ok-n.ensures.bound in
+    let some : c.in_ok-n.n ≢ 0 = search rules in
+    search (rules, more, bound, some, take-add, Appends-trans, took_some, length-drop)

@@ -1,14 +1,8 @@
-use Rattle.std.proofs.Common.{◌≡◌, ◌<◌, ◌≤◌, ◌==◌, ℕ, List, false, true, get_or, length, sym, arith}
-use Rattle.register_records.proofs.Common.{position_or_len, nat_tests}
+use Rattle.std.proofs.Common.{◌≡◌, ◌<◌, ◌≤◌, ◌==◌, ℕ, List, false, true, get_or, length, sym, arith, eq-eqb, ne_eqb}
+use Rattle.register_records.proofs.Common.{position_or_len}
 use Rattle.std.proofs.lemmas.List.Sums.{position_or_len_is}
 use borrow.Author.Count.{below_more}
 use Rattle.register_records.proofs.row_tails.place_of.Goals as goal
-
-is_other : (b d : ℕ) → (b ≡ d → ⊥) → (b == d) ≡ false
-is_other b d other = grind (arith, nat_tests)
-
-is_same : (b d : ℕ) → b ≡ d → (b == d) ≡ true
-is_same b d same = grind (arith, nat_tests)
 
 found : (bytes : List ℕ) (d i : ℕ) → i ≤ length bytes → ((k : ℕ) → k < i → (get_or bytes k 0 == d) ≡ false)
     → (i < length bytes → (get_or bytes i 0 == d) ≡ true) → i ≡ position_or_len (λ (b : ℕ). b == d) bytes
@@ -17,12 +11,12 @@ found bytes d i within before at = sym (position_or_len_is (λ (b : ℕ). b == d
 pub bytes-preserved : goal.bytes-preserved
 bytes-preserved c =
     below_more (λ k. (get_or c.args.bytes.now k 0 == c.args.delimiter) ≡ false) c.bytes.i c.bytes.invariant
-    (is_other (get_or c.args.bytes.now c.bytes.i 0) c.args.delimiter c.if-bytes-i.false)
+    (ne_eqb (get_or c.args.bytes.now c.bytes.i 0) c.args.delimiter c.if-bytes-i.false)
 
 pub returns-then-bytes-i-clause-value : goal.returns-then-bytes-i-clause-value
 returns-then-bytes-i-clause-value c =
     found c.args.bytes.now c.args.delimiter c.bytes.i (omega arith) c.bytes.invariant
-    (λ _. is_same (get_or c.args.bytes.now c.bytes.i 0) c.args.delimiter c.if-bytes-i.true)
+    (λ _. eq-eqb (get_or c.args.bytes.now c.bytes.i 0) c.args.delimiter c.if-bytes-i.true)
 
 pub returns-clause-value : goal.returns-clause-value
 returns-clause-value c =

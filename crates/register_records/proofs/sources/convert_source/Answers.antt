@@ -9,20 +9,7 @@ returns-in-Err-clause-part g c = rw c.from.ensures (λ other. ∣ ([], inl refl,
 
 pub returns-in-Err-write_table : goal.returns-in-Err-write_table
 returns-in-Err-write_table g c =
-    let broken = rw c.in-Ok.ensures.text.0 at c.in-Err-write_table.ensures.broken in record {
-      whole = tt;
-      numbers = tt;
-      flushed = tt;
-      part = broken.part;
-      bad_header = λ is. absurd (broken.never.0 is);
-      too_many = broken.too_many;
-      not_sealed = broken.not_sealed;
-      never = (broken.never.1, broken.never.2);
-      sink = broken.sink;
-      kept = broken.kept;
-      good = tt;
-      mark = broken.mark;
-    }
+    let broken = rw c.in-Ok.ensures.text.0 at c.in-Err-write_table.ensures.broken in search rules
 
 pub returns : goal.returns
 returns g c =

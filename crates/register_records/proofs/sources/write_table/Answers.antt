@@ -1,4 +1,4 @@
-use Rattle.std.proofs.Common.{◌≡◌, ◌≢◌, ◌∙◌, ◌+◌, ◌++◌, ◌∷◌, [], None, Some, ap, inl, inr, length, refl, sym, ℕ}
+use Rattle.std.proofs.Common.{◌≡◌, ◌≢◌, ◌∙◌, ◌+◌, ◌++◌, ◌∷◌, [], None, Some, ap, inl, inr, length, refl, rules, sym, ℕ}
 use Rattle.register_records.proofs.Common.{length-map, map-append, entry_fault_cause, HasEntries, HasFirstEntries}
 use Rattle.register_records.proofs.Common.{entry_seen, IsNextRow, table_fault, given_of, text_of, Row}
 use Rattle.register_records.specs.Views.{targets_of}
@@ -15,28 +15,12 @@ use Rattle.register_records.proofs.sources.write_table.Goals as goal
 begun : (g : Over) (c : After-write_heading g) → Follows g.W.Output c.args.output.now c.args.setup.now
     (text_of c.args.entries.now) (given_of c.args.entries.now) c.write_heading.new.self c.write_heading.new.output
 begun g c =
-    let heads = c.write_heading.ensures in let new = c.requires.new in record {
-      rows = [];
-      holds = heads.rows [] new.empty;
-      same = (heads.same.0 ∙ new.same.0, heads.same.1 ∙ new.same.1);
-      all = λ none. c.requires.none_given;
-      first = of_reader HasFirstEntries _ _ _ _ _ _ refl c.requires.reads c.requires.none_given
-          c.args.entries.now.first;
-      headed = heads.headed;
-      sent = heads.waiting ∙ new.none;
-      confirmed = heads.fault new.goes_on;
-      lost = heads.lost new.goes_on;
-    }
+    let first = of_reader HasFirstEntries _ _ _ _ _ _ refl c.requires.reads c.requires.none_given c.args.entries.now.first
+    in search (rules, first)
 
 pub entries-init : goal.entries-init
 entries-init g c =
-    record {
-      text = refl;
-      by = c.requires.reads;
-      failed = c.requires.goes;
-      open_ = sym c.fault.ensures ∙ c.in_default.is;
-      follows = begun g (goal.at.entries-init g c).After-write_heading;
-    }
+    let follows = begun g (goal.at.entries-init g c).After-write_heading in search (rules, follows)
 
 pub returns-in-Some-clause-broken : goal.returns-in-Some-clause-broken
 returns-in-Some-clause-broken g c =
@@ -105,17 +89,9 @@ stopped g c other =
     let inv = c.entries.invariant in let f = inv.follows in
     let put = c.put_next.ensures in let fault = c.in_err-put_next.ensures.fault in
     let memory = c.in_err-put_next.ensures.memory (elim fault.0 [ inl is ↦ is | inr is ↦ absurd (other is) ]) in
-    let broke : table_fault c.put_next.new.self ≢ None = λ e. let clash = sym e ∙ fault.1 in absurd (cc) in record {
-      rows = f.rows;
-      holds = memory.3 f.rows f.holds;
-      same = (put.same.0 ∙ f.same.0, put.same.1 ∙ f.same.1);
-      all = λ e. absurd (broke e);
-      first = f.first;
-      headed = λ e. absurd (broke e);
-      sent = memory.2 ∙ f.sent;
-      confirmed = other_cause _ _ _ fault.1 (of_row _ fault.0);
-      lost = λ lost. let clash = sym lost ∙ memory.1 in absurd (cc);
-    }
+    let broke : table_fault c.put_next.new.self ≢ None = λ e. let clash = sym e ∙ fault.1 in absurd (cc) in
+    let holds = memory.3 f.rows f.holds in let known = other_cause _ _ _ fault.1 (of_row _ fault.0) in
+    let sent = memory.2 ∙ f.sent in search (rules, holds, known, broke, sent)
 
 pub returns-in_err-put_next-clause-broken : goal.returns-in_err-put_next-clause-broken
 returns-in_err-put_next-clause-broken g c =

@@ -1,8 +1,5 @@
 use Rattle.std.proofs.Common.{◌∙◌, Option, ap, subst, sym, ℕ}
-use Rattle.std.proofs.Props.{props}
-use Rattle.std.proofs.Math.Logic.{∥∥₁_elim, ∥∥₁_prop}
-use Rattle.register_records.specs.TablesWritten.{table_fault}
-use Rattle.register_run.proofs.Common.{Cause, AreThreadsOf, Findings, Ran}
+use Rattle.register_run.proofs.Common.{props, ∥∥₁_elim, ∥∥₁_prop, table_fault, Cause, AreThreadsOf, Findings, Ran}
 use Rattle.register_run.proofs.EndedSourceLemmas.{headless, source_end, with_table}
 use Rattle.register_run.proofs.ThreadLemmas.{threads_of}
 use Rattle.register_run.proofs.ended_sources.conclude.Goals as goal

@@ -1,12 +1,18 @@
-use Rattle.register_run.proofs.ScheduleLemmas
+use Rattle.register_run.proofs.Common.{numbers}
+use Rattle.striped_lanes.proofs.EndLemmas as ends
+use Rattle.striped_lanes.proofs.ScheduleLemmas as machine
+use Rattle.register_run.proofs.ScheduleLemmas.{numbers_of}
 use Rattle.register_run.proofs.laws.every_schedule.Goals as goal
 
 pub returns : goal.returns
 returns c = record {
-  in_order = ScheduleLemmas.in_order;
-  one_place = ScheduleLemmas.one_place;
-  few_changes = ScheduleLemmas.few_changes;
-  few_standing = ScheduleLemmas.few_stand;
-  goes_on = ScheduleLemmas.next_goes_on;
-  ends = ScheduleLemmas.all_ends;
+  in_order = λ _ _ _ w s h. let n = numbers_of h in machine.in_order numbers w h.some_converters h.some_room n.0 n.1 s;
+  one_place = λ _ _ _ w s h. let n = numbers_of h in machine.one_place numbers w h.some_converters h.some_room n.0 n.1 s;
+  few_changes = λ _ _ _ w s h.
+      let n = numbers_of h in machine.few_changes numbers w h.some_converters h.some_room n.0 n.1 s;
+  few_standing = λ _ _ _ w s h.
+      let n = numbers_of h in machine.few_stand numbers w h.some_converters h.some_room n.0 n.1 s;
+  goes_on = λ _ _ _ w s h.
+      let n = numbers_of h in machine.next_goes_on numbers w h.some_converters h.some_room n.0 n.1 s;
+  ends = λ _ _ _ w s h. let n = numbers_of h in ends.ends numbers w h.some_converters h.some_room n.0 n.1 s;
 }

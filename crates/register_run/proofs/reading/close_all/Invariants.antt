@@ -1,7 +1,5 @@
 use Rattle.std.proofs.Common.{◌+◌, ◌≤◌, ◌++◌, List, vec_len, vec_capacity}
-use Rattle.std.specs.List.{AllZip}
-use Rattle.std.specs.Vec.Iter.{into_iter_items, into_iter_len}
-use Rattle.register_run.proofs.Common.{Closed, Entry, HasEnded}
+use Rattle.register_run.proofs.Common.{AllZip, into_iter_items, into_iter_len, Closed, Entry, HasEnded}
 use Rattle.register_run.proofs.reading.close_all.Given as goal
 
 abbrev pub invariant-loop-sender : goal.invariant-loop-sender

@@ -1,7 +1,5 @@
 use Rattle.std.proofs.Common.{◌∙◌, subst}
-use Rattle.std.proofs.Math.Logic.{∥∥₁_map}
-use Rattle.std.proofs.lemmas.Slice.Zip.{AllZip-long}
-use Rattle.register_run.proofs.Common.{HasEnded, AreOfLanes}
+use Rattle.register_run.proofs.Common.{∥∥₁_map, AllZip-long, HasEnded, AreOfLanes}
 use Rattle.register_run.proofs.StripeLemmas.{ended_lanes}
 use Rattle.register_run.proofs.DealtLemmas.{dealt_ended}
 use Rattle.register_run.proofs.reading.read_source.Goals as goal

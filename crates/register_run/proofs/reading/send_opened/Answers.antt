@@ -11,8 +11,8 @@ returns-in-Ok-false g c =
     let inv = c.loop.invariant in
     let reads = rw c.in-Ok-false.field-0-test at c.in-Ok-false.ensures.reads in
     sends_all _ _ _ _ (reads.text.0 ∙ inv.text) (reads.text.1 ∙ inv.by) _ _ (reads.ends refl).1 inv.numbered
-    c.read_next.new.self.first _ _ inv.lanes inv.deals (reads.all refl) c.sent_all.result _ inv.count
-    c.sent_all.ensures.0 c.sent_all.ensures.1
+    c.read_next.new.self.first _ _ inv.lanes inv.deals (reads.all refl) _ _ inv.count
+    refl refl
 
 pub returns-in-Err : goal.returns-in-Err
 returns-in-Err g c =

@@ -1,13 +1,15 @@
-use Rattle.std.proofs.Common.{◌≡◌, ◌∙◌, length, rules, sym}
-use Rattle.std.specs.Vec.Iter.{into_iter_items}
-use Rattle.register_run.proofs.MoveLemmas.{all_made, made_more, none_made_yet}
+use Rattle.std.proofs.Common.{◌≡◌, ◌∙◌, ap, length, map, rules, sym}
+use Rattle.register_run.proofs.Common.{ended_case, into_iter_items, map-append}
+use Rattle.register_run.proofs.MoveLemmas.{all_made, none_made, seen_more}
 use Rattle.register_run.proofs.running.finish_all.Goals as goal
 
 pub loop-running_source-init : goal.loop-running_source-init
 loop-running_source-init g c = record {
   room = search rules;
   len = search rules;
-  cases = none_made_yet _ _ _ _ _ c.requires.none c.into_iter-running_source-iterator.ensures.into_iter_gives.0;
+  cases =
+      none_made _ _ _ _ (ap (map ended_case) c.requires.none)
+      c.into_iter-running_source-iterator.ensures.into_iter_gives.0;
 }
 
 pub loop-running_source-preserved : goal.loop-running_source-preserved
@@ -15,7 +17,8 @@ loop-running_source-preserved g c = record {
   room = search rules;
   len = search rules;
   cases =
-      made_more _ _ _ _ _ _ _ _ _ c.push_reserved.ensures.items c.finish.ensures c.in-Some.ensures.steps.0
+      seen_more _ _ _ _ _ _ _ _ (ap (map ended_case) c.push_reserved.ensures.items ∙ map-append ended_case _ _)
+      c.finish.ensures c.in-Some.ensures.steps.0
       c.loop-running_source.invariant.cases;
 }
 

@@ -1,5 +1,5 @@
 use Rattle.std.proofs.Common.{◌≡◌, ◌∙◌, length, refl, rules, sym}
-use Rattle.std.specs.Vec.Iter.{into_iter_items}
+use Rattle.register_run.proofs.Common.{into_iter_items}
 use Rattle.register_run.proofs.MoveLemmas.{all_made, none_made, seen_more}
 use Rattle.register_run.proofs.running.report.Goals as goal
 

@@ -1,5 +1,5 @@
 use Rattle.std.proofs.Common.{◌≡◌, ◌∙◌, arith, length}
-use Rattle.register_run.proofs.HeadlineLemmas.{report_of, report_of_machine, report_of_threads}
+use Rattle.register_run.proofs.HeadlineLemmas.{reported}
 use Rattle.register_run.proofs.running.run_all.Goals as goal
 
 pub returns : goal.returns
@@ -11,10 +11,6 @@ returns g c =
     let q = c.requires.1 in omega arith) in
     let is = c.finish_all-ended_sources.ensures.cases ∙ c.visit_until_ended.ensures.cases
     ∙ c.start_all-running_sources.ensures.cases in
-    let reported = c.report.ensures in record {
-      report = report_of setup ended_sources sources outputs same is c.report.result reported.ends reported.ran
-          reported.outputs reported.verdict;
-      machine = report_of_machine setup ended_sources sources outputs same is c.report.result reported.ends reported.ran
-          reported.outputs;
-      threads = report_of_threads setup ended_sources sources outputs same is c.report.result reported.ends reported.ran;
-    }
+    let e = c.report.ensures in
+    let all = reported setup ended_sources sources outputs same is c.report.result e.outputs e.ends e.ran e.verdict in
+    record { report = all.0; machine = all.1; threads = all.2 }

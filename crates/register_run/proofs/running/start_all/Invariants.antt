@@ -1,7 +1,5 @@
 use Rattle.std.proofs.Common.{◌≡◌, ◌+◌, ◌≤◌, ◌++◌, map, vec_len, vec_capacity}
-use Rattle.std.specs.Vec.Iter.{into_iter_items, into_iter_len}
-use Rattle.register_run.proofs.Common.{case_of}
-use Rattle.register_run.specs.Cases.{cases}
+use Rattle.register_run.proofs.Common.{into_iter_items, into_iter_len, case_of, cases}
 use Rattle.register_run.proofs.running.start_all.Given as goal
 
 abbrev pub invariant-loop-source : goal.invariant-loop-source

@@ -1,6 +1,5 @@
 use Rattle.std.proofs.Common.{subst, sym}
-use Rattle.std.proofs.Math.Logic.{∥∥₁_map}
-use Rattle.register_run.proofs.Common.{AreOfLanes}
+use Rattle.register_run.proofs.Common.{∥∥₁_map, AreOfLanes}
 use Rattle.register_run.proofs.StripeLemmas.{took_dealt}
 use Rattle.register_run.proofs.HistoryLemmas.{joined_of_machine}
 use Rattle.register_run.proofs.running_sources.join_threads.Goals as goal

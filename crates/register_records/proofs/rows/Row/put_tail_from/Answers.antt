@@ -1,17 +1,12 @@
-use Rattle.std.proofs.Common.{◌≡◌, ◌∙◌, ℕ, List, ap, arith, drop, subst, sym}
-use Rattle.csv.specs.Writing.{fields_text}
+use Rattle.std.proofs.Common.{◌≡◌, ◌∙◌, ℕ, List, ap, arith, drop, rules, subst, sym}
 use Rattle.register_records.proofs.Common.{GainsFields, writing, line_bytes, row_seen, row_targets, tail_fields}
+use Rattle.csv.specs.Writing.{fields_text}
 use Rattle.register_records.proofs.LineLemmas.{tail_alike}
 use Rattle.register_records.proofs.RowTailLemmas.{one_passed}
 use Rattle.register_records.proofs.rows.Row.put_tail_from.Goals as goal
 
 pub passed-init : goal.passed-init
-passed-init c =
-    let row = c.args.self.now in
-    record {
-      behind = c.as_slice-bytes.ensures.value ∙ ap (fields_text (writing row.tail.delimiter)) row.written;
-      short = c.as_slice-bytes.ensures.short;
-    }
+passed-init c = search rules
 
 pub passed-preserved : goal.passed-preserved
 passed-preserved c =

@@ -1,6 +1,6 @@
 use Rattle.std.proofs.Common.{◌≡◌, ◌≤◌, drop, length}
-use Rattle.csv.specs.Writing.{fields_text}
 use Rattle.register_records.proofs.Common.{writing, tail_fields}
+use Rattle.csv.specs.Writing.{fields_text}
 use Rattle.register_records.specs.declared.row_tails.TheConstants.{TAIL_ROOM}
 use Rattle.register_records.proofs.rows.Row.put_tail_from.Given as goal
 

@@ -1,3 +1,4 @@
+use Rattle.std.proofs.Common.{rules}
 use Rattle.register_run.proofs.PoppedLemmas.{in_turn_ended}
 use Rattle.register_run.proofs.RunningSourceLemmas.{wrote_same}
 use Rattle.register_run.proofs.running_sources.RunningSource.end_lane.Goals as goal
@@ -28,3 +29,12 @@ invariant_of-self-2-clause-by_turns g c = in_turn_ended _ _ c.requires.ended
 
 pub invariant_of-self-2-clause-within : goal.invariant_of-self-2-clause-within
 invariant_of-self-2-clause-within g c is = rw c.deref.ensures.value at c.next_open-self.ensures.below
+
+pub returns-then-self-2 : goal.returns-then-self-2
+returns-then-self-2 g c = search rules
+
+pub returns : goal.returns
+returns g c = search rules
+
+pub invariant_of-self-2-clause-unstarted : goal.invariant_of-self-2-clause-unstarted
+invariant_of-self-2-clause-unstarted g c = c.args.self.now.unstarted

@@ -1,5 +1,5 @@
-use Rattle.std.proofs.Common.{arith, length-set}
-use Rattle.register_run.proofs.PoppedLemmas.{in_turn_looked}
+use Rattle.std.proofs.Common.{arith, length-set, rules}
+use Rattle.register_run.proofs.PoppedLemmas.{in_turn_looked, looked_at}
 use Rattle.register_run.proofs.RunningSourceLemmas.{wrote_same}
 use Rattle.register_run.proofs.StripeLemmas.{same_stripes}
 use Rattle.register_run.proofs.running_sources.RunningSource.step.Goals as goal
@@ -26,3 +26,12 @@ invariant_of-self-clause-wrote g c =
     let s = c.args.self.now in
     let same = same_stripes s.stripes.items s.turn c.look.new.self _ c.index_mut.ensures.value c.look.ensures.same in
     wrote_same g.W.Output s.stripes.items _ s.table s.table s.output s.output same.kept (λ rows is. is) s.wrote
+
+pub returns-in-Row : goal.returns-in-Row
+returns-in-Row g c = search (rules, looked_at)
+
+pub returns-in-End : goal.returns-in-End
+returns-in-End g c = search (rules, looked_at)
+
+pub returns-in-Stop : goal.returns-in-Stop
+returns-in-Stop g c = search (rules, looked_at)

@@ -1,6 +1,6 @@
 use Rattle.std.proofs.Common.{◌+◌, ◌*◌, map, take}
 use Rattle.register_records.proofs.Common.{target_name, GainsFields, field_room, name_limit, GrowsBy, line_bytes}
-use Rattle.register_records.proofs.row_lines.put_target_names.Given as goal
+use Rattle.register_records.proofs.row_lines.put_names.Given as goal
 
 abbrev pub invariant-targets : goal.invariant-targets
 invariant-targets l =

@@ -1,6 +1,6 @@
 -- When what is asked of a sheet is a choice, and which.
-use Rattle.std.proofs.Common.{◌≡◌, ◌≢◌, ◌↔◌, List, ℕ, false, length, map, refl, true}
-use Rattle.std.specs.Prelude.{Err, IfErr, Ok, Result, nat_lt}
+use Rattle.std.proofs.Common.{◌≡◌, ◌≢◌, ◌↔◌, List, ℕ, false, length, map, refl, subst, sym, true}
+use Rattle.std.specs.Prelude.{Err, IfErr, IfOk, Ok, Result, nat_lt}
 use Rattle.date_texts.specs.declared.calendar.Calendar.{Calendar}
 use Rattle.register_records.specs.Entries.{Fields}
 use Rattle.register_records.specs.SetupRules.{is_delimiter}
@@ -82,3 +82,15 @@ pub refused_choice : (by : AskedByNames) (choice : SheetChoice) (r : Result Shee
 refused_choice by choice (Ok setup) dates many twice delimiter headings of = tt
 refused_choice by choice (Err why) dates many twice delimiter headings of =
     (choice, of, no_choice choice why (Err why) refl dates many twice delimiter headings)
+
+-- and what was taken is a choice
+pub taken_choice : (by : AskedByNames) (choice : SheetChoice) (r : Result SheetSetup ChoiceFault)
+    → IfOk r (λ setup. setup.choice ≡ choice)
+    → IfOk r (λ setup. HasDates choice × AsksOnce choice × (is_delimiter choice.delimiter ≡ true)
+    × (length choice.headings.now ≡ added choice))
+    → IsChoiceBy by choice → IfOk r (λ setup. IsChoiceBy by setup.choice × IsChoice setup.choice)
+taken_choice by choice (Ok setup) value good of = (
+  subst (IsChoiceBy by) (sym value) of,
+  subst IsChoice (sym value) (record { dated = good.0; once = good.1; delimited = good.2; headed = good.3 }),
+)
+taken_choice by choice (Err why) value good of = tt

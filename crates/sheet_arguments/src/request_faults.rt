@@ -95,14 +95,25 @@ impl RequestFault<'_> {
     pub fn text(&self, alloc: Global) -> Result<String, AllocError>
         ensures { IfOk result (λ text. IfSome (error_line self.now) (λ line. string_bytes text ≡ line)) }
     {
-        let (message, word) = match self {
-            RequestFault::OutOfMemory => return String::from_str(alloc, MEMORY_FAULT),
-            RequestFault::Usage(error) => {
-                return match format!(in alloc; "{error}") {
-                    Ok(text) => Ok(text),
-                    Err(_) => Err(AllocError),
-                };
+        match self {
+            RequestFault::OutOfMemory => String::from_str(alloc, MEMORY_FAULT),
+            RequestFault::Usage(error) => match format!(in alloc; "{error}") {
+                Ok(text) => Ok(text),
+                Err(_) => Err(AllocError),
+            },
+            _ => {
+                let (message, word) = self.said();
+                own_line(alloc, message, word)
             }
+        }
+    }
+
+    /// What the line of a fault says behind the program's name, and the word with which something is wrong.
+    fn said(&self) -> (&str, &str)
+        ensures { IfSome (error_line self.now) (λ line. program_line (result.0.now ++ result.1.now) ≡ line) }
+    {
+        match self {
+            RequestFault::OutOfMemory | RequestFault::Usage(_) => ("out of memory", ""),
             RequestFault::NoDate => ("no column of dates: give --date COLUMN", ""),
             RequestFault::TooManyDates => ("more than 8 columns of dates", ""),
             RequestFault::CalendarCount => (
@@ -120,8 +131,7 @@ impl RequestFault<'_> {
             RequestFault::RegisterOfInput => ("--register is for files", ""),
             RequestFault::TooManyFiles => ("more than 32 files", ""),
             RequestFault::FileTwice(file) => ("file named twice: ", *file),
-        };
-        own_line(alloc, message, word)
+        }
     }
 }
 

@@ -4,7 +4,8 @@ use Rattle.std.proofs.lemmas.List.Elements.{All-append}
 use Rattle.std.proofs.lemmas.Iterator.Consumers.{YieldsList-end, YieldsList-turn}
 use Rattle.written_dates.specs.Calendars.{place}
 use Rattle.register_sheets.specs.NameLists.{IsCalendar, named_by}
-use Rattle.std.proofs.Common.{Bor, List, ℕ, [], ◌∷◌}
+use Rattle.std.proofs.Common.{Bor, List, ℕ, [], ◌∷◌, ◌≡◌, ◌==◌, Bool, None, Some, length, refl}
+use Rattle.std.proofs.lemmas.Bool.Decides.{nat_tests}
 use Rattle.register_sheets.proofs.NameListLemmas.{named_more, names_of_split}
 use Rattle.register_sheets.proofs.name_calendars.calendars_said.Goals as goal
 
@@ -40,3 +41,27 @@ returns-clause-some c =
       named = λ n. rw (sym all.0) c.names.invariant.2;
       known = λ n. rw (sym all.0) c.names.invariant.3;
     }
+
+no_byte : (field : List ℕ) (none : Bool) → none ≡ (length field == 0) → none ≡ true → field ≡ []
+no_byte [] none is h = refl
+no_byte (b ∷ field) none is h = grind (arith, nat_tests)
+
+some_none : {A : Type 0} (x : A) → Some x ≡ None → ⊥
+some_none x e = cc
+
+pub returns-then-is_empty : goal.returns-then-is_empty
+returns-then-is_empty c =
+    let none = no_byte c.args.field.now _ c.is_empty.ensures c.if-is_empty.true in
+    record {
+      some = record { everywhere = λ _. refl; named = λ some. absurd (some none); known = λ some. absurd (some none) };
+      none = λ e. absurd (some_none _ e);
+    }
+
+pub names-init : goal.names-init
+names-init c = (tt, tt, refl, λ k d lt. absurd (omega arith))
+
+pub returns-in_err-calendar_named-clause-some : goal.returns-in_err-calendar_named-clause-some
+returns-in_err-calendar_named-clause-some c = rw c.from_residual.ensures tt
+
+pub returns-clause-none : goal.returns-clause-none
+returns-clause-none c = λ e. absurd (some_none _ e)

@@ -1,5 +1,5 @@
-use Rattle.std.proofs.Common.{◌≡◌, ◌∙◌, [], ap, arith, rules, sym, true, false}
-use Rattle.std.specs.Prelude.{Ok}
+use Rattle.std.proofs.Common.{◌≡◌, ◌∙◌, [], ap, arith, refl, rules, sym, true, false}
+use Rattle.std.specs.Prelude.{Bool, Ok, Result}
 use Rattle.csv.specs.Records.{fields_of}
 use Rattle.register_sheets.specs.Reading.{left_of}
 use Rattle.register_sheets.proofs.ListLemmas.{none_below, one_taken, stands_below}
@@ -25,15 +25,18 @@ returns-in_err-read_next c =
       none = λ end. absurd (rw end at is);
     }
 
+not_both : {E : Type 0} (read : Result Bool E) → read ≡ Ok false → read ≡ Ok true → ⊥
+not_both read one other = cc
+
 pub returns-then-not-branch : goal.returns-then-not-branch
 returns-then-not-branch c =
     let no : c.in_ok-read_next.field-0 ≡ false = search rules in
     let none = c.read_next.ensures.none (c.in_ok-read_next.was ∙ ap Ok no) in
     record {
-      reading = λ there. absurd (cc);
-      named = λ there. absurd (cc);
-      left = λ there. absurd (cc);
-      found = λ there. absurd (cc);
+      reading = λ there. absurd (not_both _ refl there);
+      named = λ there. absurd (not_both _ refl there);
+      left = λ there. absurd (not_both _ refl there);
+      found = λ there. absurd (not_both _ refl there);
       none = λ end.
           none_below (left_of c.args.records.now) c.records.counter c.args.above (omega arith)
           (sym c.records.invariant.left ∙ none);

@@ -1,10 +1,13 @@
 -- Names of outputs, told apart from inputs and from one another.
 use Rattle.std.proofs.Common.{◌≡◌, ◌++◌, ◌∷◌, ◌+◌, ◌<◌, ◌≤◌, [], ℕ, List, All, ap, ap₂, get_or, length, map, refl, subst}
-use Rattle.std.proofs.Common.{append_assoc, rules, sym, take}
+use Rattle.std.proofs.Common.{append_assoc, Global, rules, String, sym, take}
+use Rattle.std.specs.String.{string_bytes}
 use Rattle.std.specs.Prelude.{AllPairs, Err, IfOk, Ok, OnOk, Result, flat_map}
 use Rattle.std.proofs.lemmas.List.{flat_map_more, map-append, take_all, take_more}
 use Rattle.std.proofs.lemmas.List.Elements.{All-append, All-push}
 use Rattle.std.proofs.lemmas.List.Quantifiers.{all_pairs_push}
+use Rattle.register_files.specs.Openings.{IsNewlyMade}
+use Rattle.register_records.specs.declared.outputs.Output as outputs
 use Rattle.sheet_app.specs.FileSheets.{names_ending}
 
 -- what holds of the values of the items so far holds of one more, and in the end of all
@@ -46,6 +49,18 @@ same_names name own text others (x ∷ xs) =
 pub apart_more : (Apart : List ℕ → List ℕ → Type 0) (names new : List (List ℕ)) (name : List ℕ)
     → new ≡ names ++ name ∷ [] → All (λ other. Apart other name) names → AllPairs Apart names → AllPairs Apart new
 apart_more Apart names new name n each pairs = subst (AllPairs Apart) (sym n) (all_pairs_push Apart names name pairs each)
+
+-- an output that was made by this name
+pub made_by : {W : Type 0} (o : outputs.Ghosts W) (IsMade : List ℕ → ℕ → W → Type 0) (name same : List ℕ) (mark : ℕ)
+    (output : W) → name ≡ same → IsNewlyMade o IsMade name mark output
+    → (by : ℕ) × IsNewlyMade o IsMade same by output
+made_by o IsMade name same mark output e made =
+    (mark, subst (λ (n : List ℕ). IsNewlyMade o IsMade n mark output) e made)
+
+-- the name of a text that was put behind others
+pub noted_last : (names new : List (String Global)) (one : String Global) (name : List ℕ) → new ≡ names ++ one ∷ []
+    → string_bytes one ≡ name → map string_bytes new ≡ map string_bytes names ++ name ∷ []
+noted_last names new one name n is = rw (n, map-append, is) refl
 
 -- one name more, of the next item
 pub noted_more : {X : Type 0} (f : X → List ℕ) (xs : List X) (i : ℕ) (d : X) (before now new : List (List ℕ))

@@ -1,5 +1,7 @@
-use Rattle.std.proofs.Common.{◌≡◌, ◌∙◌, ◌++◌, ◌∷◌, [], ℕ, ap, get_or, Global, List, map, rules, String, subst}
+use Rattle.std.proofs.Common.{◌≡◌, ◌∙◌, ◌++◌, ◌∷◌, [], ℕ, ap, arith, get_or, Global, List, map, rules, String, subst}
+use Rattle.std.specs.List.{AllZip}
 use Rattle.std.specs.String.{string_bytes}
+use Rattle.std.proofs.lemmas.List.{take_all}
 use Rattle.sheet_app.specs.FileSheets.{IsMadeFor}
 use Rattle.sheet_app.specs.SheetViews.{IsOfOutputs}
 use Rattle.sheet_app.proofs.FaultLemmas.{handed, of_more, of_value}
@@ -39,3 +41,19 @@ returns-in_err-output-clause-missing g c =
     (of_more (name (get_or endings c.endings.ending-index item) ∷ []) (map name endings) fault
     (of_value name endings c.endings.ending-index item c.endings-test.true)
     (subst (λ (one : List ℕ). IsOfOutputs (one ∷ []) fault) text c.in_err-output.ensures.missing))
+
+pub returns-clause-made : goal.returns-clause-made
+returns-clause-made g c =
+    subst (λ (endings : List (String Global)). AllZip (IsMadeFor g.W.Output (g.P.FileStore.is_made c.args.store.now)
+    c.args.file.now) (map string_bytes endings) c.endings.outputs.items)
+    (take_all c.endings.ending-index c.args.endings.now (omega (arith, c.endings-test.false))) c.endings.invariant.made
+
+pub returns-clause-noted : goal.returns-clause-noted
+returns-clause-noted g c =
+    c.endings.invariant.noted
+    ∙ ap (λ (endings : List (String Global)). map string_bytes c.args.names.now.items
+    ++ map (λ (ending : String Global). c.args.file.now ++ string_bytes ending) endings)
+    (take_all c.endings.ending-index c.args.endings.now (omega (arith, c.endings-test.false)))
+
+pub returns-clause-apart : goal.returns-clause-apart
+returns-clause-apart g c = c.endings.invariant.apart

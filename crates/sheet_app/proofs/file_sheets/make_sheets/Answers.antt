@@ -64,3 +64,14 @@ returns-clause-apart g c =
     = rw none at c.sources.invariant.noted in
     subst (AllPairs (g.P.FileStore.are_apart c.args.store.now))
     (sym (append-nil (map string_bytes c.sources.names.items)) ∙ all) c.sources.invariant.apart
+
+pub returns-clause-named : goal.returns-clause-named
+returns-clause-named g c =
+    let none : into_iter_items c.sources.opened-iterator ≡ []
+    = nil_from_length _ (omega (arith, c.in-None.ensures.steps.0, c.sources.opened-iterator.rest.ok.0)) in
+    let all : map sheet_name c.sources.sheets.items ++ [] ≡ map source_name c.args.sources.items
+    = rw none at c.sources.invariant.named in
+    sym (append-nil (map sheet_name c.sources.sheets.items)) ∙ all
+
+pub returns-clause-made : goal.returns-clause-made
+returns-clause-made g c = c.sources.invariant.made

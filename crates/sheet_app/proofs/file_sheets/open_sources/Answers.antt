@@ -1,5 +1,6 @@
 -- Each turn opens the next file.
-use Rattle.std.proofs.Common.{rules, ◌≡◌, ◌++◌, ◌∷◌, [], List, ℕ, get_or, refl}
+use Rattle.std.proofs.Common.{rules, ◌≡◌, ◌∙◌, ◌++◌, ◌∷◌, [], List, ℕ, arith, get_or, map, refl}
+use Rattle.std.proofs.lemmas.List.{length-map, take_all}
 use Rattle.std.specs.Borrow.{Bor}
 use Rattle.sheet_app.specs.FileSheets.{source_name}
 use Rattle.sheet_app.specs.declared.file_sheets.OpenedFile.{OpenedFile}
@@ -20,3 +21,12 @@ files-preserved g c =
           (λ (opened : OpenedFile g.row.R.Denot). g.P.FileStore.is_opened c.args.store.now opened.name.now opened.source)
           sources c.push.new.self.items one pushed c.files.invariant.opened c.in-Ok.ensures;
     }
+
+pub returns-clause-named : goal.returns-clause-named
+returns-clause-named g c =
+    let now = λ (f : Bor (List ℕ)). f.now in
+    c.files.invariant.named ∙ take_all c.files.name-index (map now c.args.files.now)
+    (omega (arith, c.files-test.false, length-map c.args.files.now now))
+
+pub returns-clause-opened : goal.returns-clause-opened
+returns-clause-opened g c = c.files.invariant.opened

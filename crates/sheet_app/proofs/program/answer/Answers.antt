@@ -96,6 +96,10 @@ returns-in-Ok-Version-clause-refused g c =
     (λ two. elim c.print_page-in-Ok-Version.ensures.statuses
     [ inl zero ↦ absurd (omega (arith, two)) | inr one ↦ absurd (omega (arith, two, one)) ])
 
+never_high : {A : Type 0} (status : ℕ) → (status ≡ 0) ⊎ (status ≡ 1) → 2 ≤ status → A
+never_high status (inl zero) high = absurd (omega (arith, zero, high))
+never_high status (inr one) high = absurd (omega (arith, one, high))
+
 at_most_three : (status : ℕ) → 2 ≤ status → (status ≡ 0) ⊎ (status ≡ 1) ⊎ (status ≡ 3) → status ≡ 3
 at_most_three status high among = grind arith
 
@@ -117,10 +121,25 @@ returns-in-Err-clause-refused g c =
 
 -- standard error: nothing of a page; that memory ran out or a file was missing; and else what is wrong
 pub returns-in-Ok-Help-clause-reported : goal.returns-in-Ok-Help-clause-reported
-returns-in-Ok-Help-clause-reported g c = search rules
+returns-in-Ok-Help-clause-reported g c = λ high. never_high c.print_page.result.status c.print_page.ensures.statuses high
 
 pub returns-in-Ok-Version-clause-reported : goal.returns-in-Ok-Version-clause-reported
-returns-in-Ok-Version-clause-reported g c = search rules
+returns-in-Ok-Version-clause-reported g c =
+    λ high. never_high c.print_page-in-Ok-Version.result.status c.print_page-in-Ok-Version.ensures.statuses high
+
+pub returns-in-Ok-Help-clause-untouched : goal.returns-in-Ok-Help-clause-untouched
+returns-in-Ok-Help-clause-untouched g c = λ high. never_high c.print_page.result.status c.print_page.ensures.statuses high
+
+pub returns-in-Ok-Version-clause-untouched : goal.returns-in-Ok-Version-clause-untouched
+returns-in-Ok-Version-clause-untouched g c =
+    λ high. never_high c.print_page-in-Ok-Version.result.status c.print_page-in-Ok-Version.ensures.statuses high
+
+pub returns-in-Ok-Convert-clause-untouched : goal.returns-in-Ok-Convert-clause-untouched
+returns-in-Ok-Convert-clause-untouched g c = λ high.
+    c.run_job.ensures.untouched (at_most_three c.run_job.result.status high c.run_job.ensures.statuses)
+
+pub returns-in-Err-clause-untouched : goal.returns-in-Err-clause-untouched
+returns-in-Err-clause-untouched g c = λ high. c.refuse.ensures.untouched
 
 pub returns-in-Ok-Convert-clause-reported : goal.returns-in-Ok-Convert-clause-reported
 returns-in-Ok-Convert-clause-reported g c = λ high good.

@@ -1,5 +1,5 @@
 -- Standard input is converted where no file is asked for, and else the files.
-use Rattle.std.proofs.Common.{rules, ◌≡◌, ◌≤◌, ◌↔◌, ℕ, ◌∙◌, All, arith, inl, inr, length, refl, true, vec_len}
+use Rattle.std.proofs.Common.{rules, ◌≡◌, ◌≤◌, ◌⊎◌, ◌↔◌, ℕ, ◌∙◌, All, arith, inl, inr, length, refl, true, vec_len}
 use Rattle.sheet_arguments.specs.Requests.{task_of}
 use Rattle.sheet_app.specs.EndedSheets.{is_complete}
 use Rattle.sheet_app.specs.declared.converting.EndedSheet.{EndedSheet}
@@ -10,6 +10,10 @@ use Rattle.sheet_app.proofs.program.run_job.Goals as goal
 -- nothing is done where the job is not begun
 is_three : {A : Type 0} → (status : ℕ) → status ≡ 3 → status ≤ 1 → A
 is_three status three low = absurd (omega (arith, three, low))
+
+not_three : {A : Type 0} (status : ℕ) → (status ≡ 0) ⊎ (status ≡ 1) → status ≡ 3 → A
+not_three status (inl zero) three = absurd (omega (arith, zero, three))
+not_three status (inr one) three = absurd (omega (arith, one, three))
 
 pub returns-in-Err-clause-input : goal.returns-in-Err-clause-input
 returns-in-Err-clause-input g c =
@@ -41,9 +45,7 @@ returns-then-is_empty-clause-statuses g c =
     elim c.run_input.ensures.statuses [ inl zero ↦ inl zero | inr one ↦ inr (inl one) ]
 
 pub returns-then-is_empty-clause-reported : goal.returns-then-is_empty-clause-reported
-returns-then-is_empty-clause-reported g c = λ three good arguments just.
-    elim c.run_input.ensures.statuses
-    [ inl zero ↦ absurd (omega (arith, three, zero)) | inr one ↦ absurd (omega (arith, three, one)) ]
+returns-then-is_empty-clause-reported g c = not_three c.run_input.result.status c.run_input.ensures.statuses
 
 pub returns-clause-input : goal.returns-clause-input
 returns-clause-input g c = λ low none.
@@ -73,3 +75,19 @@ returns-clause-files g c = λ low some.
 pub returns-clause-statuses : goal.returns-clause-statuses
 returns-clause-statuses g c =
     elim c.status_of.ensures.statuses [ inl zero ↦ inl zero | inr one ↦ inr (inl one) ]
+
+pub returns-in-Err-clause-untouched : goal.returns-in-Err-clause-untouched
+returns-in-Err-clause-untouched g c = λ three. c.refuse.ensures.untouched
+
+pub returns-then-is_empty-clause-input : goal.returns-then-is_empty-clause-input
+returns-then-is_empty-clause-input g c = λ low none.
+    (c.in-Ok.prepared.list.lines.items, c.in-Ok.ensures.lists, c.run_input.ensures.none, c.run_input.ensures.answered)
+
+pub returns-then-is_empty-clause-untouched : goal.returns-then-is_empty-clause-untouched
+returns-then-is_empty-clause-untouched g c = not_three c.run_input.result.status c.run_input.ensures.statuses
+
+pub returns-clause-untouched : goal.returns-clause-untouched
+returns-clause-untouched g c = λ three. refl
+
+pub returns-clause-reported : goal.returns-clause-reported
+returns-clause-reported g c = not_three c.status_of.result c.status_of.ensures.statuses

@@ -1,6 +1,6 @@
 -- A date as registers have it is three runs of digits.
 use Rattle.std.proofs.Common.{◌≡◌, ℕ, ◌<◌, true, false, ◌==◌, List, [], ◌∷◌, ◌++◌, length, refl, sym, ap}
-use Rattle.std.proofs.Common.{◌∙◌, arith, Option, Some, None, append-nil}
+use Rattle.std.proofs.Common.{◌∙◌, arith, Bool, cond, Option, Some, None, append-nil}
 use Rattle.std.specs.Char.{is_ascii_digit}
 use Rattle.std.specs.List.{list_all}
 use Rattle.std.proofs.lemmas.Bool.{and_parts}
@@ -9,13 +9,14 @@ use Rattle.written_dates.specs.declared.tokens.Kind.{Kind}
 use Rattle.written_dates.specs.declared.tokens.Kind.TheVariants.{Hyphen, Digit}
 use Rattle.written_dates.specs.declared.items.Number.{Number}
 use Rattle.date_texts.specs.declared.calendar.Calendar.{Calendar}
+use Rattle.date_texts.specs.declared.calendar.Calendar.TheVariants.{Gregorian, Julian, Hebrew}
 use Rattle.written_dates.specs.declared.written.Short.TheVariants.{Keep}
 use Rattle.written_dates.specs.declared.written.Choice.{Choice}
 use Rattle.written_dates.specs.Tokens.{Piece, first, in_front, tokens}
 use Rattle.written_dates.specs.Items.{number_of_digits}
 use Rattle.written_dates.specs.Signs.{◌>>=◌, three_runs, runs_behind_minus, runs_in_front, digits_first, behind_hyphen}
 use Rattle.written_dates.specs.Laws.{AreDigits, RegisterDatesStay, MinusDatesStay}
-use Rattle.written_dates.specs.Written.{joined, short_rule, stood}
+use Rattle.written_dates.specs.Written.{joined, numbers, short_rule, stood}
 use Rattle.written_dates.proofs.TokenLemmas.{alone}
 
 abbrev piece_of : Kind → List ℕ → Piece
@@ -101,6 +102,30 @@ kept_by choice calendar kept None m d h = refl
 kept_by choice calendar kept (Some y) None d h = refl
 kept_by choice calendar kept (Some y) (Some m) None h = refl
 kept_by choice calendar kept (Some y) (Some m) (Some d) h = rw (h y refl) refl
+
+-- a year of more than three digits is kept
+long_kept : (choice : Choice) (calendar : Calendar) (year : Number) → 3 < year.digits
+    → short_rule choice calendar year ≡ Keep
+long_kept choice Gregorian year long = grind (arith, nat_tests)
+long_kept choice Julian year long = grind (arith, nat_tests)
+long_kept choice Hebrew year long = grind (arith, nat_tests)
+long_kept choice _ year long = refl
+
+digits_by : (b : Bool) (value : ℕ) (text : List ℕ) (year : Number)
+    → cond b (Some (record { value = value; digits = length text })) None ≡ Some year → length text ≡ year.digits
+digits_by true value text year e =
+    let same : record { value = value; digits = length text } ≡ year = cc in ap (λ (n : Number). n.digits) same
+digits_by false value text year e = absurd (cc)
+
+digits_counted : (text : List ℕ) (year : Number) → number_of_digits text ≡ Some year → length text ≡ year.digits
+unfolding number_of_digits
+digits_counted text year e = digits_by _ _ text year e
+
+pub long_stands : (choice : Choice) (calendar : Calendar) (y m d : List ℕ) → 3 < length y
+    → stood choice calendar (joined y m d) (numbers (y, m, d)) ≡ joined y m d
+long_stands choice calendar y m d long =
+    kept_by choice calendar (joined y m d) (number_of_digits y) (number_of_digits m) (number_of_digits d)
+    (λ year e. long_kept choice calendar year (omega (arith, digits_counted y year e, long)))
 
 pub they_stay : RegisterDatesStay
 they_stay choice calendar names y m d civil hy hm hd turned kept =

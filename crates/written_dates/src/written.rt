@@ -197,7 +197,8 @@ fn numbers_of(year: &[u8], month: &[u8], day: &[u8]) -> Option<(Number, Number, 
     Some((year, month, day))
 }
 
-/// Appends what is written for a date that stands as registers have it.
+/// Appends what is written for a date that stands as registers have it. A year of more than three digits is not short, so
+/// its numbers are not looked at.
 fn push_stood(
     out: &mut Vec<u8>,
     choice: &Choice,
@@ -209,6 +210,9 @@ fn push_stood(
     ensures { OnOk result (out.new.items ≡ out.old.items
         ++ stood choice.now calendar (joined year.now month.now day.now) (numbers (year.now, month.now, day.now))) }
 {
+    if year.len() > 3 {
+        return push_joined(out, year, month, day);
+    }
     let Some((y, m, d)) = numbers_of(year, month, day) else {
         return push_joined(out, year, month, day);
     };

@@ -1,7 +1,12 @@
-use Rattle.std.proofs.Common.{◌≡◌, ◌≤◌, ◌<◌, ◌∙◌, ◌==◌, ℕ, Bool, arith, false, length, nat_lt, sym, true}
+use Rattle.std.proofs.Common.{◌≡◌, ◌≤◌, ◌<◌, ◌∙◌, ◌==◌, ℕ, Bool, List, ap, arith, false, length, nat_lt, refl, subst, sym, take, true}
+use Rattle.std.specs.Prelude.{Err, Ok}
+use Rattle.date_texts.specs.declared.target.Target.{Target}
+use Rattle.register_records.specs.SetupRules.{NamesTwice}
+use Rattle.register_records.specs.declared.setups.Setup.{Setup}
+use Rattle.register_records.specs.declared.setups.SetupFault.{SetupFault}
 use Rattle.std.proofs.lemmas.Bool.{true≢false}
 use Rattle.std.proofs.lemmas.Bool.Decides.{nat_tests}
-use Rattle.register_sheets.specs.Choices.{HasDates, column_limit}
+use Rattle.register_sheets.specs.Choices.{AsksOnce, HasDates, asked_targets, asks_twice, column_limit}
 use Rattle.register_sheets.specs.declared.choices.SheetChoice.{SheetChoice}
 use Rattle.register_sheets.proofs.choices.setup_of.Goals as goal
 
@@ -26,4 +31,53 @@ returns-then-asks_twice-clause-fault c = (
   dated c.args.choice.now _ c.is_empty.ensures c.if-is_empty.false c.if-choice-gt-MAX_DATES.false,
   few_columns _ c.if-choice-gt-MAX_COLUMNS.false,
   λ once. true≢false (sym c.if-asks_twice.true ∙ c.asks_twice.ensures ∙ once.day),
+)
+
+asks_once : (choice : SheetChoice) (twice : Bool) (targets : List Target) → length choice.columns.now ≤ 17
+    → twice ≡ asks_twice choice.columns.now → twice ≡ false → targets ≡ asked_targets choice.columns.now
+    → ¬ (NamesTwice targets) → AsksOnce choice
+asks_once choice twice targets few is off same other = record {
+  few = few_columns _ few;
+  day = sym is ∙ off;
+  targets = subst (λ (asked : List Target). ¬ (NamesTwice asked)) same other;
+}
+
+no_fault : (setup : Setup) (fault : SetupFault) → Ok setup ≡ Err fault → ⊥
+no_fault setup fault e = cc
+
+not_false : (b : Bool) → (b ≡ false → ⊥) → b ≡ true
+not_false true other = refl
+not_false false other = absurd (other refl)
+
+pub returns-then-choice-clause-fault : goal.returns-then-choice-clause-fault
+returns-then-choice-clause-fault c =
+    let made = c.in-Ok.ensures in
+    let once : ¬ (NamesTwice (take c.asked_targets-count.result.1 c.asked_targets-count.result.0))
+    = λ twice. no_fault _ _ (made.twice.1 twice) in (
+      dated c.args.choice.now _ c.is_empty.ensures c.if-is_empty.false c.if-choice-gt-MAX_DATES.false,
+      asks_once c.args.choice.now _ _ c.if-choice-gt-MAX_COLUMNS.false c.asks_twice.ensures c.if-asks_twice.false
+          c.asked_targets-count.ensures.value once,
+      not_false _ (λ off. no_fault _ _ (made.delimiter.1 (once, refl, off))),
+      c.if-choice.true,
+    )
+
+pub returns-clause-good : goal.returns-clause-good
+returns-clause-good c =
+    let made = c.in-Ok.ensures in
+    let once : ¬ (NamesTwice (take c.asked_targets-count.result.1 c.asked_targets-count.result.0))
+    = λ twice. no_fault _ _ (made.twice.1 twice) in (
+      dated c.args.choice.now _ c.is_empty.ensures c.if-is_empty.false c.if-choice-gt-MAX_DATES.false,
+      asks_once c.args.choice.now _ _ c.if-choice-gt-MAX_COLUMNS.false c.asks_twice.ensures c.if-asks_twice.false
+          c.asked_targets-count.ensures.value once,
+      not_false _ (λ off. no_fault _ _ (made.delimiter.1 (once, refl, off))),
+      c.if-choice.false,
+      made.value.0 ∙ c.asked_targets-count.ensures.value,
+    )
+
+pub returns-in-Err-TargetTwice-clause-fault : goal.returns-in-Err-TargetTwice-clause-fault
+returns-in-Err-TargetTwice-clause-fault c = (
+  dated c.args.choice.now _ c.is_empty.ensures c.if-is_empty.false c.if-choice-gt-MAX_DATES.false,
+  few_columns _ c.if-choice-gt-MAX_COLUMNS.false,
+  λ once. once.targets (subst NamesTwice c.asked_targets-count.ensures.value
+      (c.in-Err-TargetTwice.ensures.twice.0 (ap (λ (fault : SetupFault). Err fault) c.in-Err-TargetTwice.field-0-is))),
 )

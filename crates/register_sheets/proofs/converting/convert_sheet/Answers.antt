@@ -70,3 +70,14 @@ returns-in-Ok-None-clause-too_many g c = λ e. absurd (names_only.1 e)
 
 pub returns-in-Ok-None-clause-sink : goal.returns-in-Ok-None-clause-sink
 returns-in-Ok-None-clause-sink g c = λ e. absurd (names_only.2 e)
+
+pub write_sheet-written-requires-clause-named : goal.write_sheet-written-requires-clause-named
+write_sheet-written-requires-clause-named g c =
+    rw c.records_of-records.ensures.left (rw c.in-Ok-Some.field-0-is at c.in-Ok-Some.ensures.some).0
+
+pub write_sheet-written-requires-clause-wide : goal.write_sheet-written-requires-clause-wide
+write_sheet-written-requires-clause-wide g c =
+    rw c.records_of-records.ensures.left (rw c.in-Ok-Some.field-0-is at c.in-Ok-Some.ensures.some).1
+
+pub returns-in-Ok-None-clause-no_names : goal.returns-in-Ok-None-clause-no_names
+returns-in-Ok-None-clause-no_names g c = λ _. (refl, rw c.in-Ok-None.field-0-is at c.in-Ok-None.ensures.none)

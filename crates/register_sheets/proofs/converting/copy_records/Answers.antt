@@ -1,5 +1,5 @@
 use Rattle.std.proofs.Common.{List, ℕ, ◌≡◌, ◌<◌, ◌∙◌, [], ◌∷◌, ◌++◌, append_assoc, ap, arith, drop, length, length-drop}
-use Rattle.std.proofs.Common.{rules, subst, sym, take, true, false}
+use Rattle.std.proofs.Common.{append-nil, refl, rules, subst, sym, take, true, false}
 use Rattle.std.specs.Prelude.{Ok}
 use Rattle.csv.specs.Records.{fields_of}
 use Rattle.register_records.proofs.StepLemmas.{passed_on}
@@ -93,4 +93,17 @@ returns-in_err-end g c =
           (front_taken _ begun _ _ made (left_of c.args.records.now) c.records.counter c.args.count (omega arith)
           (inv.made begun made h)));
       output = ends_passed _ _ _ _ _ _ _ _ is c.in_err-end.ensures.output inv.failed inv.mark;
+    }
+
+pub records-init : goal.records-init
+records-init g c =
+    record {
+      reading = c.requires.reading;
+      left = refl;
+      delimiter = refl;
+      made = λ begun made h.
+          subst (λ (records : List Fields). HasMade c.args.sender.now.delimiter begun
+          (g.W.Output.contents c.args.output.now) c.args.sender.now.lines records []) (sym (append-nil made)) h;
+      failed = refl;
+      mark = refl;
     }

@@ -1,5 +1,8 @@
-use Rattle.std.proofs.Common.{◌∙◌, ◌++◌, ℕ, List, append-nil, ap, length, map, refl, sym, take, take_all}
+use Rattle.std.proofs.Common.{◌^◌, ◌≤◌, arith, [], get_or, subst, ◌∙◌, ◌++◌, ℕ, List, append-nil, ap, length, map, refl, sym, take, take_all}
 use Rattle.std.specs.List.{concat}
+use Rattle.std.proofs.lemmas.List.{get_or-map, length-map}
+use Rattle.register_records.proofs.StepLemmas.{passed_on}
+use Rattle.register_sheets.proofs.SendingLemmas.{no_value}
 use Rattle.csv.specs.Records.{fields_of}
 use Rattle.register_records.specs.Entries.{Fields}
 use Rattle.register_sheets.specs.Sheets.{chosen}
@@ -40,4 +43,27 @@ returns c =
       lengths = inv.lengths ∙ ap (λ (places : List ℕ). old.lengths.items ++ map length (chosen places fields)) all;
       long = tt;
       kept = (inv.records, inv.widest);
+    }
+
+pub returns-in_err-push : goal.returns-in_err-push
+returns-in_err-push c =
+    let inv = c.places.invariant in
+    let kept = c.push.ensures.kept in
+    let fields = fields_of c.args.record.now in
+    let places = c.args.places.now in
+    let i = c.places.place-index in
+    let field : ℕ → List ℕ = λ place. get_or fields place [] in
+    let here = field (get_or places i 0) in
+    let is = c.from_residual.ensures.1 in
+    record {
+      bytes = no_value c.from_residual.result _ _ is;
+      lengths = no_value c.from_residual.result _ _ is;
+      long = passed_on _ _ _ is (λ e. (
+        i,
+        here,
+        omega (arith, length-map places field, c.places-test.true),
+        get_or-map field places i 0 here c.places-test.true,
+        subst (λ (f : List ℕ). 2 ^ 32 ≤ length f) c.field_at.ensures (c.in_err-push.ensures.long e),
+      ));
+      kept = (kept.0 ∙ inv.records, kept.1 ∙ inv.widest);
     }

@@ -7,12 +7,12 @@ use maya_calendars::{LongCount, haab_on, long_day_of, long_on, tzolkin_on};
 /// The fixed day number of 0.0.0.0.0.
 const EPOCH: i64 = -1_137_142;
 
-static MONTHS: [&str; 19] = [
+const MONTHS: [&str; 19] = [
     "Pop", "Uo", "Zip", "Zotz", "Tzec", "Xul", "Yaxkin", "Mol", "Chen", "Yax", "Zac", "Ceh", "Mac",
     "Kankin", "Muan", "Pax", "Kayab", "Cumku", "Uayeb",
 ];
 
-static NAMES: [&str; 20] = [
+const NAMES: [&str; 20] = [
     "Imix", "Ik", "Akbal", "Kan", "Chicchan", "Cimi", "Manik", "Lamat", "Muluc", "Oc", "Chuen",
     "Eb", "Ben", "Ix", "Men", "Cib", "Caban", "Etznab", "Cauac", "Ahau",
 ];
@@ -52,7 +52,7 @@ fn has_answer(
 
 /// The first days of the long count, a day of 1945, the day that ends the thirteenth baktun, 21 December
 /// 2012, and the last day of the range; and what is refused. The places stand in their order before the day.
-pub const LONG_COUNTS: &str = "\
+static LONG_COUNTS: &str = "\
 0 0 0 0 0 -1137142
 0 0 0 0 12 -1137130
 12 16 11 16 9 710347
@@ -79,7 +79,7 @@ fn place(number: Option<i32>) -> u16 {
 }
 
 /// Whether the long count on a line has the answer on it.
-pub fn is_right(line: &str) -> bool {
+fn is_right(line: &str) -> bool {
     let [baktun, katun, tun, uinal, kin, number] = numbers(line);
     let places = (
         place(baktun),
@@ -91,12 +91,22 @@ pub fn is_right(line: &str) -> bool {
     has_answer(places, answer(line, number))
 }
 
-/// Whether the days before the first one are in range, and have no long count.
-pub fn begin_with_the_first() -> bool {
-    let (Some(first), Some(before)) = (Day::new(-3_652_424), Day::new(EPOCH - 1)) else {
+#[test]
+fn long_counts_have_days(rt: HostRuntime) {
+    for line in LONG_COUNTS.lines() {
+        assert!(rt; is_right(line), "at {line}");
+    }
+    for number in [-3_652_424, EPOCH - 1] {
+        assert!(rt; has_no_long_count(number), "at {number}");
+    }
+}
+
+/// Whether the day with this number is in range, and has no long count.
+fn has_no_long_count(number: i64) -> bool {
+    let Some(day) = Day::new(number) else {
         return false;
     };
-    long_on(first).is_none() && long_on(before).is_none()
+    long_on(day).is_none()
 }
 
 /// Whether the day with this number has this day of the month of this number in the haab, and in the tzolkin this
@@ -116,27 +126,19 @@ fn has_names(number: i64, haab: (u8, u8), tzolkin: (u8, usize)) -> bool {
 /// The haab and the tzolkin of known days, of the day before the long count begins, and of the ends of
 /// the range: 1 Muan and 1 Etznab, 7 Cumku and 3 Cauac, 8 Cumku and 4 Ahau, 0 Uayeb and 3 Eb, 7 Zac and 11 Muluc,
 /// 3 Kankin and 4 Ahau, and 19 Pop and 5 Imix.
-pub const ROUNDS: &str = "\
--3652424 1 15 1 18
--1137143 7 18 3 19
--1137142 8 18 4 20
--1137130 0 19 3 12
-710347 7 11 11 9
-734858 3 14 4 20
-3652059 19 1 5 1
-";
-
-/// Whether the day on a line has the haab and the tzolkin on it.
-pub fn has_rounds(line: &str) -> bool {
-    let [Some(number), day, month, count, Some(name), _] = numbers(line) else {
-        return false;
-    };
-    let (day, month, count) = (place(day), place(month), place(count));
-    has_names(
-        number as i64,
-        ((day & 0xFF) as u8, (month & 0xFF) as u8),
-        ((count & 0xFF) as u8, name.unsigned_abs() as usize),
-    )
+#[test]
+fn days_have_haab_and_tzolkin(rt: HostRuntime) {
+    for (number, haab, tzolkin) in [
+        (-3_652_424, (1, 15), (1, 18)),
+        (EPOCH - 1, (7, 18), (3, 19)),
+        (EPOCH, (8, 18), (4, 20)),
+        (-1_137_130, (0, 19), (3, 12)),
+        (710_347, (7, 11), (11, 9)),
+        (734_858, (3, 14), (4, 20)),
+        (3_652_059, (19, 1), (5, 1)),
+    ] {
+        assert!(rt; has_names(number, haab, tzolkin), "at {number}");
+    }
 }
 
 /// The haab of the next day: the months have twenty days, and the last one five.

@@ -1,33 +1,35 @@
 //! The new years of the Hebrew calendar.
 
-use super::table::numbers;
 use lunar_calendars::{hebrew_new_year, hebrew_year_length};
+
+/// Whether the Hebrew year opens on the day with this fixed day number, and has so many days.
+fn has_new_year(year: u32, new_year: i64, length: u16) -> bool {
+    (1..=99_999).contains(&year)
+        && hebrew_new_year(year) == new_year
+        && hebrew_year_length(year) == length
+}
 
 /// New years and lengths that the closed form of Reingold and Dershowitz gives. The molads of 75795, 82082
 /// and 88369 are at noon exactly, and that of 88370 is on a Monday at exactly 15 hours and 589 parts.
-pub const NEW_YEARS: &str = "\
-1 -1373427 355
-2 -1373072 355
-5706 710282 383
-5707 710665 354
-5745 724546 354
-5746 724900 383
-5766 732223 354
-75795 26310089 353
-82082 28606388 353
-88369 30902687 383
-88370 30903070 354
-99999 35150515 353
-";
-
-/// Whether the year on a line has the new year and the length on it.
-pub fn is_right(line: &str) -> bool {
-    let [Some(year), Some(new_year), Some(length), ..] = numbers(line) else {
-        return false;
-    };
-    (1..=99_999).contains(&year)
-        && hebrew_new_year(year as u32) == new_year as i64
-        && hebrew_year_length(year as u32) as i32 == length
+#[test]
+fn hebrew_years(rt: HostRuntime) {
+    for (year, new_year, length) in [
+        (1, -1_373_427, 355),
+        (2, -1_373_072, 355),
+        (5706, 710_282, 383),
+        (5707, 710_665, 354),
+        (5745, 724_546, 354),
+        (5746, 724_900, 383),
+        (5766, 732_223, 354),
+        (75_795, 26_310_089, 353),
+        (82_082, 28_606_388, 353),
+        (88_369, 30_902_687, 383),
+        (88_370, 30_903_070, 354),
+        (99_999, 35_150_515, 353),
+    ] {
+        assert!(rt; has_new_year(year, new_year, length), "in {year}");
+    }
+    assert!(rt; hebrew_new_year(100_000) == 35_150_868);
 }
 
 /// Whether a Hebrew year has thirteen months, by its place in nineteen years.

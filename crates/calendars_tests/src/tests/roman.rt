@@ -32,7 +32,7 @@ fn has_answer(
 
 /// Days that history knows by their Roman names, from Cicero's birth to the fall of Constantinople and the last day
 /// of the Julian calendar in Rome. Before the year 8 the Julian calendar is carried back.
-pub const HISTORY: &str = "\
+static HISTORY: &str = "\
 Nones -106 1 3 -38716
 Kalends -63 10 9 -22747
 Ides -44 3 1 -15999
@@ -50,7 +50,7 @@ Kalends 1945 11 3 710347
 
 /// The principal days and the days beside them, 24 and 25 February of a leap year and of a common year, the ends of
 /// a year, and the ends of the range.
-pub const PRINCIPAL_DAYS: &str = "\
+static PRINCIPAL_DAYS: &str = "\
 Kalends 1 1 2 -2
 Kalends 1 1 1 -1
 Nones 1 1 4 0
@@ -83,7 +83,7 @@ Kalends -10000 4 14 -3652424
 ";
 
 /// Dates that are none, valid dates out of range, and what is not within the bounds of a date.
-pub const REFUSED: &str = "\
+static REFUSED: &str = "\
 Kalends 0 1 1 none
 Kalends 1 0 1 none
 Kalends 1 13 1 none
@@ -132,7 +132,7 @@ fn name(line: &str, count: u8) -> RomanName {
 }
 
 /// Whether the date on a line has the answer on it.
-pub fn is_right(line: &str) -> bool {
+fn is_right(line: &str) -> bool {
     let [_, Some(year), Some(month), Some(count), number, _] = numbers(line) else {
         return false;
     };
@@ -142,7 +142,16 @@ pub fn is_right(line: &str) -> bool {
     has_answer(year, month, name(line, count), answer(line, number))
 }
 
-static LENGTHS: [u8; 12] = [31, 28, 31, 30, 31, 30, 31, 31, 30, 31, 30, 31];
+#[test]
+fn known_roman_dates(rt: HostRuntime) {
+    for table in [HISTORY, PRINCIPAL_DAYS, REFUSED] {
+        for line in table.lines() {
+            assert!(rt; is_right(line), "at {line}");
+        }
+    }
+}
+
+const LENGTHS: [u8; 12] = [31, 28, 31, 30, 31, 30, 31, 31, 30, 31, 30, 31];
 
 /// A year, a month, and a name counted back from a principal day of it.
 type Named = (i32, u8, RomanName);

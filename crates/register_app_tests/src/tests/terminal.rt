@@ -44,7 +44,7 @@ struct Shown {
     line: &'static str,
 }
 
-static SHOWN: [Shown; 7] = [
+const SHOWN: [Shown; 7] = [
     Shown {
         target: "Mayan",
         line: "register: unknown target: Mayan\n",

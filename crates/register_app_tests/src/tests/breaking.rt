@@ -123,7 +123,7 @@ const REFUSED: Case = Case {
     errors: b"",
 };
 
-const CASES: [Case; 12] = [
+static CASES: [Case; 12] = [
     // What is wrong with the arguments: what clap refuses, and each fault that the program finds itself.
     Case {
         arguments: &["--bogus"],
@@ -297,7 +297,7 @@ fn standard_error_that_breaks_changes_neither_status_nor_tables(rt: HostRuntime)
 }
 
 /// The arguments that ask for a page, and the page.
-const PAGES: [(&str, &str); 4] = [
+static PAGES: [(&str, &str); 4] = [
     ("--help", HELP),
     ("-h", HELP),
     ("--version", "register 1.2.0\n"),
@@ -343,7 +343,7 @@ fn is_printed_until(
 
 #[test]
 fn a_page_that_cannot_be_printed_is_reported(rt: HostRuntime) {
-    for (argument, page) in PAGES {
+    for (argument, page) in &PAGES {
         let size = page.len();
         for (output, errors, status) in [
             (Break::After(0), NOWHERE, 1),
@@ -355,7 +355,13 @@ fn a_page_that_cannot_be_printed_is_reported(rt: HostRuntime) {
             (Break::After(size), Break::After(0), 0),
         ] {
             assert!(rt;
-                is_printed_until(&rt, rt.alloc(), (argument, page), (output, errors), status),
+                is_printed_until(
+                    &rt,
+                    rt.alloc(),
+                    (*argument, *page),
+                    (output, errors),
+                    status
+                ),
                 "{argument}, {output:?}"
             );
         }
@@ -363,7 +369,7 @@ fn a_page_that_cannot_be_printed_is_reported(rt: HostRuntime) {
         for room in 0..CANNOT_PRINT.len() {
             let places = (Break::After(0), Break::After(room));
             assert!(rt;
-                is_printed_until(&rt, rt.alloc(), (argument, page), places, 1),
+                is_printed_until(&rt, rt.alloc(), (*argument, *page), places, 1),
                 "{argument}, after {room}"
             );
         }

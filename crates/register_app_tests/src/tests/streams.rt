@@ -93,7 +93,7 @@ struct Touching {
     reads_input: bool,
 }
 
-const TOUCHINGS: [Touching; 6] = [
+static TOUCHINGS: [Touching; 6] = [
     Touching {
         arguments: &["--help", "a.csv"],
         status: 0,
@@ -258,7 +258,7 @@ fn broken_streams_are_reported(rt: HostRuntime) {
 }
 
 /// Command lines that ask for help: before anything is wrong with them, and before the version.
-const FOR_HELP: [&[&str]; 6] = [
+static FOR_HELP: [&[&str]; 6] = [
     &["--help"],
     &["-h"],
     &["--help", "--version"],

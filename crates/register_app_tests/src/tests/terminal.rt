@@ -44,7 +44,7 @@ struct Shown {
     line: &'static str,
 }
 
-const SHOWN: [Shown; 7] = [
+static SHOWN: [Shown; 7] = [
     Shown {
         target: "Mayan",
         line: "register: unknown target: Mayan\n",

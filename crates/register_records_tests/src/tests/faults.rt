@@ -1,162 +1,150 @@
 //! Readers and outputs that fail at each place in turn, and refused memory.
 
-use super::{THREE_RECORDS, THREE_ROWS, cause_of, fields_of, lines_of_front, plain, row_of};
+use super::{
+    THREE_RECORDS, THREE_ROWS, Text, cause_from, last_entry, lines_of, lines_of_front, plain,
+    row_of,
+};
 use date_texts::Target;
 use register_records::faults::{Chunks, Sink};
 use register_records::{
-    Entry, EntryFault, EntryReader, Form, LINE_ROOM, MOST_WAITING, Output, Row, RowFault,
-    RowWriter, Setup, SourceEnd, convert_source,
+    EntryFault, EntryReader, Form, LINE_ROOM, MOST_WAITING, Output, Row, RowFault, RowWriter,
+    Setup, SetupFault,
 };
 use std::alloc::{AllocError, Global};
-use std::test::Fail;
 
 /// Room for all that the tests write.
 const ROOM: usize = 4096;
 
-/// A text in chunks of one byte each, of which the read after so many fails.
-fn single_bytes(alloc: Global, text: &str, whole_reads: u32) -> Result<Chunks, AllocError> {
-    let mut chunks = Vec::new(alloc);
-    for byte in text.as_bytes() {
-        chunks.push(vec![in alloc; *byte]?)?;
-    }
-    Ok(Chunks::new(chunks, whole_reads.saturating_add(1)))
+/// An output with room for all, in which nothing fails.
+fn sink_of(alloc: Global) -> Result<Sink, AllocError> {
+    Sink::new(alloc, 7, ROOM, 0, 0, ROOM)
 }
 
-/// Whether three records that are cut off after so many bytes end with a fault of reading, and give so many lines.
-fn is_cut_off(alloc: Global, cut: u32, lines: usize) -> Result<bool, Fail> {
-    let reader = single_bytes(alloc, THREE_RECORDS, cut)?;
-    let mut sink = Sink::new(alloc, 7, ROOM, 0, 0, ROOM)?;
-    let end = convert_source(alloc, reader, &mut sink, &plain(&[])?);
-    Ok(
-        cause_of(&end) == 5
-            && !sink.has_failed()
-            && lines_of_front(sink.bytes(), THREE_ROWS) == lines,
-    )
-}
-
-#[test]
-fn a_text_that_is_cut_off_at_any_byte_gives_its_whole_lines(rt: HostRuntime) -> Result<(), Fail> {
-    let mut lines = 0usize;
-    let mut cut = 0u32;
-    for byte in THREE_RECORDS.as_bytes() {
-        assert!(rt; is_cut_off(rt.alloc(), cut, lines)?, "at {cut}");
-        cut = cut.saturating_add(1);
-        if *byte == b'\n' {
-            lines = lines.saturating_add(1);
-        }
-    }
-    Ok(())
-}
-
-/// Whether three records end with the cause of this number and give so many lines, where the offer or the flush of
-/// these numbers fails, or for 0 none.
-fn ends_after(
+/// Whether a text ends with the cause of this number, or for 0 with none, and this is all that its output takes, which
+/// has failed where the cause is a fault of writing.
+fn gives(
     alloc: Global,
-    fail_write: u32,
-    fail_flush: u32,
-    lines: usize,
-    cause: u8,
-) -> Result<bool, Fail> {
-    let mut sink = Sink::new(alloc, 7, ROOM, fail_write, fail_flush, ROOM)?;
-    let end = convert_source(alloc, THREE_RECORDS.as_bytes(), &mut sink, &plain(&[])?);
-    Ok(
-        cause_of(&end) == cause
-            && sink.has_failed() == (cause == 4)
-            && sink.mark() == 7
-            && lines_of_front(sink.bytes(), THREE_ROWS) == lines,
-    )
+    text: Text<'_>,
+    setup: Result<Setup, SetupFault>,
+    sink: Result<Sink, AllocError>,
+    (cause, table): (u8, &[u8]),
+) -> bool {
+    let Ok(mut sink) = sink else {
+        return false;
+    };
+    cause_from(alloc, text, &mut sink, setup) == Some(cause)
+        && sink.has_failed() == (cause == 4)
+        && sink.mark() == 7
+        && sink.bytes() == table
 }
 
-// A line is missing where its offer fails, and where its flush fails it is the last.
-#[test]
-fn an_offer_and_a_flush_fail_at_each_place(rt: HostRuntime) -> Result<(), Fail> {
-    let mut lines = 0usize;
-    for place in 1..5 {
-        assert!(rt; ends_after(rt.alloc(), place, 0, lines, 4)?, "at {place}");
-        lines = lines.saturating_add(1);
-        assert!(rt; ends_after(rt.alloc(), 0, place, lines, 4)?, "at {place}");
-    }
-    assert!(rt; ends_after(rt.alloc(), 5, 5, lines, 0)?);
-    Ok(())
-}
-
-/// Whether an output that has this room and takes at most so many bytes a call gets so many of the table.
-fn takes(alloc: Global, room: usize, most: usize, length: usize, cause: u8) -> Result<bool, Fail> {
-    let mut sink = Sink::new(alloc, 7, room, 0, 0, most)?;
-    let end = convert_source(alloc, THREE_RECORDS.as_bytes(), &mut sink, &plain(&[])?);
-    Ok(
-        cause_of(&end) == cause
-            && sink.bytes().len() == length
-            && THREE_ROWS.as_bytes().starts_with(sink.bytes()),
-    )
+/// Whether three records that are cut off after so many bytes end with a fault of reading, and give their whole lines.
+fn is_cut_off(alloc: Global, cut: usize) -> bool {
+    let (Some(whole), Ok(mut sink)) = (THREE_RECORDS.get(..cut), sink_of(alloc)) else {
+        return false;
+    };
+    let text = Text::cut(THREE_RECORDS, 1, cut as u32);
+    let cause = cause_from(alloc, text, &mut sink, plain(&[]));
+    cause == Some(5)
+        && !sink.has_failed()
+        && lines_of_front(sink.bytes(), THREE_ROWS) == lines_of(whole)
 }
 
 #[test]
-fn an_output_may_take_one_byte_but_not_none(rt: HostRuntime) -> Result<(), Fail> {
-    let size = THREE_ROWS.len();
-    for (room, most, length, cause) in [
-        (ROOM, 1, size, 0),
-        (ROOM, 0, 0, 4),
-        (size - 1, ROOM, size - 1, 4),
-        (size, ROOM, size, 0),
-    ] {
-        assert!(rt;
-            takes(rt.alloc(), room, most, length, cause)?,
-            "{room}, {most}"
-        );
+fn a_text_that_is_cut_off_at_any_byte_gives_its_whole_lines(rt: HostRuntime) {
+    for cut in 0..THREE_RECORDS.len() {
+        assert!(rt; is_cut_off(rt.alloc(), cut), "at {cut}");
     }
-    Ok(())
 }
 
-/// The text in one chunk, and then a fault: the third read, since `csv` asks for the first byte alone.
-fn cut_text(alloc: Global, text: &str) -> Result<Chunks, AllocError> {
-    let mut chunk = Vec::new(alloc);
-    chunk.extend_from_slice(text.as_bytes())?;
-    let mut chunks = Vec::new(alloc);
-    chunks.push(chunk)?;
-    Ok(Chunks::new(chunks, 3))
+/// The room of an output, the most bytes that it takes by a call, the numbers of the offer and of the flush that fail,
+/// or 0 for none, the cause, or 0, and how many bytes of the table of three records the output has then. A line is
+/// missing where its offer fails, and where its flush fails it is the last.
+static OUTPUTS: [(usize, usize, u32, u32, u8, usize); 13] = [
+    (ROOM, ROOM, 1, 0, 4, 0),
+    (ROOM, ROOM, 0, 1, 4, 40),
+    (ROOM, ROOM, 2, 0, 4, 40),
+    (ROOM, ROOM, 0, 2, 4, 82),
+    (ROOM, ROOM, 3, 0, 4, 82),
+    (ROOM, ROOM, 0, 3, 4, 124),
+    (ROOM, ROOM, 4, 0, 4, 124),
+    (ROOM, ROOM, 0, 4, 4, 166),
+    (ROOM, ROOM, 5, 5, 0, 166),
+    // An output may take one byte, but not none, and has to have room.
+    (ROOM, 1, 0, 0, 0, 166),
+    (ROOM, 0, 0, 0, 4, 0),
+    (165, ROOM, 0, 0, 4, 165),
+    (166, ROOM, 0, 0, 0, 166),
+];
+
+/// Whether an output takes what it should of three records.
+fn takes(alloc: Global, output: &(usize, usize, u32, u32, u8, usize)) -> bool {
+    let (room, most, fail_write, fail_flush, cause, length) = *output;
+    let sink = Sink::new(alloc, 7, room, fail_write, fail_flush, most);
+    let text = Text::new(THREE_RECORDS, b"");
+    match THREE_ROWS.get(..length) {
+        Some(table) => gives(alloc, text, plain(&[]), sink, (cause, table)),
+        None => false,
+    }
 }
 
-static WEEK_DATE: &str = "id,calendar,date\na,iso,1970-W01-4\n";
+#[test]
+fn an_offer_and_a_flush_fail_at_each_place(rt: HostRuntime) {
+    for output in &OUTPUTS {
+        assert!(rt; takes(rt.alloc(), output), "{output:?}");
+    }
+}
 
-static WEEK_DATE_TABLE: &str = "\
+const WEEK_DATE: &[u8] = b"id,calendar,date\na,iso,1970-W01-4\n";
+
+const WEEK_DATE_TABLE: &[u8] = b"\
 row,id,calendar,date,rd,weekday,refusal
 1,a,iso,1970-W01-4,719163,Thursday,
 ";
 
-/// Whether a text that a fault of reading follows gives so many lines of the table, and the cause of this number, where
-/// the offer of this number fails, or for 0 none.
-fn is_cut_after(
-    alloc: Global,
-    form: Form,
-    text: &str,
-    table: &str,
-    (fail_write, cause): (u32, u8),
-) -> Result<bool, Fail> {
-    let setup = Setup::new(&[], 1, b',', 1, form)?;
-    let mut sink = Sink::new(alloc, 7, ROOM, fail_write, 0, ROOM)?;
-    let end = convert_source(alloc, cut_text(alloc, text)?, &mut sink, &setup);
-    Ok(cause_of(&end) == cause && sink.bytes() == table.as_bytes())
-}
-
-static SEALED: &str = "id,calendar,date,note\na,iso,1970-W01-4,\nEND,1\n";
-
-static SEALED_WRONG: &str = "id,calendar,date,note\na,iso,1970-W01-4,\nEND,2\n";
-
-static SEALED_TABLE: &str = "\
+const SEALED_TABLE: &[u8] = b"\
 row,id,calendar,date,note,rd,weekday,refusal
 1,a,iso,1970-W01-4,,719163,Thursday,
 ";
 
+/// Texts that a fault of reading follows, the number of the offer that fails, or 0 for none, the cause, and the table.
+static CUT: [(Form, &[u8], u32, u8, &[u8]); 4] = [
+    (Form::Plain, WEEK_DATE, 0, 5, WEEK_DATE_TABLE),
+    (Form::Plain, WEEK_DATE, 1, 4, b""),
+    (
+        Form::Sealed,
+        b"id,calendar,date,note\na,iso,1970-W01-4,\nEND,1\n",
+        0,
+        5,
+        SEALED_TABLE,
+    ),
+    (
+        Form::Sealed,
+        b"id,calendar,date,note\na,iso,1970-W01-4,\nEND,2\n",
+        0,
+        5,
+        SEALED_TABLE,
+    ),
+];
+
+/// The text in one piece, and then a fault: the third read, since `csv` asks for the first byte alone.
+fn cut_text(text: &[u8]) -> Text<'_> {
+    Text::cut(text, usize::MAX, 2)
+}
+
+/// Whether the fault of this number comes of a text, and this table.
+fn is_cut(alloc: Global, cut: &(Form, &[u8], u32, u8, &[u8])) -> bool {
+    let (form, text, fail_write, cause, table) = *cut;
+    let setup = Setup::new(&[], 1, b',', 1, form);
+    let sink = Sink::new(alloc, 7, ROOM, fail_write, 0, ROOM);
+    gives(alloc, cut_text(text), setup, sink, (cause, table))
+}
+
 #[test]
-fn a_fault_of_reading_is_reported_but_not_after_one_of_writing(
-    rt: HostRuntime,
-) -> Result<(), Fail> {
-    assert!(rt; is_cut_after(rt.alloc(), Form::Plain, WEEK_DATE, WEEK_DATE_TABLE, (0, 5))?);
-    assert!(rt; is_cut_after(rt.alloc(), Form::Plain, WEEK_DATE, "", (1, 4))?);
-    assert!(rt; is_cut_after(rt.alloc(), Form::Sealed, SEALED, SEALED_TABLE, (0, 5))?);
-    assert!(rt; is_cut_after(rt.alloc(), Form::Sealed, SEALED_WRONG, SEALED_TABLE, (0, 5))?);
-    Ok(())
+fn a_fault_of_reading_is_reported_but_not_after_one_of_writing(rt: HostRuntime) {
+    for cut in &CUT {
+        assert!(rt; is_cut(rt.alloc(), cut), "{:?}, cause {}", cut.1, cut.3);
+    }
 }
 
 /// Whether a reader gives one entry, of number 1, meets a fault, and has failed from then on.
@@ -169,10 +157,21 @@ fn fails_after_one(entries: &mut EntryReader<Chunks>) -> bool {
         && entries.next().err() == Some(EntryFault::Failed)
 }
 
+/// The week date's text in one chunk, and then a fault.
+fn cut_chunks(alloc: Global) -> Option<Chunks> {
+    let chunk = WEEK_DATE.to_vec(alloc).ok()?;
+    Some(Chunks::new(Vec::from_array(alloc, [chunk]).ok()?, 3))
+}
+
 /// Whether the reader of a text that is cut after its first record does so.
-fn a_cut_reader_fails(alloc: Global) -> Result<bool, Fail> {
-    let mut entries = EntryReader::open(alloc, cut_text(alloc, WEEK_DATE)?, &plain(&[])?)?;
-    Ok(fails_after_one(&mut entries))
+fn a_cut_reader_fails(alloc: Global) -> bool {
+    let (Some(chunks), Ok(setup)) = (cut_chunks(alloc), plain(&[])) else {
+        return false;
+    };
+    match EntryReader::open(alloc, chunks, &setup) {
+        Ok(mut entries) => fails_after_one(&mut entries),
+        Err(_) => false,
+    }
 }
 
 /// The fields of the only record in the week date's text.
@@ -191,37 +190,50 @@ fn fails_at(alloc: Global, setup: &Setup, row: &Row, torn: &mut Sink) -> bool {
 }
 
 /// Whether a writer fails at its first row.
-fn fails_at_a_row(alloc: Global) -> Result<bool, Fail> {
-    let setup = plain(&[])?;
-    let entry = Entry::new(1, fields_of(WEEK_FIELDS)?).ok_or("no entry")?;
-    let mut torn = Sink::new(alloc, 7, ROOM, 2, 0, ROOM)?;
-    Ok(
-        fails_at(alloc, &setup, &row_of(entry, &setup), &mut torn)
-            && lines_of_front(torn.bytes(), WEEK_DATE_TABLE) == 1,
-    )
+fn fails_at_a_row(alloc: Global) -> bool {
+    let torn = Sink::new(alloc, 7, ROOM, 2, 0, ROOM);
+    let (Ok(setup), Some(entry), Ok(mut torn)) = (plain(&[]), last_entry(WEEK_FIELDS), torn) else {
+        return false;
+    };
+    fails_at(alloc, &setup, &row_of(entry, &setup), &mut torn)
+        && lines_of_front(torn.bytes(), WEEK_DATE_TABLE) == 1
 }
 
 #[test]
-fn a_reader_and_a_writer_fail_from_a_fault_on(rt: HostRuntime) -> Result<(), Fail> {
-    assert!(rt; a_cut_reader_fails(rt.alloc())? && fails_at_a_row(rt.alloc())?);
-    Ok(())
+fn a_reader_and_a_writer_fail_from_a_fault_on(rt: HostRuntime) {
+    assert!(rt; a_cut_reader_fails(rt.alloc()) && fails_at_a_row(rt.alloc()));
 }
 
-/// Whether the table of one record of the last number, with these fields, ends with this line.
-fn ends_with(
-    alloc: Global,
-    targets: &[Target],
-    fields: [&str; 3],
-    line: &str,
-) -> Result<bool, Fail> {
-    let setup = plain(targets)?;
-    let entry = Entry::new(1_000_000, fields_of(fields)?).ok_or("no entry")?;
-    let row = row_of(entry, &setup);
-    let mut sink = Sink::new(alloc, 7, ROOM, 0, 0, ROOM)?;
-    let mut writer = RowWriter::open(alloc, &mut sink, &setup)?;
-    writer.put(&mut sink, &row)?;
-    writer.end()?;
-    Ok(sink.bytes().ends_with(line.as_bytes()))
+/// Whether a row can be written.
+fn is_put(alloc: Global, setup: &Setup, row: &Row, sink: &mut Sink) -> bool {
+    let Ok(mut writer) = RowWriter::open(alloc, sink, setup) else {
+        return false;
+    };
+    writer.put(sink, row).is_ok() && writer.end().is_ok()
+}
+
+/// Whether a text ends with these parts.
+fn ends_with(text: &[u8], parts: &[&str]) -> bool {
+    let mut rest = text;
+    for part in parts.iter().rev() {
+        let Some(before) = rest.strip_suffix(part.as_bytes()) else {
+            return false;
+        };
+        rest = before;
+    }
+    true
+}
+
+/// Whether the table of one record of the last number, with these fields, ends with these parts.
+fn has_last_line(alloc: Global, targets: &[Target], fields: [&str; 3], parts: &[&str]) -> bool {
+    let (Ok(setup), Some(entry), Ok(mut sink)) = (
+        plain(targets),
+        last_entry(fields),
+        sink_of(alloc),
+    ) else {
+        return false;
+    };
+    is_put(alloc, &setup, &row_of(entry, &setup), &mut sink) && ends_with(sink.bytes(), parts)
 }
 
 const FORTY_QUOTES: &str =
@@ -238,23 +250,43 @@ const LONG_FIELDS: [&str; 3] = [
     "            1945-11-12          ",
 ];
 
-static LONG_ROW: &str =
-    "    gregorian   ,            1945-11-12          ,710347,Monday,1945-11-12,\
+const LONG_ROW: &str = "    gregorian   ,            1945-11-12          ,710347,Monday,1945-11-12,\
 1945-W46-1,1945-10-30,1662-03-03,1938-03-03,2694-07-10,1395-04-05,1364-12-06,\
 5706-09-07,12.16.11.16.9,0154-02-21,1945-11-K3,7 Zac,11 Muluc,0154-02-20,\n";
 
-#[test]
-fn the_longest_fields_and_the_last_number_fit_a_row(rt: HostRuntime) -> Result<(), Fail> {
-    let line = format!(in rt.alloc(); "\n1000000,\"{FORTY_QUOTES}{FORTY_QUOTES}\",{LONG_ROW}")?;
-    assert!(rt; ends_with(rt.alloc(), &Target::ALL, LONG_FIELDS, line.as_str())?);
+/// A field of quotes is twice as long in the table, and two more.
+static LONG_LINES: [(&[Target], [&str; 3], &[&str]); 2] = [
+    (
+        &Target::ALL,
+        LONG_FIELDS,
+        &["\n1000000,\"", FORTY_QUOTES, FORTY_QUOTES, "\",", LONG_ROW],
+    ),
+    (
+        &[],
+        [FORTY_QUOTES, SIXTEEN_QUOTES, THIRTY_TWO_QUOTES],
+        &[
+            "\n1000000,\"",
+            FORTY_QUOTES,
+            FORTY_QUOTES,
+            "\",\"",
+            SIXTEEN_QUOTES,
+            SIXTEEN_QUOTES,
+            "\",\"",
+            THIRTY_TWO_QUOTES,
+            THIRTY_TWO_QUOTES,
+            "\",,,4\n",
+        ],
+    ),
+];
 
-    // A field of quotes is twice as long in the table, and two more.
-    let (id, calendar, date) = (FORTY_QUOTES, SIXTEEN_QUOTES, THIRTY_TWO_QUOTES);
-    let line = format!(in rt.alloc();
-        "\n1000000,\"{id}{id}\",\"{calendar}{calendar}\",\"{date}{date}\",,,4\n"
-    )?;
-    assert!(rt; ends_with(rt.alloc(), &[], [id, calendar, date], line.as_str())?);
-    Ok(())
+#[test]
+fn the_longest_fields_and_the_last_number_fit_a_row(rt: HostRuntime) {
+    for (targets, fields, parts) in &LONG_LINES {
+        assert!(rt;
+            has_last_line(rt.alloc(), targets, *fields, parts),
+            "{fields:?}"
+        );
+    }
 }
 
 /// Whether one line after the other can be added until more than `MOST_WAITING` bytes wait, and none takes more than
@@ -276,40 +308,43 @@ fn adds_lines(writer: &mut RowWriter, row: &Row) -> bool {
     false
 }
 
+/// Whether lines wait in the memory that a writer has, once it was opened.
+fn lines_wait(alloc: Global) -> bool {
+    let (Ok(setup), Some(entry)) = (plain(&Target::ALL), last_entry(LONG_FIELDS)) else {
+        return false;
+    };
+    let row = row_of(entry, &setup);
+    let Ok(mut sink) = sink_of(alloc) else {
+        return true;
+    };
+    match RowWriter::open(alloc, &mut sink, &setup) {
+        Ok(mut writer) => adds_lines(&mut writer, &row),
+        Err(_) => true,
+    }
+}
+
 // It passes whichever allocation is refused: once a writer was opened, lines wait in memory that it has.
 #[test]
-fn lines_that_wait_take_no_memory(rt: HostRuntime) -> Result<(), Fail> {
-    let setup = plain(&Target::ALL)?;
-    let entry = Entry::new(1_000_000, fields_of(LONG_FIELDS)?).ok_or("no entry")?;
-    let row = row_of(entry, &setup);
-    let Ok(mut sink) = Sink::new(rt.alloc(), 7, ROOM, 0, 0, ROOM) else {
-        return Ok(());
-    };
-    if let Ok(mut writer) = RowWriter::open(rt.alloc(), &mut sink, &setup) {
-        assert!(rt; adds_lines(&mut writer, &row));
-    }
-    Ok(())
+fn lines_that_wait_take_no_memory(rt: HostRuntime) {
+    assert!(rt; lines_wait(rt.alloc()));
 }
 
 /// Whether three records are whole, or end where memory runs out and leave a front of their table, in whole lines.
-fn is_front_in_need(alloc: Global, setup: &Setup, sink: &mut Sink) -> bool {
-    let end = convert_source(alloc, THREE_RECORDS.as_bytes(), sink, setup);
+fn is_front_in_need(alloc: Global) -> bool {
+    let Ok(mut sink) = sink_of(alloc) else {
+        return true;
+    };
+    let cause = cause_from(alloc, THREE_RECORDS, &mut sink, plain(&[]));
     let lines = lines_of_front(sink.bytes(), THREE_ROWS);
     !sink.has_failed()
-        && match end {
-            SourceEnd::Whole { .. } => lines == 4,
-            SourceEnd::Broken { cause } => cause.number() == 1 && lines <= 4,
+        && match cause {
+            Some(0) => lines == 4,
+            cause => cause == Some(1) && lines <= 4,
         }
 }
 
 // It passes whichever allocation is refused: then the cause is that memory ran out, and nothing else.
 #[test]
 fn a_source_that_is_refused_memory_leaves_a_front_of_its_table(rt: HostRuntime) {
-    let Ok(setup) = plain(&[]) else {
-        return;
-    };
-    let Ok(mut sink) = Sink::new(rt.alloc(), 7, ROOM, 0, 0, ROOM) else {
-        return;
-    };
-    assert!(rt; is_front_in_need(rt.alloc(), &setup, &mut sink));
+    assert!(rt; is_front_in_need(rt.alloc()));
 }

@@ -1,7 +1,6 @@
 //! Setups, entries, rows, cells and lines that wait.
 
-use super::{GREGORIAN, ISO, JULIAN, ROMAN, fields_of, plain, row_of};
-use arrayvec::ArrayString;
+use super::{GREGORIAN, ISO, JULIAN, ROMAN, fields_of, last_entry, plain, row_of};
 use date_texts::{MAX_CELL, MAX_TARGETS, Refusal, Target};
 use register_records::{
     Body, Cause, Entry, EntryFault, Form, LINE_ROOM, MOST_WAITING, PlainOutput, Row, RowFault,
@@ -9,42 +8,46 @@ use register_records::{
 };
 use std::alloc::Global;
 use std::mem::size_of;
-use std::test::Fail;
 
-/// The targets, ring, delimiter and stripes of setups, and the number of the fault, or 0 where there is none.
-static SETUPS: [(&[Target], usize, u8, usize, u8); 9] = [
+/// Whether a setup has the parts that it was made of.
+fn has_parts(targets: &[Target], ring: usize, delimiter: u8, stripes: usize) -> bool {
+    match Setup::new(targets, ring, delimiter, stripes, Form::Sealed) {
+        Ok(setup) => {
+            setup.targets() == targets
+                && setup.ring() == ring
+                && setup.delimiter() == delimiter
+                && setup.stripes() == stripes
+                && setup.form() == Form::Sealed
+        }
+        Err(_) => false,
+    }
+}
+
+/// Targets, a ring, a delimiter and stripes, and the number of the fault of a setup of these.
+static FAULTS: [(&[Target], usize, u8, usize, u8); 7] = [
     (&[JULIAN, JULIAN], 0, b',', 1, 1),
     (&[], 0, b',', 1, 2),
     (&[], 4097, b'|', 1, 2),
     (&[], 1, b'|', 1, 3),
-    (&[], 4096, b'\t', 1, 0),
     (&[], 1, b'|', 0, 3),
     (&[], 1, b',', 0, 4),
     (&[], 1, b',', 5, 4),
-    (&[], 1, b',', 4, 0),
 ];
 
-/// Whether a setup of these parts has the fault of this number, or for 0 none and these parts.
-fn has_fault(targets: &[Target], ring: usize, delimiter: u8, stripes: usize, fault: u8) -> bool {
+/// Whether a setup of these has its fault.
+fn has_fault(parts: &(&[Target], usize, u8, usize, u8)) -> bool {
+    let (targets, ring, delimiter, stripes, number) = *parts;
     match Setup::new(targets, ring, delimiter, stripes, Form::Plain) {
-        Ok(setup) => {
-            fault == 0
-                && setup.ring() == ring
-                && setup.delimiter() == delimiter
-                && setup.stripes() == stripes
-                && setup.form() == Form::Plain
-        }
-        Err(other) => other.number() == fault,
+        Ok(_) => false,
+        Err(fault) => fault.number() == number,
     }
 }
 
 #[test]
-fn setups_have_their_faults(rt: HostRuntime) {
-    for (targets, ring, delimiter, stripes, fault) in &SETUPS {
-        assert!(rt;
-            has_fault(targets, *ring, *delimiter, *stripes, *fault),
-            "at {fault}"
-        );
+fn setups_have_their_parts_and_faults(rt: HostRuntime) {
+    assert!(rt; has_parts(&[], 4096, b'\t', 1) && has_parts(&[JULIAN], 1, b',', 4));
+    for parts in &FAULTS {
+        assert!(rt; has_fault(parts), "fault {}", parts.4);
     }
 }
 
@@ -65,9 +68,9 @@ fn has_its_parts(row: &Row, setup: &Setup, other: &Setup) -> bool {
 }
 
 /// The row of an entry that was made for another setup, made again for this one.
-fn renewed_row(entry: Entry, other: &Setup, setup: &Setup) -> Row {
-    let mut row = row_of(entry, other);
-    row.renew(&entry, setup);
+fn renewed_row(entry: &Entry, other: &Setup, setup: &Setup) -> Row {
+    let mut row = row_of(*entry, other);
+    row.renew(entry, setup);
     row
 }
 
@@ -82,17 +85,32 @@ const ROW_LIMIT: usize = size_of::<Entry>()
     + (1 + 1)
     + 2 * size_of::<u64>();
 
+/// Whether the rows of this entry have their parts, also where one was made for another setup.
+fn have_their_parts(last: &Entry) -> bool {
+    let (Ok(setup), Ok(other), Ok(third)) = (
+        plain(&[GREGORIAN, JULIAN]),
+        plain(&[JULIAN, GREGORIAN]),
+        plain(&[ISO, JULIAN, ROMAN]),
+    ) else {
+        return false;
+    };
+    let row = row_of(*last, &setup);
+    let renewed = renewed_row(last, &third, &setup);
+    has_its_parts(&row, &setup, &other) && has_its_parts(&renewed, &setup, &other)
+}
+
+/// The same of the last entry.
+fn rows_have_their_parts() -> bool {
+    match last_entry(["", "Julian", "1582-10-05"]) {
+        Some(last) => have_their_parts(&last),
+        None => false,
+    }
+}
+
 #[test]
-fn rows_have_their_parts_and_are_small(rt: HostRuntime) -> Result<(), Fail> {
-    let setup = plain(&[GREGORIAN, JULIAN])?;
-    let other = plain(&[JULIAN, GREGORIAN])?;
-    let last = Entry::new(1_000_000, fields_of(["", "Julian", "1582-10-05"])?).ok_or("no entry")?;
-    let row = row_of(last, &setup);
-    assert!(rt; has_its_parts(&row, &setup, &other));
-    let row = renewed_row(last, &plain(&[ISO, JULIAN, ROMAN])?, &setup);
-    assert!(rt; has_its_parts(&row, &setup, &other));
+fn rows_have_their_parts_and_are_small(rt: HostRuntime) {
+    assert!(rt; rows_have_their_parts());
     assert!(rt; size_of::<Entry>() == 216 && size_of::<Row>() <= ROW_LIMIT);
-    Ok(())
 }
 
 /// The id, the calendar's name and the date of a body, and whether it may hold them.
@@ -110,33 +128,36 @@ static BODIES: [([&str; 3], bool); 4] = [
     (["", "", "012345678901234567890123456789012"], false),
 ];
 
-/// The body of these texts, if it may hold them.
-fn body_of([id, calendar, date]: [&str; 3]) -> Option<Body> {
-    Some(Body::Fields {
-        id: ArrayString::from(id).ok()?,
-        calendar: ArrayString::from(calendar).ok()?,
-        date: ArrayString::from(date).ok()?,
-        note: ArrayString::new(),
-    })
+/// Entries with these numbers and refusals are none.
+static NO_ENTRIES: [(u32, Refusal); 3] = [
+    (0, Refusal::NotUtf8),
+    (1_000_001, Refusal::NotUtf8),
+    (1, Refusal::DateText),
+];
+
+/// How many of these are no entries, up to the first that is one.
+fn count_of_none() -> usize {
+    let mut count = 0usize;
+    for (number, refusal) in &NO_ENTRIES {
+        if Entry::new(*number, Body::Refused(*refusal)).is_some() {
+            break;
+        }
+        count = count.saturating_add(1);
+    }
+    count
 }
 
 #[test]
 fn entries_have_their_limits_and_faults_their_causes(rt: HostRuntime) {
     for (texts, fits) in &BODIES {
-        assert!(rt; body_of(*texts).is_some() == *fits, "at {:?}", texts[2]);
+        assert!(rt; fields_of(*texts).is_some() == *fits, "at {:?}", texts[2]);
     }
-    for (number, refusal) in [
-        (0, Refusal::NotUtf8),
-        (1_000_001, Refusal::NotUtf8),
-        (1, Refusal::DateText),
-    ] {
-        assert!(rt;
-            Entry::new(number, Body::Refused(refusal)).is_none(),
-            "at {number}"
-        );
-    }
-    assert!(rt; Cause::from(RowFault::WriteFault) == Cause::SinkFault);
-    assert!(rt; Cause::from(EntryFault::Failed) == Cause::Unconfirmed);
+    let none = count_of_none();
+    assert!(rt; none == NO_ENTRIES.len(), "{none} are no entries");
+    assert!(rt;
+        Cause::from(RowFault::WriteFault) == Cause::SinkFault
+            && Cause::from(EntryFault::Failed) == Cause::Unconfirmed
+    );
 }
 
 static REFUSED_LINE: &str = "1,,,,,,3\n";
@@ -181,18 +202,19 @@ fn waits_and_goes(
 }
 
 /// Whether a refused entry becomes four lines, of which two wait together.
-fn makes_four_lines(alloc: Global) -> Result<bool, Fail> {
-    let setup = plain(&[])?;
-    let refused = Entry::new(1, Body::Refused(Refusal::NotUtf8)).ok_or("no entry")?;
+fn makes_four_lines(alloc: Global) -> bool {
+    let (Ok(setup), Some(refused)) = (plain(&[]), Entry::new(1, Body::Refused(Refusal::NotUtf8)))
+    else {
+        return false;
+    };
     let row = row_of(refused, &setup);
     let mut output = PlainOutput::new(Vec::new(alloc), 1);
     let has_waited = waits_and_goes(alloc, &mut output, &row, &setup);
-    Ok(has_waited && output.into_inner().as_slice() == FOUR_LINES.as_bytes())
+    has_waited && output.into_inner().as_slice() == FOUR_LINES.as_bytes()
 }
 
 #[test]
-fn lines_wait_until_they_are_sent(rt: HostRuntime) -> Result<(), Fail> {
-    assert!(rt; makes_four_lines(rt.alloc())?);
+fn lines_wait_until_they_are_sent(rt: HostRuntime) {
+    assert!(rt; makes_four_lines(rt.alloc()));
     assert!(rt; MOST_WAITING == 16_384 && LINE_ROOM == 1024);
-    Ok(())
 }

@@ -1,11 +1,10 @@
 //! Streams of the standard library that are interrupted, take a part or fail, and the longest registers.
 
-use super::{THREE_RECORDS, THREE_ROWS, cause_of, lines_of_front, plain};
-use register_records::{Form, Output, PlainOutput, Setup, SourceEnd, convert_source};
+use super::{THREE_RECORDS, THREE_ROWS, cause_from, lines_of_front, plain};
+use register_records::{Form, Output, PlainOutput, Setup};
 use std::alloc::Global;
 use std::io;
 use std::io::{ErrorKind, Read, Write};
-use std::test::Fail;
 
 /// Gives and takes a byte at each fourth call, and is interrupted at the others.
 #[derive(Drop)]
@@ -65,21 +64,25 @@ impl Write for Nervous<'_> {
 }
 
 /// A stream that gives this text, and has taken nothing.
-fn stream_of(alloc: Global, text: &str) -> Nervous<'_> {
+fn stream_of(alloc: Global, text: &[u8]) -> Nervous<'_> {
     Nervous {
-        rest: text.as_bytes(),
+        rest: text,
         bytes: Vec::new(alloc),
         interruptions: 3,
     }
 }
 
+/// Whether three records become their table by calls that are interrupted.
+fn are_made_again(alloc: Global) -> bool {
+    let mut output = PlainOutput::new(stream_of(alloc, b""), 7);
+    let reader = stream_of(alloc, THREE_RECORDS);
+    let cause = cause_from(alloc, reader, &mut output, plain(&[]));
+    cause == Some(0) && output.into_inner().bytes.as_slice() == THREE_ROWS
+}
+
 #[test]
-fn interrupted_calls_are_made_again(rt: HostRuntime) -> Result<(), Fail> {
-    let mut output = PlainOutput::new(stream_of(rt.alloc(), ""), 7);
-    let reader = stream_of(rt.alloc(), THREE_RECORDS);
-    let end = convert_source(rt.alloc(), reader, &mut output, &plain(&[])?);
-    assert!(rt; end.is_whole() && output.into_inner().bytes.as_slice() == THREE_ROWS.as_bytes());
-    Ok(())
+fn interrupted_calls_are_made_again(rt: HostRuntime) {
+    assert!(rt; are_made_again(rt.alloc()));
 }
 
 /// Counts the calls and the flushes; the call of number `bad_call`, from 0, is a fault.
@@ -108,7 +111,7 @@ impl Write for Paper {
 }
 
 /// Whether each call before the bad one wrote a line and was followed by a flush, and the output kept its mark.
-fn stops_at(alloc: Global, setup: &Setup, bad_call: usize) -> bool {
+fn stops_at(alloc: Global, bad_call: usize) -> bool {
     let paper = Paper {
         text: Vec::new(alloc),
         bad_call,
@@ -116,23 +119,20 @@ fn stops_at(alloc: Global, setup: &Setup, bad_call: usize) -> bool {
         flushes: 0,
     };
     let mut output = PlainOutput::new(paper, 7);
-    let end = convert_source(alloc, THREE_RECORDS.as_bytes(), &mut output, setup);
+    let cause = cause_from(alloc, THREE_RECORDS, &mut output, plain(&[]));
     let mark = output.mark();
     let paper = output.into_inner();
-    cause_of(&end) == if bad_call == 4 { 0 } else { 4 }
+    cause == Some(if bad_call == 4 { 0 } else { 4 })
         && mark == 7
-        && paper.calls == bad_call
-        && paper.flushes == bad_call
+        && (paper.calls, paper.flushes) == (bad_call, bad_call)
         && lines_of_front(paper.text.as_slice(), THREE_ROWS) == bad_call
 }
 
 #[test]
-fn each_row_is_one_write_and_a_flush(rt: HostRuntime) -> Result<(), Fail> {
-    let setup = plain(&[])?;
+fn each_row_is_one_write_and_a_flush(rt: HostRuntime) {
     for bad_call in 0..5 {
-        assert!(rt; stops_at(rt.alloc(), &setup, bad_call), "at {bad_call}");
+        assert!(rt; stops_at(rt.alloc(), bad_call), "at {bad_call}");
     }
-    Ok(())
 }
 
 /// Gives a header, so many times a record, and then the rest.
@@ -177,26 +177,27 @@ impl Write for Count {
 }
 
 /// Whether so many entries with this seal give 1,000,000 rows, and the cause of this number, or for 0 none.
-fn gives_a_million(alloc: Global, entries: u32, seal: &str, cause: u8) -> Result<bool, Fail> {
+fn gives_a_million(alloc: Global, entries: u32, seal: &'static [u8], cause: u8) -> bool {
     let reader = Repeated {
         at: b"id,calendar,date,note\n",
         record: b"x,gregorian,1970-01-01,\n",
         more: entries,
-        last: seal.as_bytes(),
+        last: seal,
     };
-    let setup = Setup::new(&[], 1, b',', 1, Form::Sealed)?;
+    let setup = Setup::new(&[], 1, b',', 1, Form::Sealed);
     let mut output = PlainOutput::new(Count { bytes: 0 }, 1);
-    let end = convert_source(alloc, reader, &mut output, &setup);
-    let has_all_rows = match end {
-        SourceEnd::Whole { rows, .. } => rows == 1_000_000,
-        SourceEnd::Broken { .. } => true,
-    };
-    Ok(has_all_rows && cause_of(&end) == cause && output.into_inner().bytes == 47_888_941)
+    let found = cause_from(alloc, reader, &mut output, setup);
+    found == Some(cause) && output.into_inner().bytes == 47_888_941
 }
 
 #[test]
-fn a_million_entries_are_sealed_and_one_more_is_too_many(rt: HostRuntime) -> Result<(), Fail> {
-    assert!(rt; gives_a_million(rt.alloc(), 1_000_000, "END,1000000\n", 0)?);
-    assert!(rt; gives_a_million(rt.alloc(), 1_000_001, "END,1000001\n", 7)?);
-    Ok(())
+fn a_million_entries_are_sealed_and_one_more_is_too_many(rt: HostRuntime) {
+    assert!(rt;
+        gives_a_million(rt.alloc(), 1_000_000, b"END,1000000\n", 0),
+        "a million"
+    );
+    assert!(rt;
+        gives_a_million(rt.alloc(), 1_000_001, b"END,1000001\n", 7),
+        "one more"
+    );
 }

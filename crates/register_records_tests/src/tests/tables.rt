@@ -1,12 +1,17 @@
 //! Texts and the tables that they become.
 
 use super::{
-    FRENCH, GREGORIAN, ISLAMIC, ISO, JULIAN, LONGCOUNT, REPUBLICAN, ROMAN, cause_of, converted,
+    FRENCH, GREGORIAN, ISLAMIC, ISO, JULIAN, LONGCOUNT, REPUBLICAN, ROMAN, Text, cause_from, end_of,
 };
 use date_texts::Target;
+use register_records::faults::Sink;
 use register_records::{Form, Note, Setup, SourceEnd};
-use std::alloc::{AllocError, Global};
-use std::test::Fail;
+use std::alloc::Global;
+use std::io;
+use std::io::Read;
+
+/// Room for each table.
+const ROOM: usize = 4096;
 
 /// How a text is read, its lines, and the numbers and refusals of the rows in its journal. After a bar a line has its
 /// line of the table, where there is one.
@@ -234,81 +239,130 @@ END,5
     },
 ];
 
-/// Adds a text, in which the substitute U+001A stands for the byte FF, which is nowhere in UTF-8.
-fn push_text(bytes: &mut Vec<u8>, text: &str) -> Result<(), AllocError> {
-    for &byte in text.as_bytes() {
-        bytes.push(if byte == 0x1A { 0xFF } else { byte })?;
-    }
-    Ok(())
+/// More lines than a case has.
+const MOST_LINES: u32 = 20;
+
+/// A reader of the records of these lines, of as many in each read as there is room for.
+#[derive(Drop)]
+struct Records {
+    lines: Option<&'static str>,
+    record: Text<'static>,
 }
 
-/// Adds a line.
-fn push_line(bytes: &mut Vec<u8>, line: &str) -> Result<(), AllocError> {
-    push_text(bytes, line)?;
-    bytes.push(b'\n')?;
-    Ok(())
-}
-
-/// The text and the table of these lines.
-fn sides(alloc: Global, lines: &str) -> Result<(Vec<u8>, Vec<u8>), AllocError> {
-    let mut text = Vec::new(alloc);
-    let mut table = Vec::new(alloc);
-    for line in lines.split('\n') {
-        match line.split_once('|') {
-            Some((record, row)) => {
-                push_line(&mut text, record)?;
-                push_line(&mut table, row)?;
-            }
-            None => push_line(&mut text, line)?,
+impl Records {
+    fn new(lines: &'static str) -> Records {
+        Records {
+            lines: Some(lines),
+            record: Text::new(b"", b""),
         }
     }
-    Ok((text, table))
-}
 
-/// The numbers and the refusals of the rows in a journal.
-fn notes_of(alloc: Global, journal: &[Note]) -> Result<String, AllocError> {
-    let mut text = String::new(alloc);
-    for note in journal {
-        let refusal = note.refusal.number();
-        text.push_str(format!(in alloc; "{}:{refusal} ", note.number)?.as_str())?;
+    /// Goes on to the next line, if there is one.
+    fn advance(&mut self) {
+        let Some(lines) = self.lines else {
+            return;
+        };
+        let (line, more) = match lines.split_once('\n') {
+            Some((line, more)) => (line, Some(more)),
+            None => (lines, None),
+        };
+        let (record, _) = line.split_once('|').unwrap_or((line, ""));
+        self.lines = more;
+        self.record = Text::new(record.as_bytes(), b"\n");
     }
-    Ok(text)
 }
 
-/// Whether a source is whole with so many rows, and has these numbers and refusals of rows in its journal.
-fn is_whole_with(alloc: Global, end: &SourceEnd, count: usize, notes: &str) -> bool {
+impl Read for Records {
+    fn read(&mut self, buf: &mut [u8]) -> io::Result<usize> {
+        let mut count = 0usize;
+        for _ in 0..MOST_LINES {
+            if self.record.is_given() {
+                self.advance();
+            }
+            let Some(room) = buf.get_mut(count..) else {
+                break;
+            };
+            count = count.saturating_add(self.record.read(room)?);
+        }
+        Ok(count.min(buf.len()))
+    }
+}
+
+/// How many rows a table has, if it is that of these lines.
+fn rows_of(table: &[u8], lines: &str) -> Option<usize> {
+    let mut rest = table;
+    let mut rows = 0usize;
+    for line in lines.split('\n') {
+        if let Some((_, row)) = line.split_once('|') {
+            rest = rest.strip_prefix(row.as_bytes())?.strip_prefix(b"\n")?;
+            rows = rows.saturating_add(1);
+        }
+    }
+    if rest.is_empty() { Some(rows) } else { None }
+}
+
+/// Whether a note is this one: the number and the refusal of a row.
+fn is_note(note: &Note, text: &str) -> bool {
+    match text.split_once(':') {
+        Some((number, refusal)) => {
+            number.parse() == Ok(note.number) && refusal.parse() == Ok(note.refusal.number())
+        }
+        None => false,
+    }
+}
+
+/// Whether a journal has these notes.
+fn has_notes(journal: &[Note], notes: &str) -> bool {
+    let mut rest = notes;
+    for note in journal {
+        let Some((text, more)) = rest.split_once(' ') else {
+            return false;
+        };
+        if !is_note(note, text) {
+            return false;
+        }
+        rest = more;
+    }
+    rest.is_empty()
+}
+
+/// Whether a source is whole with so many rows below the heading, and has these notes in its journal.
+fn is_whole_with(end: &SourceEnd, lines: usize, notes: &str) -> bool {
     match end {
         SourceEnd::Whole {
             rows,
             refused,
             journal,
         } => {
-            *rows as usize == count
+            lines.checked_sub(1) == Some(*rows as usize)
                 && *refused as usize == journal.len()
-                && notes_of(alloc, journal.as_slice()).is_ok_and(|found| found.as_str() == notes)
+                && has_notes(journal.as_slice(), notes)
         }
         SourceEnd::Broken { .. } => false,
     }
 }
 
 /// Whether the text becomes the table, and the journal has these notes.
-fn is_right(alloc: Global, case: &Case) -> Result<bool, Fail> {
-    let setup = Setup::new(case.targets, 16, case.delimiter, 1, case.form)?;
-    let (text, table) = sides(alloc, case.lines)?;
-    let (output, end) = converted(alloc, text.as_slice(), &setup);
-    let rows = table.iter().filter(|byte| **byte == b'\n').count();
-    Ok(
-        output.as_slice() == table.as_slice()
-            && is_whole_with(alloc, &end, rows.saturating_sub(1), case.notes),
-    )
+fn is_right(alloc: Global, case: &Case) -> bool {
+    let Ok(mut sink) = Sink::new(alloc, 7, ROOM, 0, 0, ROOM) else {
+        return false;
+    };
+    let setup = Setup::new(case.targets, 16, case.delimiter, 1, case.form);
+    let reader = Records::new(case.lines);
+    let Some(end) = end_of(alloc, reader, &mut sink, setup) else {
+        return false;
+    };
+    match rows_of(sink.bytes(), case.lines) {
+        Some(rows) => is_whole_with(&end, rows, case.notes),
+        None => false,
+    }
 }
 
 #[test]
-fn texts_become_their_tables(rt: HostRuntime) -> Result<(), Fail> {
+fn texts_become_their_tables(rt: HostRuntime) {
     for case in &CASES {
-        assert!(rt; is_right(rt.alloc(), case)?, "at {:?}", case.lines);
+        assert!(rt; is_right(rt.alloc(), case), "at {:?}", case.lines);
     }
-    Ok(())
 }
 
 /// Texts after bars, each behind the number of its cause, or 0, and a colon.
@@ -356,31 +410,26 @@ row,id,calendar,date,note,rd,weekday,gregorian,refusal
     },
 ];
 
-/// A text behind its front.
-fn text_of(alloc: Global, front: &str, rest: &str) -> Result<Vec<u8>, AllocError> {
-    let mut text = Vec::new(alloc);
-    push_text(&mut text, front)?;
-    push_text(&mut text, rest)?;
-    Ok(text)
-}
-
 /// Whether a text behind its front ends as the digit before its colon says.
-fn ends_well(alloc: Global, ends: &Ends, text: &str) -> Result<bool, Fail> {
-    let (wanted, rest) = text.split_once(':').ok_or("a cause and a text")?;
-    let setup = Setup::new(&[GREGORIAN], 16, b',', 1, ends.form)?;
-    let text = text_of(alloc, ends.front, rest)?;
-    let (output, end) = converted(alloc, text.as_slice(), &setup);
+fn ends_well(alloc: Global, ends: &Ends, text: &str) -> bool {
+    let (Some((wanted, rest)), Ok(mut sink)) = (
+        text.split_once(':'),
+        Sink::new(alloc, 7, ROOM, 0, 0, ROOM),
+    ) else {
+        return false;
+    };
+    let setup = Setup::new(&[GREGORIAN], 16, b',', 1, ends.form);
+    let reader = Text::new(ends.front.as_bytes(), rest.as_bytes());
     let table = if wanted == "6" { "" } else { ends.table };
-    let digit = cause_of(&end).saturating_add(b'0');
-    Ok(wanted.as_bytes() == [digit].as_slice() && output.as_slice() == table.as_bytes())
+    let cause = cause_from(alloc, reader, &mut sink, setup);
+    cause.is_some() && wanted.parse().ok() == cause && sink.bytes() == table.as_bytes()
 }
 
 #[test]
-fn texts_end_whole_or_with_their_causes(rt: HostRuntime) -> Result<(), Fail> {
+fn texts_end_whole_or_with_their_causes(rt: HostRuntime) {
     for ends in &ENDS {
         for text in ends.texts.split('|') {
-            assert!(rt; ends_well(rt.alloc(), ends, text)?, "at {text:?}");
+            assert!(rt; ends_well(rt.alloc(), ends, text), "at {text:?}");
         }
     }
-    Ok(())
 }

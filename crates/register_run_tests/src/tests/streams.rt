@@ -16,12 +16,14 @@ pub enum ReadFault {
     Interrupted,
 }
 
-/// A reader of a text: a front, and behind it the same lines so many times, each by a read of its own or by several.
+/// A reader of a text: a front, and behind it the same lines so many times. Each of these begins with a read of its own,
+/// but where they are joined.
 #[derive(Drop)]
 pub struct Text<'a> {
     rest: &'a [u8],
     more: &'a [u8],
     left: u32,
+    is_joined: bool,
     // The most bytes of a read.
     most: usize,
     fault: ReadFault,
@@ -34,6 +36,7 @@ impl<'a> Text<'a> {
             rest: front,
             more,
             left,
+            is_joined: false,
             most: usize::MAX,
             fault: ReadFault::Nothing,
             reads: 0,
@@ -46,6 +49,22 @@ impl<'a> Text<'a> {
             most,
             fault,
             ..self
+        }
+    }
+
+    /// The same where one read may give the front and what is behind it.
+    pub fn joined(self) -> Text<'a> {
+        Text {
+            is_joined: true,
+            ..self
+        }
+    }
+
+    /// Begins what is next, where all that was begun was given.
+    fn begin_next(&mut self) {
+        if self.rest.is_empty() && self.left > 0 {
+            self.rest = self.more;
+            self.left = self.left.saturating_sub(1);
         }
     }
 
@@ -73,12 +92,15 @@ impl Read for Text<'_> {
         if let Some(kind) = self.fault_of_read() {
             return Err(io::Error::from(kind));
         }
-        if self.rest.is_empty() && self.left > 0 {
-            self.rest = self.more;
-            self.left = self.left.saturating_sub(1);
-        }
+        self.begin_next();
         let most = buf.len().min(self.most);
-        self.rest.read(&mut buf[..most])
+        let count = self.rest.read(&mut buf[..most])?;
+        if !self.is_joined {
+            return Ok(count);
+        }
+        self.begin_next();
+        let more = self.rest.read(&mut buf[count..most])?;
+        Ok(count + more)
     }
 }
 

@@ -123,7 +123,7 @@ fn is_met(case: &Case<'_>, end: &SourceEnd, sink: &Sink) -> bool {
 /// The reader of a text, with at most so many bytes by each read, and this fault.
 fn reader_of<'a>(case: &Case<'a>, most: usize, fault: ReadFault) -> Text<'a> {
     let (front, rest, ..) = *case;
-    Text::new(front, rest, 1).read_by(most, fault)
+    Text::new(front, rest, 1).read_by(most, fault).joined()
 }
 
 /// Whether one thread ends a text so.
@@ -242,6 +242,11 @@ static SEALED: [Case<'static>; 22] = [
 /// What follows a seal has to be seen, so a register that cannot be read to its end is not whole.
 static CUT_OFF: [Case<'static>; 1] = [(ENTRIES, b"END,2\n", 5, ROWS, b"")];
 
+/// The setup of registers in this form.
+fn setup_of(form: Form, ring: usize, stripes: usize) -> Result<Setup, SetupFault> {
+    Setup::new(&[GREGORIAN], ring, b',', stripes, form)
+}
+
 #[test]
 fn registers_end_whole_or_with_their_causes(rt: HostRuntime) {
     for (form, ring, stripes, fault, cases) in [
@@ -250,7 +255,7 @@ fn registers_end_whole_or_with_their_causes(rt: HostRuntime) {
         (Form::Sealed, 1, 4, ReadFault::Nothing, SEALED.as_slice()),
         (Form::Sealed, 1, 1, ReadFault::Behind, CUT_OFF.as_slice()),
     ] {
-        let setup = Setup::new(&[GREGORIAN], ring, b',', stripes, form);
+        let setup = setup_of(form, ring, stripes);
         let right = right_in_run(&rt, rt.alloc(), setup, cases, (ROOM, fault));
         assert!(rt;
             right == cases.len(),
@@ -362,7 +367,7 @@ fn right_with_open_quote(rt: &impl Host, alloc: Global, most: usize) -> [usize; 
     let Ok(mut sink) = Sink::new(alloc, 7, ROOM, 0, 0, ROOM) else {
         return [0; 3];
     };
-    let text = Text::new(HEADER, OPEN_QUOTE, 1);
+    let text = Text::new(HEADER, OPEN_QUOTE, 1).joined();
     let Some(end) = end_on_one_thread(alloc, text, &mut sink) else {
         return [0; 3];
     };

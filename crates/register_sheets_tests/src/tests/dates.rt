@@ -55,7 +55,7 @@ const DAY_FIRST_HEBREW_5000: Choice = Choice {
     charters: false,
 };
 
-static CASES: [Case; 39] = [
+const CASES: [Case; 39] = [
     Case {
         delimiter: b';',
         above: 0,

@@ -152,7 +152,7 @@ pub(super) const DAY_FIRST: Choice = Choice {
     charters: false,
 };
 
-static CASES: [Case; 22] = [
+const CASES: [Case; 22] = [
     Case {
         delimiter: b';',
         above: 0,

@@ -4,13 +4,14 @@ use Rattle.register_records.proofs.Common.{AllZip, range_with_len, ℤ, Result, 
 use Rattle.register_records.proofs.Common.{day_number_of_date, IsNamed, Calendar, Target, Date, Refusal, Numbered}
 use Rattle.register_records.proofs.Common.{record_limit, AreCells, IsOutcome, IsRowOf, Says, TableRow, accepted}
 use Rattle.register_records.proofs.Common.{no_date_text, no_such_date, out_of_range, refused, unknown_calendar, Fields}
-use Rattle.register_records.proofs.Common.{Texts, Form}
+use Rattle.register_records.proofs.Common.{Texts, Form, table_text}
 use Rattle.std.specs.Prelude.{nat_lt, if◌then◌else◌}
 use Rattle.date_texts.specs.Cells.{IsCell}
 use Rattle.date_texts.specs.declared.refusal.Refusal.TheVariants as refusal
 use Rattle.date_texts.proofs.DateDecisionLemmas.{has_cell, is_date_of_calendar, names_calendar, says_date}
 use Rattle.date_texts.proofs.DecisionLemmas.{is_between}
 use Rattle.register_records.specs.Entries.{entries_from}
+use Rattle.register_records.specs.Sources.{IsTableOf}
 use Rattle.register_records.specs.Laws.{EveryTextHasTable}
 
 -- the outcome of a body
@@ -76,19 +77,9 @@ numbered form k (r ∷ rest) = numbered_if (nat_lt k record_limit) (k + 1) _ _ r
 pub every_text_has_table : EveryTextHasTable
 every_text_has_table reading layout text entries is =
     let (after, has, all, are) = is in
-    let rows = all_beside (IsRowOf layout.targets) (has_row layout.targets) entries in (
-      _,
-      _,
-      _,
-      _,
-      (
-        entries,
-        rows.0,
-        record {
-          numbered = subst (λ es. AreInOrder 1 es) (sym are) (numbered reading.form 0 _);
-          converted = rows.1;
-          written = refl;
-        },
-        (is, refl, refl, refl),
-      ),
-    )
+    let rows = all_beside (IsRowOf layout.targets) (has_row layout.targets) entries in
+    let table : IsTableOf layout entries rows.0 (table_text layout rows.0) = record {
+      numbered = subst (λ es. AreInOrder 1 es) (sym are) (numbered reading.form 0 _);
+      converted = rows.1;
+      written = refl;
+    } in (_, _, _, _, (entries, rows.0, table, (is, refl, refl, refl)))

@@ -112,14 +112,9 @@ module _ (reading : Reading) where
   module _ {text : Option (List ℕ)} {state : ReaderState} {left : Option (List Fields)} {given : List Numbered}
       (s : HasRead reading text state left given) where
     first_given : HasFirstEntries reading text given
-    first_given = (
-      entries_from form (length given) (entry_records form s.rest),
-      (
-        s.past ++ s.rest,
-        s.accepted,
-        sym (ap (entries_from form 0) (s.no_seal s.rest) ∙ s.followed (entry_records form s.rest)),
-      ),
-    )
+    first_given =
+        let all = sym (ap (entries_from form 0) (s.no_seal s.rest) ∙ s.followed (entry_records form s.rest)) in
+        (entries_from form (length given) (entry_records form s.rest), (s.past ++ s.rest, s.accepted, all))
 
     past_records : (rest : List Fields) → entry_records form rest ≡ [] → entry_records form (s.past ++ rest) ≡ s.past
     past_records rest e = s.no_seal rest ∙ rw e (append-nil s.past)

@@ -94,11 +94,8 @@ pub grown_more : (d : ℕ) (more : List (List ℕ)) (field old bytes new : List 
     → Grown d (more ++ field ∷ []) old new
 grown_more d more field old bytes new h before is =
     let last = grown d field bytes new h before.plain is in
-    record {
-      fields = last.fields ∙ ap (λ (t : List (List ℕ)). t ++ field ∷ []) before.fields
-          ∙ append_assoc (fields_behind d old) more (field ∷ []);
-      plain = last.plain;
-    }
+    let fields = last.fields ∙ ap (λ (t : List (List ℕ)). t ++ field ∷ []) before.fields
+    ∙ append_assoc (fields_behind d old) more (field ∷ []) in record { fields = fields; plain = last.plain }
 
 -- a text that needs no quotes, with so many bytes at most
 pub record Fits (d limit : ℕ) (text : List ℕ) : Type 0 where

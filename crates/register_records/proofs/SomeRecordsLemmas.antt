@@ -93,15 +93,10 @@ entries_made form k (entry ∷ entries) numbered fit =
 
 some_records : (reading : Reading) (entries : List Numbered) → AreNumberedFrom 1 entries → AreFit entries
     → HasFirstEntries reading None (map (placed_entry reading.form) entries)
-some_records reading entries numbered fit = (
-  [],
-  (
-    records_of reading.form entries,
-    tt,
-    append-nil _ ∙ sym (ap (entries_from reading.form 0) (all_records reading.form entries)
-        ∙ entries_made reading.form 0 entries numbered fit),
-  ),
-)
+some_records reading entries numbered fit =
+    let made = ap (entries_from reading.form 0) (all_records reading.form entries)
+    ∙ entries_made reading.form 0 entries numbered fit in
+    ([], (records_of reading.form entries, tt, append-nil _ ∙ sym made))
 
 -- the rows of those entries
 of_form : (form : Form) (body : Result Texts Refusal) (outcome : Result ℤ Refusal) → IsOutcome body outcome
@@ -112,15 +107,9 @@ of_form form body outcome is = is
 rows_placed : (form : Form) (targets : List Target) (entries : List Numbered) (rows : List TableRow)
     → AllZip (IsRowOf targets) entries rows
     → AllZip (IsRowOf targets) (map (placed_entry form) entries) (map (placed_row form) rows)
-rows_placed form targets (entry ∷ entries) (row ∷ rows) are = (
-  record {
-    number = are.0.number;
-    body = ap (placed form) are.0.body;
-    outcome = of_form form entry.body row.outcome are.0.outcome;
-    cells = are.0.cells;
-  },
-  rows_placed form targets entries rows are.1,
-)
+rows_placed form targets (entry ∷ entries) (row ∷ rows) are =
+    let body = ap (placed form) are.0.body in
+    search (rules, body, of_form, rows_placed form targets entries rows are.1)
 rows_placed form targets entries rows are = search (rules, placed, of_form)
 
 -- and their fields and lines

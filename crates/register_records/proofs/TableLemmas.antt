@@ -132,10 +132,8 @@ rows_are targets [] all = ∣ tt ∣₁
 rows_are targets (row ∷ rest) all =
     ∥∥₁_elim row.is_row ∥∥₁_prop (λ is.
     ∥∥₁_map (rows_are targets rest (λ r c. all r (Contains-append_right (row ∷ []) rest r c)))
-    (λ more. (
-      subst (λ ts. IsRowOf ts (entry_seen row.entry) (row_seen row)) (all row (0, omega arith, refl)) is,
-      more,
-    )))
+    (λ more.
+    (subst (λ ts. IsRowOf ts (entry_seen row.entry) (row_seen row)) (all row (0, omega arith, refl)) is, more)))
 
 -- entries that are numbered in order have these numbers
 numbers_are : (k : ℕ) (entries : List Numbered) → AreNumberedFrom k entries
@@ -257,16 +255,9 @@ module _ {W : Type 0} (o : outputs.Ghosts W) (table : Table W) (output : W) (row
     pub whole_so : (count : ℕ) → count ≡ length rows → is_headed table ≡ true
         → HasEntries reading text (entries_seen rows)
         → Gained (IsWholeTable reading layout text count (length table.journal.items) table.journal.items)
-    whole_so count counted some accepted = (
-      bytes,
-      (
-        entries_seen rows,
-        rows_seen rows,
-        table_is are,
-        (accepted, counted ∙ sym (length-map rows row_seen), refl, holds.noted),
-      ),
-      (written good some).0,
-    )
+    whole_so count counted some accepted =
+        let counts = counted ∙ sym (length-map rows row_seen) in let wrote = (written good some).0 in
+        (bytes, (entries_seen rows, rows_seen rows, table_is are, (accepted, counts, refl, holds.noted)), wrote)
 
     pub all_so : is_headed table ≡ true → HasAllEntries reading text (entries_seen rows)
         → Gained (IsTableOfAll reading layout text)

@@ -9,7 +9,7 @@ use Rattle.register_records.specs.declared.reading.EntryFault.{EntryFault}
 use Rattle.register_records.specs.declared.reading.EntryFault.TheVariants as fault
 use Rattle.register_records.specs.declared.setups.Form.TheVariants.{Sealed}
 use Rattle.register_records.specs.declared.ends.Cause.TheVariants as cause
-use Rattle.register_run.specs.JoinedThreads.{IsOfThreads, MaySend}
+use Rattle.register_run.specs.JoinedThreads.{IsOfThreads, MaySend, Sends}
 
 -- the faults of reading that these causes are
 fault_of_cause : (f : EntryFault) (c : Cause) → c ≡ entry_fault_cause f
@@ -37,12 +37,10 @@ module _ (text : Option (List ℕ)) (reading : Reading) where
       → (f ≡ fault.NotSealed → ⊥) → (sent : Sent) → (sent.count ≡ 0) × (sent.outcome ≡ Err c)
       → (senders : List (Sender Entry)) → ((w : World) → AreDealt w 0 [] senders)
       → MaySend text reading (map sender_lane senders) sent senders
-  sends_none f c is bad many unsealed sent why senders deals = record {
-    lanes = refl;
-    not_of_output = rw why.1 (not_others f c is).0;
-    started = rw why.1 (not_others f c is).1;
-    sends = ∣ ([], given_none f c is bad many unsealed sent why, λ w _. deals w) ∣₁;
-  }
+  sends_none f c is bad many unsealed sent why senders deals =
+      let others = not_others f c is in
+      let sends : ∥ Sends text reading sent senders ∥₁
+      = ∣ ([], given_none f c is bad many unsealed sent why, λ w _. deals w) ∣₁ in search (rules, others, sends)
 
   stopped_so : (f : EntryFault) (c : Cause) (given : List Numbered) → c ≡ entry_fault_cause f
       → (f ≡ fault.BadHeader → ⊥)
@@ -98,36 +96,27 @@ module _ (text text' : Option (List ℕ)) (d d' : Reading) (same : text' ≡ tex
 
   pub sends_all : ∥ HasEntries d' text' given ∥₁ → (sent : Sent) (n : ℕ) → n ≡ length old → sent.count ≡ n
       → sent.outcome ≡ Ok n → MaySend text d given_lanes sent senders
-  sends_all all sent n count counted is = record {
-    lanes = lanes;
-    not_of_output = rw is tt;
-    started = rw is tt;
-    sends =
-        ∥∥₁_map (given_all text d old numbered first' (rw (same, by, kept) at all) sent n count counted is)
-        (λ is'. (old, is', deals));
-  }
+  sends_all all sent n count counted is =
+      let sends : ∥ Sends text d sent senders ∥₁
+      = ∥∥₁_map (given_all text d old numbered first' (rw (same, by, kept) at all) sent n count counted is)
+      (λ is'. (old, is', deals)) in search (rules, sends)
 
   pub sends_stopped : (f : EntryFault) (c : Cause) → c ≡ entry_fault_cause f → (f ≡ fault.BadHeader → ⊥)
       → (f ≡ fault.TooManyRecords → (length old ≡ record_limit) × ∥ IfSome text' (λ t. HasTooMany d' t) ∥₁)
       → (f ≡ fault.NotSealed → (d'.form ≡ Sealed) × ∥ IfSome text' (λ t. IsNotSealed d' t) ∥₁)
       → (f ≡ fault.NotSealed → ∥ HasAllEntries d' text' given ∥₁) → (sent : Sent)
       → sent.count ≡ length old → sent.outcome ≡ Err c → MaySend text d given_lanes sent senders
-  sends_stopped f c is bad many unsealed above sent counted why = record {
-    lanes = lanes;
-    not_of_output = rw why (not_others f c is).0;
-    started = rw why (not_others f c is).1;
-    sends =
-        ∥∥₁_map (given_stopped text d f c old is bad (rw (same, by) at many) (rw (same, by) at unsealed)
-        (rw (same, by, kept) at above) numbered first' sent counted why) (λ is'. (old, is', deals));
-  }
+  sends_stopped f c is bad many unsealed above sent counted why =
+      let others = not_others f c is in
+      let sends : ∥ Sends text d sent senders ∥₁
+      = ∥∥₁_map (given_stopped text d f c old is bad (rw (same, by) at many) (rw (same, by) at unsealed)
+      (rw (same, by, kept) at above) numbered first' sent counted why) (λ is'. (old, is', deals)) in
+      search (rules, others, sends)
 
   pub sends_gone : (sent : Sent) → sent.outcome ≡ Err cause.Unconfirmed → MaySend text d given_lanes sent senders
-  sends_gone sent why = record {
-    lanes = lanes;
-    not_of_output = rw why (λ e. cc);
-    started = rw why (λ e. cc);
-    sends = ∥∥₁_map (given_gone text d old numbered first' sent why) (λ is. (old, is, deals));
-  }
+  sends_gone sent why =
+      let sends : ∥ Sends text d sent senders ∥₁
+      = ∥∥₁_map (given_gone text d old numbered first' sent why) (λ is. (old, is, deals)) in search (rules, sends)
 
 -- an outcome that does not speak of the text says nothing
 pub passed_not : (text : Option (List ℕ)) (d : Reading) (sent : Sent) (c : Cause) (took : Row → Type 0)

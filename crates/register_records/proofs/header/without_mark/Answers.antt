@@ -1,6 +1,6 @@
 use Rattle.std.proofs.Common.{◌≡◌, ◌≤◌, ◌==◌, ◌&&◌, ℕ, List, arith, drop, false, get_or, length, rules}
-use Rattle.csv.specs.Reading.{strip_bom}
 use Rattle.register_records.proofs.Common.{slice-end, nat_tests}
+use Rattle.csv.specs.Reading.{strip_bom}
 use Rattle.csv.proofs.ReadFacts.{strip-short}
 use Rattle.register_records.proofs.header.without_mark.Goals as goal
 

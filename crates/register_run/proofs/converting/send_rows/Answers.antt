@@ -1,4 +1,4 @@
-use Rattle.std.proofs.Common.{rules, ◌∙◌, sym}
+use Rattle.std.proofs.Common.{rules, ◌≡◌, ◌∙◌, false, sym}
 use Rattle.register_run.proofs.Common.{sent}
 use Rattle.lane_rings.specs.declared.item.Item.TheVariants as item
 use Rattle.register_run.proofs.CarriedLemmas.{first_of_all, none_taken, row_left, row_sent}
@@ -16,21 +16,13 @@ loop-preserved-then-not-gone g c =
     c.pass.ensures.one in
     let went =
     row_sent _ _ _ _ c.renew.new.self c.in-Some-Entry.entry c.send_copy.result is c.send_copy.ensures.ok
-    c.send_copy.ensures.gone c.renew.ensures.entry (c.loop.invariant.all c.if-not-gone.true) in record {
-      from = c.pass.ensures.lane ∙ c.wait.ensures.lane ∙ c.loop.invariant.from;
-      into = c.send_copy.ensures.lane ∙ c.loop.invariant.into;
-      rows = went.0;
-      all = λ there. went.1 (sym c.is_err-gone.ensures.value ∙ there);
-    }
+    c.send_copy.ensures.gone c.renew.ensures.entry (c.loop.invariant.all c.if-not-gone.true) in
+    let all = λ (there : c.is_err-gone.result ≡ false). went.1 (sym c.is_err-gone.ensures.value ∙ there) in search (rules, went.0, all)
 
 pub loop-preserved : goal.loop-preserved
 loop-preserved g c =
     let next = rw c.in-Some-Entry.field-0-is at c.in-Some-Entry.ensures.next in
     let is =
     took_next _ _ _ _ _ (item.Entry c.in-Some-Entry.entry) c.wait.ensures.taken next c.pass.ensures.taken
-    c.pass.ensures.one in record {
-      from = c.pass.ensures.lane ∙ c.wait.ensures.lane ∙ c.loop.invariant.from;
-      into = c.loop.invariant.into;
-      rows = row_left _ _ (sent c.loop.rows) c.in-Some-Entry.entry is c.loop.invariant.rows;
-      all = λ there. (let n = c.if-not-gone.false in cc);
-    }
+    c.pass.ensures.one in
+    let rows = row_left _ _ (sent c.loop.rows) c.in-Some-Entry.entry is c.loop.invariant.rows in search (rules, rows)

@@ -1,4 +1,4 @@
-use Rattle.std.proofs.Common.{◌≡◌, ◌∙◌, ap, arith, length, rules, sym}
+use Rattle.std.proofs.Common.{◌≡◌, ◌∙◌, ap, length, rules, sym}
 use Rattle.register_records.proofs.Common.{default_config, reader_config, fields_of, records_left, inner_remaining}
 use Rattle.register_records.proofs.EntryStepLemmas.{at_start}
 use Rattle.register_records.proofs.GivenLemmas.{first_step, may_first}
@@ -24,10 +24,5 @@ invariant_of-result g c =
     (fields_of c.read_record.new.csv_record) (ap g.R.Read.remaining c.of-source.ensures) c.delimiter-3.ensures.value
     (c.form-2.ensures ∙ sym c.form.ensures) c.new-2.ensures
     (rw c.if-not-found.false at read) (c.is_header.ensures.0 c.if-not-is_header.false) in
-    record {
-      live = λ _. c.in_ok-found.ensures.live;
-      counted = ap length c.new-2.ensures;
-      few = omega arith;
-      has_read = has_read;
-      first = may_first has_read;
-    }
+    let first = may_first has_read in let counted = ap length c.new-2.ensures in
+    search (rules, has_read, first, counted)

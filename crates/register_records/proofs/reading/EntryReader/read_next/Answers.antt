@@ -16,13 +16,7 @@ invariant_of-self g c =
     let number = (rw found at c.in-Ok-true.ensures.number) refl in
     let has_read =
     may_more self.has_read c.in-Open.is (sym self.counted) gives (omega (arith, number.0, number.1)) c.push.ensures in
-    record {
-      live = λ _. c.in-Ok-true.ensures.live;
-      counted = omega (arith, longer, self.counted);
-      few = omega (arith, number.0, number.1);
-      has_read = has_read;
-      first = may_first has_read;
-    }
+    let first = may_first has_read in let few = number.0 in search (rules, has_read, first, longer, few, number.1)
 
 pub invariant_of-self-in-Ok-false-clause-has_read : goal.invariant_of-self-in-Ok-false-clause-has_read
 invariant_of-self-in-Ok-false-clause-has_read g c = search (rules, may_end)

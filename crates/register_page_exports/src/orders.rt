@@ -2,14 +2,14 @@
 
 ghost use Rattle.std.specs.Prelude.{◌≡◌, ◌≢◌, ◌⊎◌, ◌≤◌, ◌<◌, ℕ, List, All, Any, length};
 ghost use Rattle.day_orders.specs.DayOrders.{IsDayOrder};
-ghost use Rattle.record_orders.specs.Orders.{records_at};
+ghost use Rattle.record_texts.specs.Orders.{records_at};
 ghost use Rattle.register_records.specs.Entries.{text_records};
 ghost use Rattle.register_sheets.specs.Sheets.{records_text};
 ghost use Rattle.register_page_exports.specs.SheetReports.{PutsText};
 
 use crate::sheets::{TextReport, put_text};
 use day_orders::day_order as order_of;
-use record_orders::{OrderFault, records_in_order};
+use record_texts::{OrderFault, records_in_order};
 use register_page::copy_if_fits;
 use std::alloc::Global;
 

@@ -4,12 +4,13 @@ ghost use Rattle.std.specs.Prelude.{◌≡◌, ◌≢◌, ◌↔◌, ◌⊎◌, 
 ghost use Rattle.std.specs.Int.{div_ceil};
 ghost use Rattle.register_records.specs.Entries.{text_records};
 ghost use Rattle.register_page.specs.Rooms.{with_front};
-ghost use Rattle.register_sheets.specs.Fields.{fields_by};
-ghost use Rattle.register_sheets.specs.Sheets.{HasLongField, all_chosen, groups, records_text};
+ghost use Rattle.register_sheets.specs.Sheets.{records_text};
+ghost use Rattle.record_texts.specs.Fields.{fields_by, groups};
+ghost use Rattle.record_texts.specs.Picks.{HasLongField, all_chosen};
 ghost use Rattle.register_page_exports.specs.SheetReports.{PutsFields, PutsNothing, PutsText};
 
+use record_texts::{Picked, pick, write};
 use register_page::copy_if_fits;
-use register_sheets::{Picked, pick, write};
 use std::alloc::Global;
 
 /// What was picked. Where there are more bytes or fields than fit into the room for them, it is as it was.

@@ -2,9 +2,9 @@
 //! reform of 1582, when 4 October was followed by 15 October, and of the years after it.
 
 use date_texts::Refusal;
+use record_texts::{WriteFault, pick, write};
 use register_page::{Converted, RequestFault, convert_text};
 use register_records::SourceEnd;
-use register_sheets::{WriteFault, pick, write};
 use std::alloc::Global;
 
 mod days;

@@ -2,7 +2,6 @@
 use Rattle.std.proofs.Common.{◌≡◌, ◌<◌, ◌∙◌, ◌++◌, ℕ, List, [], ◌∷◌, Option, ap, arith, get_or, drop, inl, inr, length, subst}
 use Rattle.std.proofs.Common.{take, refl}
 use Rattle.std.specs.Prelude.{◌⊎◌, ◌≢◌, Bool, Err, IfErr, IfOk, Ok, Result, false, map, true}
-use Rattle.std.proofs.KnownBytes.{Appends-nil}
 use Rattle.register_records.specs.Entries.{Fields, record_limit}
 use Rattle.register_records.specs.Outcomes.{TableRow}
 use Rattle.register_records.specs.Sources.{Gains}
@@ -100,10 +99,6 @@ part_of_body choice records left rest width rows d begun now read by body (n, ap
   }),
   appends,
 )
-
-pub no_part : (choice : SheetChoice) (records : List Fields) (begun : Option (List ℕ))
-    → Gains begun begun (ArePartOfSheet choice records)
-no_part choice records begun = ([], inl refl, Appends-nil begun)
 
 -- no rows yet
 no_body : (choice : SheetChoice) (rest : List Fields) → HasBody choice rest []

@@ -134,11 +134,6 @@ told_length P [] (m ∷ marks) told = absurd told
 told_length P (x ∷ xs) [] told = absurd told
 told_length P (x ∷ xs) (m ∷ marks) told = omega (arith, told_length P xs marks told.1)
 
-pub short_few : (choice : SheetChoice) (dates : List SheetDate) (most : ℕ) (names : List NameCount)
-    (more short kept : ℕ) → IsFound choice dates most names more short kept → length dates + 1 < 2 ^ 32 → short < 2 ^ 32
-short_few choice dates most names more short kept found few =
-    omega (arith, found.short_are, count_by-le-length (is_short choice) dates, few)
-
 pub kept_few : (choice : SheetChoice) (dates : List SheetDate) (most : ℕ) (names : List NameCount)
     (more short kept : ℕ) → IsFound choice dates most names more short kept → length dates + 1 < 2 ^ 32 → kept < 2 ^ 32
 kept_few choice dates most names more short kept found few =

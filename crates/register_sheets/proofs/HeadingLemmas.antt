@@ -31,14 +31,6 @@ first_free taken wanted name (suc (suc k)) low e free least =
       least = λ fewer lt. least fewer (omega arith);
     }
 
-pub one_tried : (taken : Fields) (wanted name : List ℕ) (n fewer : ℕ) → 2 ≤ n → name ≡ wanted ++ 32 ∷ decimal n
-    → is_taken taken name ≡ true
-    → ((fewer : ℕ) → fewer + 1 < n → is_taken taken (numbered wanted fewer) ≡ true)
-    → fewer + 1 < n + 1 → is_taken taken (numbered wanted fewer) ≡ true
-one_tried taken wanted name n zero low e used before lt = before zero (omega arith)
-one_tried taken wanted name n (suc k) low e used before lt =
-    grind (arith, before (suc k))
-
 -- behind headings come more
 pub more_headings : (taken wanted more headings others : Fields) → AreHeadings taken wanted headings
     → AreHeadings (taken ++ headings) more others → AreHeadings taken (wanted ++ more) (headings ++ others)
@@ -50,9 +42,6 @@ more_headings taken (w ∷ wanted) more (x ∷ headings) others h both = (
   more_headings (taken ++ x ∷ []) wanted more headings others h.1
       (subst (λ (all : Fields). AreHeadings all more others) (sym (append_assoc taken (x ∷ []) headings)) both),
 )
-
-pub none_named : (headings : NewNames) → NamesMore [] headings headings
-none_named headings = record { more = []; own = refl; made = sym (append-nil (items_of headings.made.items)); named = tt }
 
 pub both_named : (wanted more : Fields) (old mid new : NewNames) → NamesMore wanted old mid → NamesMore more mid new
     → NamesMore (wanted ++ more) old new

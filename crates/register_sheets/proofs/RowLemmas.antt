@@ -164,14 +164,6 @@ mapped : {X Y : Type 0} (f : X → Y) (xs : List X) (count k : ℕ) → k ≤ co
     → take k (map f (take count xs)) ≡ map f (take k xs)
 mapped f xs count k low = take-map f k (take count xs) ∙ ap (map f) (twice k count xs low)
 
-pub seen_more : {X Y : Type 0} (f : X → Y) (xs : List X) (count i : ℕ) (x : X) → i < count → i < length xs
-    → x ≡ get_or xs i x → take (i + 1) (map f (take count xs)) ≡ take i (map f (take count xs)) ++ f x ∷ []
-seen_more f xs count i x low lt is =
-    mapped f xs count (i + 1) (omega arith)
-    ∙ ap (map f) (take_more xs i x lt ∙ ap (λ y. take i xs ++ y ∷ []) (sym is))
-    ∙ map-append f (take i xs) (x ∷ [])
-    ∙ ap (λ front. front ++ f x ∷ []) (sym (mapped f xs count i (omega arith)))
-
 pub seen_set : {X Y : Type 0} (f : X → Y) (xs : List X) (count i : ℕ) (x : X) → i < count → i < length xs
     → take (i + 1) (map f (take count (set xs i x))) ≡ take i (map f (take count xs)) ++ f x ∷ []
 seen_set f xs count i x low lt =

@@ -3,7 +3,7 @@ use Rattle.std.proofs.Common.{◌≡◌, ◌≤◌, ◌∙◌, ◌++◌, ℕ, Li
 use Rattle.std.proofs.Common.{IsErrAnd, inl, min, refl, subst, suc, sym, take, zero}
 use Rattle.std.specs.Prelude.{Bool, Err, IfOk, Ok, Result}
 use Rattle.std.specs.Io.KnownBytes.{Appends}
-use Rattle.std.proofs.KnownBytes.{Appends-nil, Appends-trans}
+use Rattle.std.proofs.KnownBytes.{Appends-trans}
 use Rattle.std.proofs.Math.Seq.{take-append_seam}
 use Rattle.std.proofs.lemmas.List.{take-append-drop, take-append-le}
 use Rattle.std.proofs.lemmas.List.Concat.{flat_map-append}
@@ -22,12 +22,6 @@ text_both d xs ys = flat_map-append (line_text d) xs ys
 pub text_more : (d : ℕ) (xs : List Fields) (x : Fields)
     → records_text d (xs ++ x ∷ []) ≡ records_text d xs ++ line_text d x
 text_more d xs x = text_both d xs (x ∷ []) ∙ ap (λ t. records_text d xs ++ t) (append-nil (line_text d x))
-
--- nothing is made yet
-pub none_made : (d : ℕ) (begun : Option (List ℕ)) (lines : SheetLines) → Begins d [] [] lines
-    → HasMade d begun begun lines [] []
-none_made d begun lines held =
-    record { sent = []; waiting = []; gained = Appends-nil begun; held = held; parted = refl }
 
 -- the line gains fields, and is ended
 pub fields_made : (d : ℕ) (begun now : Option (List ℕ)) (old new : SheetLines) (made : List Fields) (fields more : Fields)

@@ -1,7 +1,5 @@
-pub mod Fields
 pub mod Sheets
 pub mod Reading
-pub mod FieldViews
 pub mod LineViews
 pub mod NameLists
 pub mod Choices

@@ -1,4 +1,4 @@
--- What is left of a sheet. No public contract cites this file.
+-- What is left of a sheet that is read.
 use Rattle.std.specs.Prelude.{ℕ, List, [], Option, None, Some, IsSome}
 use Rattle.std.specs.Borrow.{Bor}
 use Rattle.csv.specs.declared.reader.Reader.{Reader}

@@ -105,11 +105,10 @@ impl NameList {
         ensures fault { IfErr result (IsFaultOf (text_records 44 text.now)) }
     {
         let mut records = records_of(alloc, text, b',');
-        let mut record = ByteRecord::new(alloc);
         let mut list = NameList {
             lines: Vec::new(alloc),
         };
-        list.add_lines(alloc, &mut records, &mut record)?;
+        list.add_lines(alloc, &mut records, &mut ByteRecord::new(alloc))?;
         Ok(list)
     }
 

@@ -11,7 +11,7 @@ use std::alloc::{AllocError, Global};
 
 /// The records of a sheet with this byte between two fields. They may have any number of fields, and the first is a
 /// record like any.
-pub(crate) fn records_of(alloc: Global, sheet: &[u8], delimiter: u8) -> Reader<&[u8]>
+pub fn records_of(alloc: Global, sheet: &[u8], delimiter: u8) -> Reader<&[u8]>
     ensures reading { IsReading result }
     ensures left { left_of result ≡ text_records delimiter sheet.now }
 {
@@ -23,10 +23,7 @@ pub(crate) fn records_of(alloc: Global, sheet: &[u8], delimiter: u8) -> Reader<&
 }
 
 /// Reads the next record, and says whether there was one.
-pub(crate) fn read_next(
-    records: &mut Reader<&[u8]>,
-    record: &mut ByteRecord,
-) -> Result<bool, AllocError>
+pub fn read_next(records: &mut Reader<&[u8]>, record: &mut ByteRecord) -> Result<bool, AllocError>
     requires { IsReading records.old }
     ensures reading { result ≡ Ok true → IsReading records.new }
     ensures found { result ≡ Ok true → left_of records.old ≡ fields_of record.new ∷ left_of records.new }

@@ -1,7 +1,7 @@
 -- The outputs of a sheet's registers, one after the other.
 use Rattle.std.proofs.Common.{◌≡◌, ◌≤◌, ◌<◌, ◌∙◌, ◌+◌, ◌⊎◌, ℕ, zero, suc, List, [], ◌∷◌, Some, arith, get_or}
 use Rattle.std.proofs.Common.{get_or-set_other, get_or-set_same, inl, inr, length, length-set, refl, set, slice_get, subst}
-use Rattle.std.proofs.Common.{◌++◌, ap, map, sym, take, true}
+use Rattle.std.proofs.Common.{◌++◌, ap, map, sym, take}
 use Rattle.std.specs.List.{AllZip}
 use Rattle.std.specs.Prelude.{⊤, Err, IfErr, IfSome, IsErrAnd, Ok, Result}
 use Rattle.std.proofs.lemmas.Bool.{cases_lt}
@@ -9,15 +9,10 @@ use Rattle.std.proofs.lemmas.Bool.Decides.{eqb_tells}
 use Rattle.std.proofs.lemmas.Option.{get_or_from_slice_get, slice_get_past}
 use Rattle.std.proofs.lemmas.List.{map-append, take_more}
 use Rattle.register_files.specs.Openings.{AreMatched}
-use Rattle.register_records.specs.Sources.{Gains}
 use Rattle.register_records.specs.declared.outputs.Output as outputs
-use Rattle.register_sheets.specs.Registers.{IsFrontOfRegister, IsFullRegister}
 use Rattle.register_sheets.specs.declared.choices.DateColumn.{DateColumn}
 use Rattle.register_sheets.specs.declared.choices.SheetChoice.{SheetChoice}
-use Rattle.register_sheets.specs.declared.sheet_ends.SheetCause.{SheetCause}
-use Rattle.register_sheets.specs.declared.sheet_ends.SheetCause.TheVariants as cause
-use Rattle.sheet_app.specs.SheetFaults.{fault_by}
-use Rattle.sheet_app.specs.Sheets.{AreCutRegisters, HasRegister, IsCutRegister, records_by}
+use Rattle.sheet_app.specs.Sheets.{AreCutRegisters, HasRegister, IsCutRegister}
 use Rattle.sheet_app.specs.declared.sheet_faults.SheetFault.{SheetFault}
 use Rattle.sheet_app.proofs.ListLemmas.{zip_pushed}
 
@@ -125,7 +120,9 @@ cut_there {W} o choice sheet old now n column e written (Err why) fault so_far w
         let became : written ≡ b = sym (get_or-set_same now n written a within)
         ∙ ap (λ (k : ℕ). get_or (set now n written) k a) (sym same)
         ∙ get_or_from_slice_get (set now n written) i b a is in
-        rw (handed, ← there, ← became) cut
+        subst (IsCutRegister o choice sheet column a b) (sym handed)
+        (subst (λ (y : W). IsCutRegister o choice sheet column a y fault) became
+        (subst (λ (x : W). IsCutRegister o choice sheet column x written fault) there cut))
 
     behind : (i : ℕ) (a b : W) → slice_get old i ≡ Some a → slice_get (set now n written) i ≡ Some b → n < i → b ≡ a
     behind i a b was is lt =
@@ -139,18 +136,3 @@ pub made_more : {X W : Type 0} (Made : List ℕ → W → Type 0) (text : X → 
 made_more Made text xs i d outputs new one within n so_far made =
     rw (n, take_more xs i d within, map-append)
     (zip_pushed Made (map text (take i xs)) outputs (text (get_or xs i d)) one so_far made)
-
--- a register was written, or has broken off for this reason
-pub cut_by : {W : Type 0} (o : outputs.Ghosts W) (choice : SheetChoice) (sheet : List ℕ) (column : DateColumn)
-    (given written : W) (why : SheetCause)
-    → (why ≡ cause.NoMemory → Gains (o.contents given) (o.contents written)
-    (IsFrontOfRegister choice column (records_by choice sheet)))
-    → (why ≡ cause.NoNames → (written ≡ given) × (length (records_by choice sheet) ≤ choice.above))
-    → (why ≡ cause.TooManyRecords → Gains (o.contents given) (o.contents written)
-    (IsFullRegister choice column (records_by choice sheet)))
-    → (why ≡ cause.SinkFault → o.has_failed written ≡ true)
-    → IsCutRegister o choice sheet column given written (fault_by why)
-cut_by o choice sheet column given written cause.NoMemory part none many sink = part refl
-cut_by o choice sheet column given written cause.SinkFault part none many sink = sink refl
-cut_by o choice sheet column given written cause.NoNames part none many sink = none refl
-cut_by o choice sheet column given written cause.TooManyRecords part none many sink = many refl

@@ -9,7 +9,7 @@ use Rattle.written_dates.specs.declared.rules.Order.{Order}
 use Rattle.written_dates.specs.declared.rules.Order.TheVariants.{YearFirst, DayFirst, MonthFirst}
 use Rattle.written_dates.specs.declared.written.Short.{Short}
 use Rattle.written_dates.specs.declared.written.Short.TheVariants.{Refuse, Keep, Add}
-use Rattle.sheet_arguments.specs.OptionValues.{IsBareShortWord, IsCenturyWord, IsShortWord, IsSkipWord}
+use Rattle.sheet_arguments.specs.OptionValues.{IsBareShortWord, IsCenturyWord, IsSkipWord}
 use Rattle.sheet_arguments.specs.OptionValues.{order_number, order_option, short_hebrew_option, short_number, short_option}
 use Rattle.sheet_arguments.specs.OptionValues.{skip_option}
 
@@ -77,12 +77,6 @@ names_none option word never n = (λ e. absurd (none_some n e), λ said. absurd 
   where
     none_some : (k : ℕ) → None ≡ Some k → ⊥
     none_some k e = cc
-
-pub no_short : (word : Text) → word ≢ codes "refuse" → word ≢ codes "keep"
-    → ((n : ℕ) → ¬ (IsNumberWord 2000 word n × (n % 100 ≡ 0))) → (n : ℕ) → ¬ IsShortWord word n
-no_short word refuse keep century n (inl (inl is)) = refuse is.0
-no_short word refuse keep century n (inl (inr is)) = keep is.0
-no_short word refuse keep century n (inr is) = century is.years (is.named, is.whole)
 
 pub no_skip : (word : Text) → word ≢ codes "0" → ((n : ℕ) → ¬ IsNumberWord 99_999 word n) → (n : ℕ)
     → ¬ IsSkipWord word n

@@ -13,7 +13,7 @@ use std::alloc::{AllocError, Global};
 pub const MEMORY_FAULT: &str = "register-sheet: out of memory\n";
 
 /// Why the arguments ask for nothing: what is wrong with them, or that memory ran out.
-#[derive(Debug, Drop)]
+#[derive(Drop)]
 pub enum RequestFault<'a> {
     /// Memory ran out.
     OutOfMemory,

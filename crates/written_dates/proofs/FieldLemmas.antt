@@ -48,10 +48,6 @@ abbrev pub ending : List ℕ → List ℕ → List Piece → List ℕ
 ending short long [] = short
 ending short long (p ∷ rest) = long ++ spelling (p ∷ rest)
 
-pub ending_start : (ts : List Piece) → spelling ts ≡ ending [] [] ts
-ending_start [] = refl
-ending_start (p ∷ rest) = refl
-
 pub ending_blank : (short long : List ℕ) (p : Piece) (ts : List Piece) → is_blank p.kind ≡ true
     → ending short (long ++ p.text) ts ≡ ending short long (kept_end p ts)
 ending_blank short long p [] h = rw h refl

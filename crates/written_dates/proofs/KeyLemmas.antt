@@ -1,16 +1,15 @@
 -- Names whose key is another do not stand in front.
 use Rattle.std.proofs.Common.{◌≡◌, ◌≢◌, ℕ, zero, suc, ◌+◌, ◌*◌, ◌%◌, ◌<◌, Bool, true, false, ◌&&◌, ◌==◌, nat_lt}
-use Rattle.std.proofs.Common.{List, [], ◌∷◌, cond, length, refl, sym, ap, ◌∙◌, arith, get_or, drop, take, set, replicate, fold}
+use Rattle.std.proofs.Common.{List, [], ◌∷◌, cond, length, refl, sym, ap, ◌∙◌, arith, get_or, drop, set, replicate, fold}
 use Rattle.std.proofs.Common.{Some, slice_get}
 use Rattle.std.proofs.Math.Seq.{drop-nil, drop-length}
 use Rattle.std.proofs.Math.ListN.{length-set}
 use Rattle.std.proofs.lemmas.Option.{slice_get_within}
-use Rattle.std.proofs.lemmas.List.Sums.{fold-append}
 use Rattle.std.specs.Char.{to_ascii_lowercase}
 use Rattle.std.specs.Str.{str_eq_ignore_ascii_case, str_to_ascii_lowercase}
 use Rattle.std.specs.List.{list_any}
 use Rattle.std.proofs.lemmas.Bool.Decides.{nat_tests}
-use Rattle.std.proofs.lemmas.List.{take_more, get_or-set_same, get_or-set_other, get_or-replicate, length-replicate}
+use Rattle.std.proofs.lemmas.List.{get_or-set_same, get_or-set_other, get_or-replicate, length-replicate}
 use Rattle.std.proofs.lemmas.List.Folds.{fold-map}
 use Rattle.std.proofs.lemmas.Slice.Eq.{bytes_eq-Decides}
 use Rattle.date_texts.specs.declared.calendar.Calendar.{Calendar}
@@ -238,12 +237,6 @@ nothing_indexed names firsts nexts e f = record {
       rw (e, none) (get_or-replicate 1024 k (length names) 0 less ∙ omega arith);
   next = λ place name least there. absurd (omega (arith, slice_get_within names place name there));
 }
-
-pub key_more : (word : List ℕ) (i : ℕ) → i < length word
-    → key_of (take (i + 1) word) ≡ (31 * key_of (take i word) + to_ascii_lowercase (get_or word i 0)) % 1024
-key_more word i h =
-    ap key_of (take_more word i 0 h)
-    ∙ fold-append (λ value byte. (31 * value + to_ascii_lowercase byte) % 1024) 0 (take i word) (get_or word i 0 ∷ [])
 
 -- ---- conflicts, by places
 pub any_same : (name : Name) (names : List Name) (from place : ℕ) → place ≡ place_from (key name) names from

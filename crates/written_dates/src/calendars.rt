@@ -10,8 +10,8 @@ use date_texts::Calendar;
 pub(crate) const CALENDARS: usize = Calendar::ALL.len();
 
 /// How the dates of a calendar are written.
-#[derive(Clone, Copy, PartialEq, Eq, Debug)]
-pub enum Form {
+#[derive(Clone, Copy)]
+pub(crate) enum Form {
     /// A year, a month and a day.
     Civil,
     /// A year, a month and a mark with a count.

@@ -19,8 +19,8 @@ use arrayvec::ArrayVec;
 use date_texts::Calendar;
 
 /// A number, and with how many digits it stands; none where it is a Roman one or a name.
-#[derive(Clone, Copy, PartialEq, Eq, Debug)]
-pub struct Number {
+#[derive(Clone, Copy)]
+pub(crate) struct Number {
     /// The number.
     pub value: u32,
     /// How many digits it has.
@@ -28,8 +28,8 @@ pub struct Number {
 }
 
 /// A part of a date.
-#[derive(Clone, Copy, PartialEq, Eq, Debug)]
-pub enum Item {
+#[derive(Clone, Copy)]
+pub(crate) enum Item {
     /// A number.
     Number(Number),
     /// A month by name.

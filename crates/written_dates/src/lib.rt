@@ -16,13 +16,10 @@ mod tokens;
 mod unknown;
 mod written;
 
-pub use calendars::Form;
 pub use fields::{CalendarName, CalendarNames, CalendarNamesError, without_blanks};
-pub use items::{Item, Number};
 pub use meanings::{Calendars, Mark, Meaning, Name};
 pub use names::{ListFault, NameFault, Names, NamesError};
 pub use roman::roman_number;
-pub use rules::{Order, Reading};
-pub use tokens::{Kind, Token, next_token};
+pub use rules::Order;
 pub use unknown::unknown_word;
 pub use written::{Choice, Short, write_date};

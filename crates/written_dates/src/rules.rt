@@ -21,8 +21,8 @@ pub enum Order {
 }
 
 /// What a text says.
-#[derive(Clone, Copy, PartialEq, Eq, Debug)]
-pub enum Reading {
+#[derive(Clone, Copy)]
+pub(crate) enum Reading {
     /// A year, a month and a day.
     Civil(Number, u32, u32),
     /// A year, a month, a mark and a count.

@@ -1,11 +1,10 @@
-//! The examples in the doc comments of `register_page`, `register_sheets`, `entry_days` and `record_orders`, each under the
+//! The examples in the doc comments of `register_page`, `register_sheets`, `entry_days` and `record_texts`, each under the
 //! name of its item. The lines are the same in both places.
 
 use entry_days::{EntryDay, register_days};
-use record_orders::records_in_order;
+use record_texts::{pick, records_in_order, write};
 use register_page::convert_text;
 use register_records::{Form, Setup};
-use register_sheets::{pick, write};
 use std::test::Fail;
 
 /// `convert_text`

@@ -1,7 +1,7 @@
 //! The order of entries by their days, and records in an order.
 
 use day_orders::{NO_DAY, day_order};
-use record_orders::{OrderFault, records_in_order};
+use record_texts::{OrderFault, records_in_order};
 use std::alloc::Global;
 
 /// Whether entries of these days come in this order.

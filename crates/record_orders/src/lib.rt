@@ -1,8 +1,0 @@
-//! Records of a text in another order.
-#![tactic(auto)]
-
-mod lines;
-mod orders;
-mod reading;
-
-pub use orders::{OrderFault, records_in_order};

@@ -142,19 +142,6 @@ pub fn command<'a>(alloc: Global) -> Result<Command<'a>, AllocError>
     command_with(alloc, "register-sheet", VERSION, &ARGUMENTS)
 }
 
-/// What clap finds in the arguments.
-///
-/// # Errors
-///
-/// What clap refuses, a request for help or for the version, and running out of memory.
-fn read_arguments<'a>(alloc: Global, arguments: &'a [String]) -> Result<ArgMatches<'a>, clap::Error>
-    ensures found { IfOk result (λ m. rows_of (found_of m)
-        ≡ matches_of command_line (map string_bytes arguments.entry.now)) }
-    ensures fails { FailsBy (fault_of command_line (map string_bytes arguments.entry.now)) result }
-{
-    command(alloc)?.try_get_matches_from(arguments)
-}
-
 /// The words that clap found.
 fn words_found<'a>(matches: &ArgMatches<'a>) -> Words<'a>
     ensures { WordsAre result (values_of (rows_of (found_of matches.now))) }
@@ -203,7 +190,7 @@ fn read_options<'a>(alloc: Global, arguments: &'a [String]) -> Result<Options<'a
         ≡ values_of (matches_of command_line (map string_bytes arguments.entry.now))) }
     ensures kinds { IfErr result (HasKind (fault_of command_line (map string_bytes arguments.entry.now))) }
 {
-    let matches = read_arguments(alloc, arguments)?;
+    let matches = command(alloc)?.try_get_matches_from(arguments)?;
     let options = options_found(alloc, &matches)?;
     Ok(options)
 }
@@ -314,24 +301,11 @@ fn chosen_reading<'a>(words: &Words<'a>) -> Result<Reading, RequestFault<'a>>
     })
 }
 
-/// Finds what is wrong with the files.
-///
-/// # Errors
-///
-/// `TooManyFiles` where there are more than 32, and else `FileTwice` for the first that was named before.
-fn files_fit<'a>(files: &[&'a str]) -> Result<(), RequestFault<'a>>
-    ensures fine { OnOk result (AreFilesToConvert (map (λ f. f.now) files.now)) }
-    ensures fault { IfErr result (λ error. IsSomeAnd (fault_of_error error)
-        (IsFileFault too_many_files file_twice (map (λ f. f.now) files.now))) }
-{
-    Ok(check_files(files)?)
-}
-
 /// Finds what is wrong with the files where registers are asked for, or are not.
 ///
 /// # Errors
 ///
-/// `RegisterOfInput`, and the faults of the files as [`files_fit`] has them.
+/// `RegisterOfInput`, and the faults of the files as [`check_files`] has them.
 fn outputs_fit<'a>(register: bool, files: &[&'a str]) -> Result<(), RequestFault<'a>>
     ensures fine { OnOk result (((register && (length (map (λ f. f.now) files.now) == 0)) ≡ false)
         × AreFilesToConvert (map (λ f. f.now) files.now)) }
@@ -341,7 +315,7 @@ fn outputs_fit<'a>(register: bool, files: &[&'a str]) -> Result<(), RequestFault
     if register && count_of(files) == 0 {
         Err(RequestFault::RegisterOfInput)
     } else {
-        files_fit(files)
+        Ok(check_files(files)?)
     }
 }
 
@@ -351,7 +325,7 @@ fn outputs_fit<'a>(register: bool, files: &[&'a str]) -> Result<(), RequestFault
 ///
 /// The first that applies: `NoDate`, `TooManyDates`, `CalendarCount`, `UnknownCalendar`, `UnknownOrder`,
 /// `BadShortYears`, `BadShortHebrewYears`, `BadSkip`, `UnknownDelimiter`, the faults of the list of columns as
-/// [`chosen_columns`] has them, `RegisterOfInput`, and the faults of the files as [`files_fit`] has them; and
+/// [`chosen_columns`] has them, `RegisterOfInput`, and the faults of the files as [`check_files`] has them; and
 /// `OutOfMemory` where memory runs out on the way.
 fn chosen_job<'a>(alloc: Global, options: Options<'a>) -> Result<Job<'a>, RequestFault<'a>>
     ensures asked { IfOk result (λ job. Ask (values_by options.entry) (task_of job)) }

@@ -1,24 +1,18 @@
 -- Texts that hold no byte that calls for quotes, and plain texts, which are ASCII besides.
-use Rattle.std.proofs.Common.{◌≡◌, ◌∙◌, ◌+◌, ◌*◌, ◌/◌, ◌-◌, ◌<◌, ◌≤◌, ◌++◌, ℕ, zero, suc, List, [], ◌∷◌, Option, rules}
-use Rattle.std.proofs.Common.{Some, true, false, refl, sym, ap, subst, arith, length, take, drop, get_or, take_all}
-use Rattle.register_records.proofs.Common.{⊤, Err, Result, option_map_or, and_parts, or_parts, nat_tests, list_all_more}
-use Rattle.register_records.proofs.Common.{take-add, is_utf8-from_IsUtf8, list_all, needs_byte, needs_quotes, Refusal}
-use Rattle.register_records.proofs.Common.{IsPlain, has_special, is_plain_byte, body_of, body_of_texts, writing, Fields}
-use Rattle.register_records.proofs.Common.{Texts, texts_of, is_delimiter, CHUNK, Form}
-use Rattle.std.specs.Prelude.{IfSome, IsAscii}
-use Rattle.std.proofs.lemmas.Bool.{or_from}
-use Rattle.std.proofs.lemmas.List.Folds.{list_all-append}
+use Rattle.std.proofs.Common.{◌≡◌, ℕ, zero, suc, ◌+◌, ◌-◌, ◌*◌, ◌/◌, ◌<◌, ◌≤◌, true, false, List, [], ◌∷◌, ◌++◌, length}
+use Rattle.std.proofs.Common.{get_or, take, drop, IfSome, Some, Err, IsAscii, Option, Result, sym, refl, ap, ◌∙◌, subst}
+use Rattle.std.proofs.Common.{arith, take_all, rules}
+use Rattle.register_records.proofs.Common.{cut_from, needs_byte, needs_quotes, Refusal, IsPlain, has_special}
+use Rattle.register_records.proofs.Common.{is_plain_byte, is_special_byte, are_utf8, body_of, body_of_texts, writing}
+use Rattle.register_records.proofs.Common.{Fields, Texts, texts_of, is_delimiter, CHUNK, Form, take-add, and_parts}
+use Rattle.register_records.proofs.Common.{or_from, or_parts, nat_tests, list_all-append, list_all_more, list_all}
+use Rattle.register_records.proofs.Common.{list_any, option_map_or, ⊤, is_utf8}
 use Rattle.std.proofs.lemmas.List.{drop-drop, take-append-drop}
 use Rattle.std.specs.Simd.{first_chunks}
-use Rattle.std.proofs.lemmas.Str.{IsUtf8-from_ascii}
+use Rattle.std.proofs.lemmas.Str.{is_utf8-from_IsUtf8, IsUtf8-from_ascii}
 use Rattle.std.proofs.lemmas.Str.Ascii.{IsAscii-cons, IsAscii-nil}
-use Rattle.std.specs.Str.{is_utf8}
-use Rattle.std.specs.List.{list_any}
 use Rattle.std.specs.Result.{result_ok}
-use Rattle.csv.specs.Records.{cut_from}
 use Rattle.date_texts.specs.declared.refusal.Refusal.TheVariants as refusal
-use Rattle.register_records.specs.BareTexts.{is_special_byte}
-use Rattle.register_records.specs.Entries.{are_utf8}
 
 -- no byte of this text calls for quotes
 abbrev pub IsBare : List ℕ → Type 0

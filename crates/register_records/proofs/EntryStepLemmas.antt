@@ -1,11 +1,10 @@
 -- What a read of csv's reader does to the records that are left.
-use Rattle.std.proofs.Common.{◌≡◌, ℕ, List, [], ◌∷◌, Option, Some, None, Bool, true, refl, rules, option_map}
-use Rattle.register_records.proofs.Common.{default_config, reader_config, Config, State, text_records, Reads}
-use Rattle.register_records.proofs.Common.{TakesFirst, all_after, records_left, Reader, Fields}
-use Rattle.csv.specs.Reading.{ReadRecord, Reached, reader_state, source_of, strip_bom}
+use Rattle.std.proofs.Common.{◌≡◌, ℕ, Bool, true, List, [], ◌∷◌, Some, None, Option, option_map, refl, rules}
+use Rattle.register_records.proofs.Common.{rows-end, rows-more, strip_bom, Config, State, Reader, text_records, Fields}
+use Rattle.csv.specs.Reading.{default_config, reader_config, ReadRecord, Reached, reader_state, source_of}
 use Rattle.csv.specs.declared.parser.State.TheVariants as st
-use Rattle.csv.proofs.ReadFacts.{rows-end, rows-more}
 use Rattle.register_records.proofs.RecordsLeftLemmas.{all_more, all_none}
+use Rattle.register_records.specs.ReadingState.{Reads, TakesFirst, all_after, records_left}
 
 one_record : (cfg cfg2 : Config) (s s2 : State) (y z : List ℕ) (f : Fields) → cfg2 ≡ cfg → Reached cfg s y (f ∷ []) s2 z
     → all_after cfg s y ≡ f ∷ all_after cfg2 s2 z

@@ -1,18 +1,14 @@
 -- Every accepted text has a table: what the text, a date and a day decide can be decided.
-use Rattle.std.proofs.Common.{◌≡◌, ◌+◌, ℕ, List, [], ◌∷◌, Bool, true, false, inl, inr, refl, subst, sym, map, length}
-use Rattle.register_records.proofs.Common.{AllZip, range_with_len, ℤ, Result, Ok, Err, calendar_name}
-use Rattle.register_records.proofs.Common.{day_number_of_date, IsNamed, Calendar, Target, Date, Refusal, Numbered}
-use Rattle.register_records.proofs.Common.{record_limit, AreCells, IsOutcome, IsRowOf, Says, TableRow, accepted}
-use Rattle.register_records.proofs.Common.{no_date_text, no_such_date, out_of_range, refused, unknown_calendar, Fields}
-use Rattle.register_records.proofs.Common.{Texts, Form, table_text}
-use Rattle.std.specs.Prelude.{nat_lt, if◌then◌else◌}
-use Rattle.date_texts.specs.Cells.{IsCell}
+use Rattle.register_records.proofs.Common.{◌≡◌, ℕ, ◌+◌, Bool, true, false, List, [], ◌∷◌, map, length, ℤ, if◌then◌else◌}
+use Rattle.register_records.proofs.Common.{nat_lt, Ok, Err, Result, sym, refl, subst, inl, inr, calendar_name, IsCell}
+use Rattle.register_records.proofs.Common.{day_number_of_date, IsNamed, Calendar, Date, Refusal, Target, Numbered}
+use Rattle.register_records.proofs.Common.{entries_from, record_limit, EveryTextHasTable, AreCells, IsOutcome, IsRowOf}
+use Rattle.register_records.proofs.Common.{Says, TableRow, accepted, no_date_text, no_such_date, out_of_range, refused}
+use Rattle.register_records.proofs.Common.{unknown_calendar, Fields, Texts, IsTableOf, Form, AllZip, range_with_len}
 use Rattle.date_texts.specs.declared.refusal.Refusal.TheVariants as refusal
 use Rattle.date_texts.proofs.DateDecisionLemmas.{has_cell, is_date_of_calendar, names_calendar, says_date}
 use Rattle.date_texts.proofs.DecisionLemmas.{is_between}
-use Rattle.register_records.specs.Entries.{entries_from}
-use Rattle.register_records.specs.Sources.{IsTableOf}
-use Rattle.register_records.specs.Laws.{EveryTextHasTable}
+use Rattle.register_records.specs.Tables.{table_text}
 
 -- the outcome of a body
 abbrev pub HasOutcome : Result Texts Refusal → Type 0

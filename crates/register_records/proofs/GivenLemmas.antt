@@ -1,14 +1,13 @@
 -- What a step of a reader of entries does to those that it gave.
-use Rattle.std.proofs.Common.{◌≡◌, ◌<◌, ◌≤◌, ◌+◌, ◌++◌, ℕ, List, [], ◌∷◌, length, Option, Some, None, true, rules, refl}
-use Rattle.std.proofs.Common.{sym, ap, ◌∙◌, arith, append_assoc, IfSome, nat_lt, option_map, append-nil, length-append}
-use Rattle.register_records.proofs.Common.{∥∥₁_map, nat_tests, append_cancel_left, IsHeader, HasAllEntries, HasEntries}
-use Rattle.register_records.proofs.Common.{HasFirstEntries, HasRecords, Reading, HasTooMany, IsNotSealed, Numbered}
-use Rattle.register_records.proofs.Common.{body_of, entries_of, record_limit, text_records, AreClosed, entry_records}
-use Rattle.register_records.proofs.Common.{is_seal, entry_seen, Ends, HasEntry, IsNoSeal, LacksSeal, TakesFirst, Entry}
-use Rattle.register_records.proofs.Common.{Form, Fields}
-use Rattle.register_records.specs.Entries.{entries_from}
-use Rattle.register_records.specs.Seals.{before_seal}
-use Rattle.register_records.specs.ReadingState.{reading_by, EndsAt, Gives, HasRead}
+use Rattle.register_records.proofs.Common.{◌≡◌, ℕ, ◌+◌, ◌<◌, ◌≤◌, true, List, [], ◌∷◌, ◌++◌, length, IfSome, nat_lt}
+use Rattle.register_records.proofs.Common.{Some, None, Option, option_map, sym, refl, ap, ◌∙◌, append_assoc, append-nil}
+use Rattle.register_records.proofs.Common.{arith, length-append, rules, HasAllEntries, HasEntries, HasFirstEntries}
+use Rattle.register_records.proofs.Common.{HasRecords, HasTooMany, IsNotSealed, Numbered, Reading, body_of}
+use Rattle.register_records.proofs.Common.{entries_from, entries_of, record_limit, text_records, IsHeader, Fields}
+use Rattle.register_records.proofs.Common.{AreClosed, before_seal, entry_records, is_seal, entry_seen, Entry, Form}
+use Rattle.register_records.proofs.Common.{∥∥₁_map, nat_tests, append_cancel_left}
+use Rattle.register_records.specs.ReadingState.{Ends, HasEntry, IsNoSeal, LacksSeal, TakesFirst, reading_by, EndsAt}
+use Rattle.register_records.specs.ReadingState.{Gives, HasRead}
 use Rattle.register_records.specs.declared.reading.ReaderState.{ReaderState}
 use Rattle.register_records.specs.declared.reading.ReaderState.TheVariants as states
 

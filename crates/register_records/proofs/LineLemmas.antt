@@ -1,27 +1,21 @@
 -- The fields of a line, while they are appended.
-use Rattle.std.proofs.Common.{◌≡◌, ◌<◌, ◌≤◌, ◌+◌, ◌^◌, ◌%◌, ◌++◌, ℕ, List, [], ◌∷◌, true, false, refl, sym, ap, ◌∙◌}
-use Rattle.std.proofs.Common.{rules, arith, append_assoc, append-nil, length, length-append, length-set, map, set, take}
-use Rattle.std.proofs.Common.{◌==◌, if◌then◌else◌, Bool, Result, drop, get_or, ℤ, length-take-le}
-use Rattle.register_records.proofs.Common.{decimal, signed_decimal, ints, and_parts, nat_tests, length-decimal-le}
-use Rattle.register_records.proofs.Common.{map-append, take_more, flat_map, list_all, needs_byte, needs_quotes}
-use Rattle.register_records.proofs.Common.{IsDayNumber, Begins, GainsFields, columns_room, writing, is_delimiter}
-use Rattle.register_records.proofs.Common.{is_plain, target_name, Refusal, Target, Column, cell_columns, entry_order}
-use Rattle.register_records.proofs.Common.{tail_order, entry_field, text_shown, kind_name, kind_names, row_fields}
-use Rattle.register_records.proofs.Common.{row_with, tail_texts, TableRow, Cells, Id, Note, Texts, has_special}
-use Rattle.std.proofs.lemmas.Grind.{flat_map-append}
-use Rattle.std.proofs.lemmas.Fmt.{decimal_by_steps}
+use Rattle.std.proofs.Common.{◌≡◌, ℕ, ◌+◌, ◌%◌, ◌^◌, ◌<◌, ◌≤◌, Bool, true, false, List, [], ◌∷◌, ◌++◌, map, length}
+use Rattle.std.proofs.Common.{get_or, take, drop, set, ℤ, if◌then◌else◌, ◌==◌, decimal, Result, flat_map, sym, refl, ap}
+use Rattle.std.proofs.Common.{◌∙◌, append_assoc, append-nil, arith, length-append, length-set, length-take-le, rules}
+use Rattle.register_records.proofs.Common.{fields-snoc, field_text, fields_text, is_blank, needs_byte, needs_quotes}
+use Rattle.register_records.proofs.Common.{row_body, target_name, is_plain, Refusal, Target, IsDayNumber, has_special}
+use Rattle.register_records.proofs.Common.{Column, cell_columns, columns, entry_order, kind_columns, tail_order, Begins}
+use Rattle.register_records.proofs.Common.{GainsFields, writing, line_text, TableRow, Texts, is_delimiter, entry_field}
+use Rattle.register_records.proofs.Common.{kind_name, kind_names, row_fields, tail_texts, text_shown, take-append-add}
+use Rattle.register_records.proofs.Common.{and_parts, nat_tests, flat_map-append, ints, map-append, take_more}
+use Rattle.register_records.proofs.Common.{list_any-append, signed_decimal, list_all}
+use Rattle.std.proofs.lemmas.Fmt.{length-decimal-le, decimal_by_steps}
 use Rattle.std.proofs.lemmas.List.{at_drop_more, flat_map_more, take_more_set, take-append-le}
-use Rattle.std.proofs.Math.Seq.{take-append-add}
-use Rattle.std.proofs.lemmas.List.Folds.{list_any-append}
 use borrow.Rule.Slice.PartMut.{put_mid}
-use Rattle.csv.specs.Writing.{field_text, fields_text, is_blank, row_body}
-use Rattle.csv.proofs.WriteFacts.{fields-snoc}
-use Rattle.register_records.specs.LineRoom.{number_room}
-use Rattle.register_records.specs.Lines.{line_text}
-use Rattle.register_records.specs.Columns.{columns, kind_columns}
-use Rattle.register_records.specs.TableColumns.{heading, kind_fields, laid_out}
+use Rattle.register_records.specs.LineRoom.{columns_room, number_room}
+use Rattle.register_records.specs.TableColumns.{row_with, heading, kind_fields, laid_out}
 use Rattle.register_records.specs.declared.table_columns.ColumnKind.{ColumnKind}
-use Rattle.register_records.specs.declared.table_columns.ColumnKind.TheVariants.{Calendar, Date}
+use Rattle.register_records.specs.declared.table_columns.ColumnKind.TheVariants.{Cells, Id, Note, Calendar, Date}
 use Rattle.register_records.proofs.BareLemmas.{unquoted}
 
 -- the bytes of some fields, and of one more

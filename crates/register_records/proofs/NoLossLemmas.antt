@@ -1,9 +1,8 @@
 -- Where records of a sealed register are taken out, its seal does not agree.
-use Rattle.std.proofs.Common.{◌≡◌, ◌+◌, ◌++◌, ℕ, List, [], ◌∷◌, length, Bool, true, false, refl, ap, rules, ◌∙◌, arith}
-use Rattle.std.proofs.Common.{if◌then◌else◌, length-append}
-use Rattle.register_records.proofs.Common.{⊤, IsHeader, Fields, Agrees, is_seal, Sealed}
+use Rattle.std.proofs.Common.{◌≡◌, ℕ, ◌+◌, Bool, true, false, List, [], ◌∷◌, ◌++◌, length, if◌then◌else◌, refl, ap, ◌∙◌}
+use Rattle.std.proofs.Common.{arith, length-append, rules}
+use Rattle.register_records.proofs.Common.{IsHeader, Fields, Agrees, before_seal, is_seal, Sealed, ⊤}
 use Rattle.register_records.specs.Laws.{AreLeftOf, NoLossIsSealed, kept, none, taken}
-use Rattle.register_records.specs.Seals.{before_seal}
 
 -- of these records only this one is a seal
 abbrev IsOnlySeal : Fields → List Fields → Type 0

@@ -1,14 +1,13 @@
 -- A text has one fate: each test that decides it is decided by the text.
-use Rattle.std.proofs.Common.{inl, inr, ◌≡◌, ◌≤◌, ◌<◌, ◌++◌, ℕ, List, [], ◌∷◌, length, Bool, true, false, refl, rules}
-use Rattle.std.proofs.Common.{sym, ap, ◌∙◌, arith, subst, Option, None, Some, codes, if◌then◌else◌, IsSomeAnd, IsTrue}
-use Rattle.register_records.proofs.Common.{append_cancel_left, IsNamed, IsNumeral, trimmed, HasRecords, Reading}
-use Rattle.register_records.proofs.Common.{entries_of, record_limit, text_records, IsHeader, Fields, Texts, texts_of}
-use Rattle.register_records.proofs.Common.{Agrees, AreClosed, entry_records, is_seal, Form, Plain, Sealed}
-use Rattle.csv.specs.Reading.{strip_bom}
+use Rattle.std.proofs.Common.{◌≡◌, ℕ, ◌<◌, ◌≤◌, Bool, true, false, List, [], ◌∷◌, ◌++◌, length, IsSomeAnd}
+use Rattle.std.proofs.Common.{if◌then◌else◌, IsTrue, Some, None, codes, Option, sym, refl, ap, ◌∙◌, subst, inl, inr}
+use Rattle.std.proofs.Common.{arith, rules}
+use Rattle.register_records.proofs.Common.{strip_bom, IsNamed, IsNumeral, trimmed, AreAfterHeader, AreAll, HasRecords}
+use Rattle.register_records.proofs.Common.{Reading, entries_of, record_limit, text_records, IsHeader, Fields, Texts}
+use Rattle.register_records.proofs.Common.{texts_of, Agrees, AreClosed, before_seal, entry_records, is_seal, Form}
+use Rattle.register_records.proofs.Common.{Plain, Sealed, append_cancel_left}
 use Rattle.date_texts.proofs.DecisionLemmas.{Is, all_four, both, in_words, is_at_most, is_named, is_number, is_true}
-use Rattle.register_records.specs.Entries.{AreAfterHeader, AreAll}
 use Rattle.register_records.specs.Laws.{Fate, HasFate, OneFate, accepted, no_header, not_sealed, too_many}
-use Rattle.register_records.specs.Seals.{before_seal}
 
 -- whether a record is an accepted header
 is_noted : (form : Form) (note : List ℕ) → Is (form ≡ Sealed → IsNamed note (codes "note"))

@@ -1,13 +1,12 @@
 -- A text has one table at most.
-use Rattle.std.proofs.Common.{◌≡◌, ℕ, List, refl, subst, sym, ◌∙◌, rules, ℤ, Result}
-use Rattle.register_records.proofs.Common.{∥∥₁_elim, props, IsDayNumber, calendar_name, IsDateOfCalendar}
-use Rattle.register_records.proofs.Common.{day_number_of_date, IsDateText, Numbered, IsNamed, IsOutcome, IsRowOf, Says}
-use Rattle.register_records.proofs.Common.{TableRow, accepted, no_date_text, no_such_date, out_of_range, refused}
-use Rattle.register_records.proofs.Common.{unknown_calendar, Calendar, Target, Date, Refusal, OneCell, Texts}
-use Rattle.register_records.specs.Laws.{OneTable}
-use Rattle.date_texts.specs.Laws.{OneCalendar, OneDateText}
+use Rattle.register_records.proofs.Common.{◌≡◌, ℕ, List, ℤ, Result, sym, refl, ◌∙◌, subst, rules, calendar_name}
+use Rattle.register_records.proofs.Common.{IsDateOfCalendar, day_number_of_date, OneCalendar, OneCell, OneDateText}
+use Rattle.register_records.proofs.Common.{IsNamed, Calendar, Date, Refusal, Target, IsDayNumber, Numbered, OneTable}
+use Rattle.register_records.proofs.Common.{IsOutcome, IsRowOf, Says, TableRow, accepted, no_date_text, no_such_date}
+use Rattle.register_records.proofs.Common.{out_of_range, refused, unknown_calendar, Texts, ∥∥₁_elim, props}
 use Rattle.register_records.proofs.EveryTableLemmas.{has_outcome}
 use Rattle.register_records.proofs.RowTailLemmas.{one_beside, one_cells}
+use Rattle.date_texts.specs.DateText.{IsDateText}
 
 module _ (one_calendar : OneCalendar) (one_date_text : OneDateText) (one_cell : OneCell) where
   -- a text says one date at most

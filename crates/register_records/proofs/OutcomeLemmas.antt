@@ -1,8 +1,7 @@
 -- What the calls that read a record's texts say of its outcome.
-use Rattle.std.proofs.Common.{◌≡◌, ℕ, List, IfOk, Option, Some, None, refl, ◌↔◌, ℤ, IsOk, Result, Ok, Err}
-use Rattle.register_records.proofs.Common.{IsDayNumber, Day, calendar_name, IsDateOfCalendar, day_number_of_date}
-use Rattle.register_records.proofs.Common.{IsNamed, IsOutcome, Says, outcome_seen, Calendar, Date, Refusal, Texts}
-use Rattle.register_records.specs.Entries.{HaveOneDate}
+use Rattle.std.proofs.Common.{◌≡◌, ℕ, ◌↔◌, List, ℤ, IfOk, IsOk, Some, None, Ok, Err, Option, Result, refl}
+use Rattle.register_records.proofs.Common.{calendar_name, IsDateOfCalendar, day_number_of_date, IsNamed, Calendar, Date}
+use Rattle.register_records.proofs.Common.{Refusal, IsDayNumber, Day, HaveOneDate, IsOutcome, Says, Texts, outcome_seen}
 use Rattle.register_records.specs.Outcomes as outcome
 use Rattle.date_texts.specs.declared.refusal.Refusal.TheVariants as refusal
 

@@ -1,10 +1,7 @@
 -- A cell that is read gives its day again.
-use Rattle.std.proofs.Common.{sym, subst, Ok}
-use Rattle.register_records.proofs.Common.{IsDayNumber, IsDateText, IsOutcome, accepted}
-use Rattle.date_texts.specs.Cells.{no_date, on_date}
-use Rattle.date_texts.specs.Dates.{calendar_of_date}
-use Rattle.date_texts.specs.Laws.{CanonicalTextsReadBack}
-use Rattle.register_records.specs.Laws.{CellsReadBack}
+use Rattle.register_records.proofs.Common.{Ok, sym, subst, no_date, on_date, calendar_of_date, CanonicalTextsReadBack}
+use Rattle.register_records.proofs.Common.{IsDayNumber, CellsReadBack, IsOutcome, accepted}
+use Rattle.date_texts.specs.DateText.{IsDateText}
 
 pub cells_read_back : CanonicalTextsReadBack → CellsReadBack
 cells_read_back law calendar n texts within named (on_date date of is day text) some =

@@ -1,10 +1,11 @@
 -- The records of a text, one after the other.
-use Rattle.std.proofs.Common.{◌≡◌, ◌<◌, ◌≤◌, ◌+◌, ◌-◌, ℕ, suc, List, [], ◌∷◌, ◌++◌, length, Option, Some, None, Bool}
-use Rattle.std.proofs.Common.{refl, ◌∙◌, arith, add-one, rules, if◌then◌else◌}
-use Rattle.register_records.proofs.Common.{Config, State, all_after, Fields}
+use Rattle.std.proofs.Common.{◌≡◌, ℕ, suc, ◌+◌, ◌-◌, ◌<◌, ◌≤◌, Bool, List, [], ◌∷◌, ◌++◌, length, if◌then◌else◌, Some}
+use Rattle.std.proofs.Common.{None, Option, refl, ◌∙◌, add-one, arith, rules}
+use Rattle.register_records.proofs.Common.{Config, State, Fields}
 use Rattle.csv.specs.Machine.{Read, ends_at_end, fields_after, is_end, next_record, step}
 use Rattle.csv.specs.Reading.{records_from, records_next}
 use Rattle.csv.specs.declared.parser.State.TheVariants as st
+use Rattle.register_records.specs.ReadingState.{all_after}
 
 -- one of two ways to a record
 either_way : (b : Bool) (first : Read) (more : Option Read) (p : Read) (n : ℕ)

@@ -1,28 +1,23 @@
 -- The fields of a tail, while they are appended, and the cells among them.
-use Rattle.std.proofs.Common.{◌≡◌, ◌<◌, ◌≤◌, ◌+◌, ◌++◌, ℕ, List, [], ◌∷◌, true, false, refl, sym, ap, ◌∙◌, rules, arith}
-use Rattle.std.proofs.Common.{eq-eqb, add-one, append_assoc, append-nil, drop, drop-cons, get_or, length, length-drop}
-use Rattle.std.proofs.Common.{map, subst, take, ◌==◌, ℤ, pos, negsuc, Bool, IsTrue, nat_le, Ok, Err, Result, take_all}
-use Rattle.std.proofs.Common.{◌-◌, min, suc, take_at, zero}
-use Rattle.register_records.proofs.Common.{decimal, signed_decimal, AllZip, flat_map, list_all, position_or_len}
-use Rattle.register_records.proofs.Common.{or_parts, nat_tests, length-decimal-le, ints, ∥∥₁_elim, props, needs_byte}
-use Rattle.register_records.proofs.Common.{needs_quotes, IsDayNumber, weekday_names, weekday_number, Day, is_plain}
-use Rattle.register_records.proofs.Common.{refusal_number, Target, Refusal, OneCell, cells_of, is_cells, Column}
-use Rattle.register_records.proofs.Common.{cell_columns, tail_order, column_texts, row_with, tail_texts, writing}
-use Rattle.register_records.proofs.Common.{AreCells, outcome_seen, is_delimiter, Cells}
+use Rattle.std.proofs.Common.{◌≡◌, ℕ, zero, suc, ◌+◌, ◌-◌, ◌<◌, ◌≤◌, min, Bool, true, false, List, [], ◌∷◌, ◌++◌, map}
+use Rattle.std.proofs.Common.{length, get_or, take, drop, ℤ, pos, negsuc, IsTrue, nat_le, ◌==◌, Ok, Err, decimal}
+use Rattle.std.proofs.Common.{Result, flat_map, sym, refl, ap, ◌∙◌, subst, append_assoc, append-nil, add-one, arith}
+use Rattle.std.proofs.Common.{length-drop, take_all, drop-cons, take_at, rules, eq-eqb}
+use Rattle.register_records.proofs.Common.{fields_text, needs_byte, needs_quotes, is_plain, CellsArePlain, OneCell}
+use Rattle.register_records.proofs.Common.{refusal_number, Refusal, Target, IsDayNumber, weekday_names, weekday_number}
+use Rattle.register_records.proofs.Common.{Day, Column, cell_columns, tail_order, writing, fields_behind, AreCells}
+use Rattle.register_records.proofs.Common.{cells_of, outcome_seen, is_delimiter, column_texts, tail_texts, ∥∥₁_elim}
+use Rattle.register_records.proofs.Common.{drop-append_seam, props, or_parts, nat_tests, ints, signed_decimal, AllZip}
+use Rattle.register_records.proofs.Common.{list_all, onto_first, position_or_len, slice_split}
 use Rattle.std.proofs.lemmas.Slice.Zip.{AllZip-long, all_zipped_more}
-use Rattle.std.specs.List.{onto_first, slice_split}
-use Rattle.std.proofs.lemmas.Fmt.{length_signed_le}
+use Rattle.std.proofs.lemmas.Fmt.{length-decimal-le, length_signed_le}
 use Rattle.std.proofs.lemmas.List.Splits.{length-slice_split}
-use Rattle.std.proofs.Math.Seq.{drop-append_seam}
-use Rattle.csv.specs.Writing.{fields_text}
 use Rattle.day_numbers.specs.Numbered.{words}
 use Rattle.day_numbers.proofs.NameLemmas.{each_name}
-use Rattle.date_texts.specs.Laws.{CellsArePlain}
-use Rattle.register_records.specs.RowTails.{fields_of}
-use Rattle.register_records.specs.TableColumns.{IsCellField}
-use Rattle.register_records.specs.Lines.{fields_behind}
+use Rattle.register_records.specs.RowTails.{is_cells, fields_of}
+use Rattle.register_records.specs.TableColumns.{row_with, IsCellField}
 use Rattle.register_records.specs.declared.row_tails.RowTail.{RowTail}
-use Rattle.register_records.specs.declared.table_columns.ColumnKind.TheVariants.{Refusal as RefusalColumn}
+use Rattle.register_records.specs.declared.table_columns.ColumnKind.TheVariants.{Cells, Refusal as RefusalColumn}
 use Rattle.register_records.proofs.EveryTableLemmas.{has_cells}
 use Rattle.register_records.proofs.LineLemmas.{more_fields_text, plain_bytes, plain_text, plain_day, plain_decimal}
 

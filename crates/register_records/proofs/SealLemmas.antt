@@ -1,13 +1,9 @@
 -- When a record is a seal, and with what number of entries it agrees.
-use Rattle.std.proofs.Common.{◌≡◌, ◌∙◌, ◌<◌, ◌≤◌, ◌+◌, ◌-◌, ◌*◌, ◌^◌, ℕ, suc, List, length, take, rules, get_or, None}
-use Rattle.std.proofs.Common.{Some, true, refl, arith, codes, ◌↔◌}
-use Rattle.register_records.proofs.Common.{list_all_more, nat_tests, take_more, IsNumeral, all_digits, value_after}
-use Rattle.register_records.proofs.Common.{trimmed, Fields, Agrees, is_seal}
-use Rattle.std.proofs.lemmas.List.Folds.{list_all_at}
-use Rattle.std.proofs.lemmas.List.Sums.{fold-append}
+use Rattle.std.proofs.Common.{◌≡◌, ℕ, suc, ◌+◌, ◌-◌, ◌*◌, ◌^◌, ◌<◌, ◌≤◌, true, ◌↔◌, List, length, get_or, take, Some}
+use Rattle.std.proofs.Common.{None, codes, bytes_eq, refl, ◌∙◌, arith, rules}
+use Rattle.register_records.proofs.Common.{field_at, all_digits, value_after, IsNumeral, trimmed, Fields, Agrees}
+use Rattle.register_records.proofs.Common.{is_seal, nat_tests, take_more, list_all_at, list_all_more, fold-append}
 use Rattle.std.specs.Char.{is_ascii_digit}
-use Rattle.std.specs.Str.{bytes_eq}
-use Rattle.csv.specs.Records.{field_at}
 
 -- a record of two
 pub seal_by_first : (fs : Fields) (a : List ℕ) → length fs ≡ 2 → Some a ≡ field_at fs 0

@@ -1,12 +1,11 @@
 -- How writing the table of a source ends, for `convert_source`.
-use Rattle.std.proofs.Common.{◌≡◌, ◌≢◌, ◌⊎◌, ◌∙◌, ◌+◌, ◌-◌, ◌<◌, ◌≤◌, ◌++◌, ◌∷◌, ℕ, List, [], Option, None, Some, Err}
-use Rattle.std.proofs.Common.{IfSome, ap, arith, false, length, length-append, refl, rules, sym, true}
+use Rattle.std.proofs.Common.{◌≡◌, ℕ, ◌+◌, ◌-◌, ◌<◌, ◌≤◌, true, false, ◌≢◌, ◌⊎◌, List, [], ◌∷◌, ◌++◌, length, IfSome}
+use Rattle.std.proofs.Common.{Some, None, Err, Option, sym, refl, ap, ◌∙◌, arith, length-append, rules}
 use Rattle.register_records.proofs.Common.{entry_fault_cause, HasAllEntries, HasTooMany, IsNotSealed, Numbered, Reading}
-use Rattle.register_records.proofs.Common.{record_limit, table_fault, given_of, reader_failed, reading_of, reads_by}
-use Rattle.register_records.proofs.Common.{text_of, Cause, SourceEnd, Entry, EntryFault, Setup, Table}
+use Rattle.register_records.proofs.Common.{record_limit, IfBroken, table_fault, given_of, reader_failed, reading_of}
+use Rattle.register_records.proofs.Common.{reads_by, text_of, Cause, SourceEnd, Entry, EntryFault, Setup, Table}
 use Rattle.std.specs.declared.io.traits.Read.{Ghosts}
 use Rattle.register_records.specs.NextEntries.{ReadsNext}
-use Rattle.register_records.specs.Sources.{IfBroken}
 use Rattle.register_records.specs.SourceTables.{IsBroken}
 use Rattle.register_records.specs.TableStates.{is_of_table}
 use Rattle.register_records.specs.declared.ends.Cause.TheVariants as cause

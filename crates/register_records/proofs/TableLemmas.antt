@@ -1,23 +1,18 @@
 -- What a table in the making holds, and what the output of a source has gained.
-use Rattle.std.proofs.Common.{◌≡◌, ◌+◌, ◌++◌, ℕ, Bool, List, [], ◌∷◌, length, map, Option, None, Some, refl, sym, ap}
-use Rattle.std.proofs.Common.{◌∙◌, ◌≢◌, ◌⊎◌, append_assoc, append-nil, arith, false, inl, inr, length-append, rules}
-use Rattle.std.proofs.Common.{subst, true}
-use Rattle.register_records.proofs.Common.{Appends, AllZip, range_with_len, length-map, map-append, ∥∥₁_elim, ∥∥₁_map}
+use Rattle.std.proofs.Common.{◌≡◌, ℕ, ◌+◌, Bool, true, false, ◌≢◌, ◌⊎◌, List, [], ◌∷◌, ◌++◌, map, length, is_some, Some}
+use Rattle.std.proofs.Common.{None, Contains, Option, sym, refl, ap, ◌∙◌, subst, inl, inr, append_assoc, append-nil}
+use Rattle.std.proofs.Common.{arith, length-append, rules}
 use Rattle.register_records.proofs.Common.{Target, entry_fault_cause, AreNumberedFrom, HasAllEntries, HasEntries}
-use Rattle.register_records.proofs.Common.{HasFirstEntries, Reading, Numbered, IsRowOf, TableRow, entry_seen}
-use Rattle.register_records.proofs.Common.{IsFrontOfTable, Layout, heading_line, table_text, IsNextRow, table_fault}
-use Rattle.register_records.proofs.Common.{reading_of, row_seen, row_targets, Cause, SourceEnd, EntryFault, Row, Setup}
-use Rattle.register_records.proofs.Common.{Table}
-use Rattle.std.specs.Io.KnownBytes.{append_known}
-use Rattle.std.specs.List.{Contains}
-use Rattle.std.specs.Option.{is_some}
+use Rattle.register_records.proofs.Common.{HasFirstEntries, Numbered, Reading, TablesGrow, IsRowOf, TableRow}
+use Rattle.register_records.proofs.Common.{entry_seen, ArePartOfTable, Gains, IfWhole, IsFrontOfTable, IsTableOf}
+use Rattle.register_records.proofs.Common.{IsTableOfAll, IsWholeTable, IsNextRow, table_fault, reading_of, row_seen}
+use Rattle.register_records.proofs.Common.{row_targets, Cause, SourceEnd, EntryFault, Row, Setup, Table, ∥∥₁_elim}
+use Rattle.register_records.proofs.Common.{∥∥₁_map, ∥∥₁_prop, false_from_ne_true, length-map, map-append, Appends}
+use Rattle.register_records.proofs.Common.{append_known, AllZip, range_with_len}
 use Rattle.std.proofs.lemmas.List.Elements.{Contains-append_right, Contains-push_cases}
-use Rattle.std.proofs.lemmas.Bool.{false_from_ne_true}
-use Rattle.std.proofs.Math.Logic.{∥∥₁_prop}
-use Rattle.register_records.specs.Laws.{TablesGrow}
-use Rattle.register_records.specs.Sources.{ArePartOfTable, Gains, IfWhole, IsTableOf, IsTableOfAll, IsWholeTable}
 use Rattle.register_records.specs.TableStates.{fault_of, lines_waiting, lost_output}
-use Rattle.register_records.specs.Tables.{journal_of, lines_text, refusal_notes, row_line}
+use Rattle.register_records.specs.Tables.{Layout, heading_line, table_text, journal_of, lines_text, refusal_notes}
+use Rattle.register_records.specs.Tables.{row_line}
 use Rattle.register_records.specs.TablesWritten.{HasEnded, Holds, IsSameTable, IsTableSoFar, entries_seen}
 use Rattle.register_records.specs.TablesWritten.{has_lost_output, is_headed, made_by, made_for, rows_seen, waiting_of}
 use Rattle.register_records.specs.Views.{layout_of, line_of, waiting_in, writes_by}

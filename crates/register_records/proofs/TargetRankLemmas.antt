@@ -1,21 +1,17 @@
 -- Targets have their own ranks, and ranks are those of one list of targets.
-use Rattle.std.proofs.Common.{◌≡◌, ◌<◌, ◌≤◌, ◌+◌, ◌-◌, ℕ, List, [], ◌∷◌, refl, sym, ap, ◌∙◌, arith, drop, get_or}
-use Rattle.std.proofs.Common.{length, set, take, true}
-use Rattle.register_records.proofs.Common.{take-add, and_parts, position_or_len, all_targets, Target, Haab, WORD_LEN}
-use Rattle.register_records.proofs.Common.{have_one_name, ranks_in}
+use Rattle.std.proofs.Common.{◌≡◌, ℕ, zero, suc, ◌+◌, ◌-◌, ◌^◌, ◌<◌, ◌≤◌, Bool, true, ◌&&◌, ◌↔◌, List, [], ◌∷◌, ◌++◌}
+use Rattle.std.proofs.Common.{length, get_or, take, drop, set, ◌==◌, slice_get, sym, refl, ap, ◌∙◌, arith, w64}
+use Rattle.register_records.proofs.Common.{WORD_LEN, all_targets, Target, Haab, have_one_name, rank_of, ranks_in}
+use Rattle.register_records.proofs.Common.{take-add, and_parts, find_at, passes_at_first, position_or_len}
 use Rattle.std.proofs.lemmas.Bool.{eq-eqb, eqb-true}
 use Rattle.std.proofs.lemmas.List.{drop-take, take-take}
-use Rattle.std.specs.Int.{to_le_bytes, w64}
-use Rattle.std.specs.Prelude.{◌&&◌, ◌==◌, ◌++◌, ◌^◌, ◌↔◌, Bool, slice_get, suc, zero}
-use Rattle.std.proofs.lemmas.List.Folds.{find_at}
-use Rattle.std.proofs.lemmas.List.Sums.{passes_at_first}
+use Rattle.std.specs.Int.{to_le_bytes}
 use Rattle.std.proofs.lemmas.Option.{slice_get_within}
 use Rattle.day_numbers.specs.Numbered.{IsNumbered}
 use Rattle.date_texts.specs.declared.target.TheConstants.{MAX_TARGETS}
 use Rattle.date_texts.proofs.ReadingLemmas.{some_inside}
 use Rattle.date_texts.proofs.TargetNameLemmas.{finds_own}
 use Rattle.byte_buffers.proofs.WordLemmas.{one_word}
-use Rattle.register_records.specs.TargetRanks.{rank_of}
 
 -- the rank of a target is its own
 ranked : (t : Target) → IsNumbered all_targets (rank_of t) t

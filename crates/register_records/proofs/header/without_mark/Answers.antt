@@ -1,7 +1,5 @@
-use Rattle.std.proofs.Common.{◌≡◌, ◌≤◌, ◌==◌, ◌&&◌, ℕ, List, arith, drop, false, get_or, length, rules}
-use Rattle.register_records.proofs.Common.{slice-end, nat_tests}
-use Rattle.csv.specs.Reading.{strip_bom}
-use Rattle.csv.proofs.ReadFacts.{strip-short}
+use Rattle.std.proofs.Common.{◌≡◌, ℕ, ◌≤◌, false, ◌&&◌, List, length, get_or, drop, ◌==◌, arith, rules}
+use Rattle.register_records.proofs.Common.{strip-short, slice-end, strip_bom, nat_tests}
 use Rattle.register_records.proofs.header.without_mark.Goals as goal
 
 -- a byte order mark goes

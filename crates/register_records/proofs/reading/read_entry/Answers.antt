@@ -1,5 +1,4 @@
-use Rattle.std.proofs.Common.{◌≡◌, ◌∙◌, inl, rules, sym, true}
-use Rattle.register_records.proofs.Common.{Sealed}
+use Rattle.register_records.proofs.Common.{◌≡◌, true, sym, ◌∙◌, inl, rules, Sealed}
 use Rattle.register_records.proofs.StepLemmas.{behind_seal, entry_left, found, found_none, no_seal_left, other_no_seal}
 use Rattle.register_records.proofs.StepLemmas.{plain_no_seal}
 use Rattle.register_records.proofs.reading.read_entry.Goals as goal

@@ -1,5 +1,4 @@
-use Rattle.std.proofs.Common.{rules}
-use Rattle.register_records.proofs.Common.{fields_of, inner_remaining}
+use Rattle.register_records.proofs.Common.{rules, fields_of, inner_remaining}
 use Rattle.register_records.proofs.EntryStepLemmas.{reads}
 use Rattle.register_records.proofs.reading.read_record.Goals as goal
 

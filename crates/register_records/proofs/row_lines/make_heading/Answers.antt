@@ -1,5 +1,4 @@
-use Rattle.std.proofs.Common.{append-nil, rules}
-use Rattle.register_records.proofs.Common.{take_all, with_items_is}
+use Rattle.register_records.proofs.Common.{append-nil, rules, take_all, with_items_is}
 use Rattle.register_records.proofs.LineLemmas.{ended, heading_names, one_column, same_body, same_line, room_for_rest}
 use Rattle.register_records.proofs.LineLemmas.{some_fields}
 use Rattle.register_records.proofs.row_lines.make_heading.Goals as goal

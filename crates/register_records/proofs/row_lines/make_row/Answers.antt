@@ -1,5 +1,4 @@
-use Rattle.std.proofs.Common.{rules}
-use Rattle.register_records.proofs.Common.{with_items_is}
+use Rattle.register_records.proofs.Common.{rules, with_items_is}
 use Rattle.register_records.proofs.LineLemmas.{ended, fields_in_parts, same_line, two_of}
 use Rattle.register_records.proofs.row_lines.make_row.Goals as goal
 

@@ -1,8 +1,6 @@
-use Rattle.std.proofs.Common.{◌∷◌, ◌∙◌, [], arith, map, refl}
-use Rattle.register_records.proofs.Common.{decimal, entry_order, Begins, line_bytes, entry_field, text_shown, row_seen}
-use Rattle.register_records.proofs.Common.{Id, Note}
-use Rattle.register_records.specs.Entries.{body_seen}
-use Rattle.register_records.specs.declared.table_columns.ColumnKind.TheVariants.{Calendar, Date}
+use Rattle.register_records.proofs.Common.{[], ◌∷◌, map, decimal, refl, ◌∙◌, arith, entry_order, body_seen, Begins}
+use Rattle.register_records.proofs.Common.{line_bytes, entry_field, text_shown, row_seen}
+use Rattle.register_records.specs.declared.table_columns.ColumnKind.TheVariants.{Id, Note, Calendar, Date}
 use Rattle.register_records.proofs.LineLemmas.{gained, same_body}
 use Rattle.register_records.proofs.row_lines.put_entry.Goals as goal
 use Rattle.register_records.proofs.row_lines.put_entry.Goals.{After-put_column-3}

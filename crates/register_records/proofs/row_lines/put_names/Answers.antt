@@ -1,5 +1,5 @@
-use Rattle.std.proofs.Common.{◌∙◌, ℕ, List, ap, append-nil, map, subst, sym, rules}
-use Rattle.register_records.proofs.Common.{take_all, target_name, GainsFields, line_bytes}
+use Rattle.std.proofs.Common.{ℕ, List, map, sym, ap, ◌∙◌, subst, append-nil, rules}
+use Rattle.register_records.proofs.Common.{target_name, GainsFields, line_bytes, take_all}
 use Rattle.register_records.proofs.LineLemmas.{name_columns, same_body}
 use Rattle.register_records.proofs.row_lines.put_names.Goals as goal
 

@@ -1,7 +1,6 @@
-use Rattle.std.proofs.Common.{◌≡◌, ◌≢◌, ◌∙◌, ◌+◌, ◌++◌, ◌∷◌, [], None, Some, ap, inl, inr, length, refl, rules, sym, ℕ}
-use Rattle.register_records.proofs.Common.{length-map, map-append, entry_fault_cause, HasEntries, HasFirstEntries}
-use Rattle.register_records.proofs.Common.{entry_seen, IsNextRow, table_fault, given_of, text_of, Row}
-use Rattle.register_records.specs.Views.{targets_of}
+use Rattle.std.proofs.Common.{◌≡◌, ℕ, ◌+◌, ◌≢◌, [], ◌∷◌, ◌++◌, length, Some, None, sym, refl, ap, ◌∙◌, inl, inr, rules}
+use Rattle.register_records.proofs.Common.{entry_fault_cause, HasEntries, HasFirstEntries, entry_seen, IsNextRow}
+use Rattle.register_records.proofs.Common.{table_fault, given_of, targets_of, text_of, Row, length-map, map-append}
 use Rattle.register_records.specs.declared.ends.Cause.TheVariants as cause
 use Rattle.register_records.proofs.SourceTableLemmas.{broken_by_reader, broken_by_table, fewer_left, of_row}
 use Rattle.register_records.proofs.StepLemmas.{passed_on}

@@ -1,7 +1,5 @@
-use Rattle.std.proofs.Common.{◌≡◌, ◌∙◌, arith, ap, inl, inr, get_or, false}
-use Rattle.register_records.proofs.Common.{all_targets, Haab, have_one_name}
-use Rattle.std.proofs.lemmas.Bool.{cases_lt}
-use Rattle.std.proofs.lemmas.Grind.{common_steps}
+use Rattle.std.proofs.Common.{◌≡◌, false, get_or, ap, ◌∙◌, inl, inr, arith}
+use Rattle.register_records.proofs.Common.{all_targets, Haab, have_one_name, cases_lt, common_steps}
 use Rattle.register_records.proofs.TargetRankLemmas.{stands_first}
 use Rattle.register_records.proofs.target_lists.rank.Goals as goal
 

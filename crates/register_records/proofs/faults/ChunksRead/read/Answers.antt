@@ -1,7 +1,6 @@
-use Rattle.std.proofs.Common.{◌≡◌, ℕ, ◌+◌, ◌-◌, ◌<◌, ◌≤◌, List, ◌++◌, suc, length, take, drop, get_or, sym, ap, ◌∙◌}
-use Rattle.std.proofs.Common.{arith, append_assoc, drop-cons, drop-drop, length-append, length-drop, length-take}
-use Rattle.std.proofs.Common.{length-take-le, take-append-drop, take_at, Vec, min}
-use Rattle.std.specs.declared.alloc.Global.{Global}
+use Rattle.std.proofs.Common.{◌≡◌, ℕ, suc, ◌+◌, ◌-◌, ◌<◌, ◌≤◌, min, List, ◌++◌, length, get_or, take, drop, Vec, Global}
+use Rattle.std.proofs.Common.{sym, ap, ◌∙◌, append_assoc, arith, length-append, length-drop, take-append-drop}
+use Rattle.std.proofs.Common.{length-take, length-take-le, drop-cons, drop-drop, take_at}
 use Rattle.register_records.specs.Faults.{bytes_left, chunk_bytes}
 use Rattle.register_records.proofs.faults.ChunksRead.read.Goals as goal
 

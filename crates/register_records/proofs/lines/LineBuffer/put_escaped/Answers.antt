@@ -1,6 +1,4 @@
-use Rattle.std.proofs.Common.{rules, append_assoc}
-use Rattle.register_records.proofs.Common.{writing}
-use Rattle.csv.proofs.WriteFacts.{escaped-double, escaped-other}
+use Rattle.register_records.proofs.Common.{append_assoc, rules, escaped-double, escaped-other, writing}
 use Rattle.register_records.proofs.lines.LineBuffer.put_escaped.Goals as goal
 
 pub returns-then-byte-eq-QUOTE-clause-value : goal.returns-then-byte-eq-QUOTE-clause-value

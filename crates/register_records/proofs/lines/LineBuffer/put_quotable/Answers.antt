@@ -1,7 +1,5 @@
-use Rattle.std.proofs.Common.{◌<◌, ◌∙◌, ◌++◌, ap, append_assoc, arith, length, rules}
-use Rattle.register_records.proofs.Common.{writing, line_bytes}
-use Rattle.csv.specs.Writing.{escaped}
-use Rattle.csv.proofs.WriteFacts.{quoted-step}
+use Rattle.std.proofs.Common.{◌<◌, ◌++◌, length, ap, ◌∙◌, append_assoc, arith, rules}
+use Rattle.register_records.proofs.Common.{quoted-step, escaped, writing, line_bytes}
 use Rattle.register_records.proofs.lines.LineBuffer.put_quotable.Goals as goal
 
 pub bytes-init : goal.bytes-init

@@ -1,5 +1,4 @@
-use Rattle.std.proofs.Common.{ℕ, List, Option, None, Some, ◌++◌, ap, ◌∙◌}
-use Rattle.register_records.proofs.Common.{Appends, Keeps}
+use Rattle.register_records.proofs.Common.{ℕ, List, ◌++◌, Some, None, Option, ap, ◌∙◌, Appends, Keeps}
 use Rattle.register_records.proofs.outputs.PlainOutputOutput.offer.Goals as goal
 
 -- bytes that were kept, and then appended to

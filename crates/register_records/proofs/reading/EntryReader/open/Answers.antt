@@ -1,8 +1,9 @@
-use Rattle.std.proofs.Common.{◌≡◌, ◌∙◌, ap, length, rules, sym}
-use Rattle.register_records.proofs.Common.{default_config, reader_config, fields_of, records_left, inner_remaining}
+use Rattle.register_records.proofs.Common.{◌≡◌, length, sym, ap, ◌∙◌, rules, fields_of, inner_remaining}
 use Rattle.register_records.proofs.EntryStepLemmas.{at_start}
 use Rattle.register_records.proofs.GivenLemmas.{first_step, may_first}
 use Rattle.register_records.proofs.reading.EntryReader.open.Goals as goal
+use Rattle.csv.specs.Reading.{default_config, reader_config}
+use Rattle.register_records.specs.ReadingState.{records_left}
 
 pub read_record-requires : goal.read_record-requires
 read_record-requires g c = search rules

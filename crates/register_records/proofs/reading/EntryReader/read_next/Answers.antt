@@ -1,4 +1,4 @@
-use Rattle.std.proofs.Common.{◌≡◌, ◌∙◌, ◌∷◌, [], ap, arith, length, length-append, refl, rules, sym, true}
+use Rattle.std.proofs.Common.{◌≡◌, true, [], ◌∷◌, length, sym, refl, ap, ◌∙◌, arith, length-append, rules}
 use Rattle.register_records.proofs.Common.{entry_seen}
 use Rattle.register_records.proofs.GivenLemmas.{may_above, may_all, may_end, may_ended, may_fail, may_first, may_lack}
 use Rattle.register_records.proofs.GivenLemmas.{may_many, may_more}

@@ -1,7 +1,7 @@
-use Rattle.std.proofs.Common.{◌≡◌, ◌++◌, List, subst, sym}
-use Rattle.register_records.proofs.Common.{Target, AreCells, outcome_seen, column_texts, Cells}
+use Rattle.register_records.proofs.Common.{◌≡◌, List, ◌++◌, sym, subst, Target, AreCells, outcome_seen, column_texts}
 use Rattle.register_records.specs.RowTails.{fields_of}
 use Rattle.register_records.proofs.row_tails.RowTail.push_cells.Goals as goal
+use Rattle.register_records.specs.declared.table_columns.ColumnKind.TheVariants.{Cells}
 
 pub returns-then-targets-clause-value : goal.returns-then-targets-clause-value
 returns-then-targets-clause-value c cells =

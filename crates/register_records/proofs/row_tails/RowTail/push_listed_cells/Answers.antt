@@ -1,5 +1,5 @@
-use Rattle.std.proofs.Common.{List, arith, subst, rules, sym, take}
-use Rattle.register_records.proofs.Common.{take_all, take_more, Target, tail_bytes, outcome_seen}
+use Rattle.std.proofs.Common.{List, take, sym, subst, arith, rules}
+use Rattle.register_records.proofs.Common.{Target, tail_bytes, outcome_seen, take_all, take_more}
 use Rattle.register_records.proofs.RowTailLemmas.{HasCells, all_cells, no_cell, one_more_cell}
 use Rattle.register_records.proofs.row_tails.RowTail.push_listed_cells.Goals as goal
 

@@ -1,6 +1,5 @@
-use Rattle.std.proofs.Common.{◌≡◌, ◌∙◌, ℕ, List, ap, arith, drop, rules, subst, sym}
+use Rattle.register_records.proofs.Common.{◌≡◌, ℕ, List, drop, sym, ap, ◌∙◌, subst, arith, rules, fields_text}
 use Rattle.register_records.proofs.Common.{GainsFields, writing, line_bytes, row_seen, row_targets, tail_fields}
-use Rattle.csv.specs.Writing.{fields_text}
 use Rattle.register_records.proofs.LineLemmas.{tail_alike}
 use Rattle.register_records.proofs.RowTailLemmas.{one_passed}
 use Rattle.register_records.proofs.rows.Row.put_tail_from.Goals as goal

@@ -1,5 +1,5 @@
-use Rattle.std.proofs.Common.{◌≡◌, ◌∙◌, List, ℕ, ap}
-use Rattle.register_records.proofs.Common.{∥∥₁_elim, props, cells_of, outcome_seen, tail_texts, row_targets}
+use Rattle.std.proofs.Common.{◌≡◌, ℕ, List, ap, ◌∙◌}
+use Rattle.register_records.proofs.Common.{cells_of, outcome_seen, tail_texts, row_targets, ∥∥₁_elim, props}
 use Rattle.register_records.proofs.RowTailLemmas.{one_cells}
 use Rattle.register_records.proofs.rows.Row.tail_with.Goals as goal
 

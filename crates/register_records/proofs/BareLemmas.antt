@@ -2,17 +2,18 @@
 use Rattle.std.proofs.Common.{◌≡◌, ℕ, zero, suc, ◌+◌, ◌-◌, ◌*◌, ◌/◌, ◌<◌, ◌≤◌, true, false, List, [], ◌∷◌, ◌++◌, length}
 use Rattle.std.proofs.Common.{get_or, take, drop, IfSome, Some, Err, IsAscii, Option, Result, sym, refl, ap, ◌∙◌, subst}
 use Rattle.std.proofs.Common.{arith, take_all, rules}
-use Rattle.register_records.proofs.Common.{cut_from, needs_byte, needs_quotes, Refusal, IsPlain, has_special}
-use Rattle.register_records.proofs.Common.{is_plain_byte, is_special_byte, are_utf8, body_of, body_of_texts, writing}
-use Rattle.register_records.proofs.Common.{Fields, Texts, texts_of, is_delimiter, CHUNK, Form, take-add, and_parts}
-use Rattle.register_records.proofs.Common.{or_from, or_parts, nat_tests, list_all-append, list_all_more, list_all}
-use Rattle.register_records.proofs.Common.{list_any, option_map_or, ⊤, is_utf8}
+use Rattle.register_records.proofs.Common.{needs_byte, needs_quotes, Refusal, IsPlain, has_special, is_plain_byte}
+use Rattle.register_records.proofs.Common.{is_special_byte, are_utf8, body_of, body_of_texts, writing, Fields, Texts}
+use Rattle.register_records.proofs.Common.{texts_of, is_delimiter, CHUNK, Form, take-add, and_parts, or_from, or_parts}
+use Rattle.register_records.proofs.Common.{nat_tests, list_all-append, list_all_more, list_all, list_any, ⊤, is_utf8}
 use Rattle.std.proofs.lemmas.List.{drop-drop, take-append-drop}
 use Rattle.std.specs.Simd.{first_chunks}
 use Rattle.std.proofs.lemmas.Str.{is_utf8-from_IsUtf8, IsUtf8-from_ascii}
 use Rattle.std.proofs.lemmas.Str.Ascii.{IsAscii-cons, IsAscii-nil}
 use Rattle.std.specs.Result.{result_ok}
 use Rattle.date_texts.specs.declared.refusal.Refusal.TheVariants as refusal
+use Rattle.csv.specs.Records.{cut_from}
+use Rattle.std.specs.Option.{option_map_or}
 
 -- no byte of this text calls for quotes
 abbrev pub IsBare : List ℕ → Type 0

@@ -5,9 +5,9 @@ pub use Rattle.csv.proofs.ReadFacts.{rows-end, rows-more, strip-short}
 pub use Rattle.csv.proofs.WriteFacts.{appends-none, escaped-double, escaped-other, fields-snoc, quoted-step, slice-end}
 unfoldable pub use Rattle.csv.specs.Reading.{strip_bom}
 pub use Rattle.csv.specs.Records.{fields_of}
-unfoldable pub use Rattle.csv.specs.Records.{cut_from, field_at}
-pub use Rattle.csv.specs.Writing.{field_text, needs_byte, needs_quotes, row_body}
-unfoldable pub use Rattle.csv.specs.Writing.{escaped, fields_text, is_blank}
+unfoldable pub use Rattle.csv.specs.Records.{field_at}
+pub use Rattle.csv.specs.Writing.{needs_byte, needs_quotes}
+unfoldable pub use Rattle.csv.specs.Writing.{escaped, fields_text}
 pub use Rattle.csv.specs.declared.parser.Config.{Config}
 pub use Rattle.csv.specs.declared.parser.State.{State}
 pub use Rattle.csv.specs.declared.reader.Reader.{Reader}
@@ -50,8 +50,7 @@ unfoldable pub use Rattle.register_records.specs.Seals.{before_seal}
 pub use Rattle.register_records.specs.Seen.{entry_seen, outcome_seen}
 pub use Rattle.register_records.specs.SetupRules.{is_delimiter}
 pub use Rattle.register_records.specs.ShortLists.{items_in}
-pub use Rattle.register_records.specs.Sources.{ArePartOfTable, Gains, IfBroken, IfWhole, IsFrontOfTable, IsTableOf}
-pub use Rattle.register_records.specs.Sources.{IsTableOfAll, IsWholeTable}
+pub use Rattle.register_records.specs.Sources.{IfBroken, IsFrontOfTable, IsTableOf}
 pub use Rattle.register_records.specs.TableColumns.{column_texts, entry_field, kind_name, kind_names, row_fields}
 pub use Rattle.register_records.specs.TableColumns.{tail_texts, text_shown}
 pub use Rattle.register_records.specs.TablesWritten.{IsNextRow, table_fault}
@@ -81,12 +80,11 @@ pub use Rattle.std.proofs.lemmas.Bool.{and_parts, cases_Bool, cases_lt, false_fr
 pub use Rattle.std.proofs.lemmas.Bool.Decides.{nat_tests}
 pub use Rattle.std.proofs.lemmas.Grind.{common_steps, flat_map-append}
 pub use Rattle.std.proofs.lemmas.Int.{ints}
-pub use Rattle.std.proofs.lemmas.List.{append_cancel_left, length-map, map-append, take_all, take_more, with_items_is}
+pub use Rattle.std.proofs.lemmas.List.{append_cancel_left, length-map, map-append, take_all, take_more}
 pub use Rattle.std.proofs.lemmas.List.Folds.{find_at, list_all-append, list_all_at, list_all_more, list_any-append}
 pub use Rattle.std.proofs.lemmas.List.Sums.{fold-append, passes_at_first, position_or_len_is}
 pub use Rattle.std.specs.Fmt.{signed_decimal}
 pub use Rattle.std.specs.Io.KnownBytes.{Appends, Keeps, append_known}
 pub use Rattle.std.specs.List.{AllZip, list_all, list_any, onto_first, position_or_len, range_with_len, slice_split}
-pub use Rattle.std.specs.Option.{option_map_or}
 pub use Rattle.std.specs.Prelude.{⊤}
 unfoldable pub use Rattle.std.specs.Str.{chars, is_utf8}

@@ -224,3 +224,6 @@ module _ {o : Option (List ℕ)} {reading : Reading} {state : ReaderState} {left
     pub may_many : IfSome left (HasEntry reading.form) → count ≡ record_limit
         → ∥ IfSome o (λ text. HasTooMany reading text) ∥₁
     may_many e full = ∥∥₁_map opened (λ s. too_many reading o s e (sym counted ∙ full))
+
+-- the steps of reading the next entry
+pub ruleset given_steps = (may_ended, may_end, may_fail, may_all, may_many, may_lack, may_above)

@@ -2,13 +2,13 @@
 use Rattle.std.proofs.Common.{◌≡◌, ℕ, ◌+◌, ◌%◌, ◌^◌, ◌<◌, ◌≤◌, Bool, true, false, List, [], ◌∷◌, ◌++◌, map, length}
 use Rattle.std.proofs.Common.{get_or, take, drop, set, ℤ, if◌then◌else◌, ◌==◌, decimal, Result, flat_map, sym, refl, ap}
 use Rattle.std.proofs.Common.{◌∙◌, append_assoc, append-nil, arith, length-append, length-set, length-take-le, rules}
-use Rattle.register_records.proofs.Common.{fields-snoc, field_text, fields_text, is_blank, needs_byte, needs_quotes}
-use Rattle.register_records.proofs.Common.{row_body, target_name, is_plain, Refusal, Target, IsDayNumber, has_special}
-use Rattle.register_records.proofs.Common.{Column, cell_columns, columns, entry_order, kind_columns, tail_order, Begins}
-use Rattle.register_records.proofs.Common.{GainsFields, writing, line_text, TableRow, Texts, is_delimiter, entry_field}
-use Rattle.register_records.proofs.Common.{kind_name, kind_names, row_fields, tail_texts, text_shown, take-append-add}
-use Rattle.register_records.proofs.Common.{and_parts, nat_tests, flat_map-append, ints, map-append, take_more}
-use Rattle.register_records.proofs.Common.{list_any-append, signed_decimal, list_all}
+use Rattle.register_records.proofs.Common.{escaped-double, escaped-other, fields-snoc, fields_text, needs_byte}
+use Rattle.register_records.proofs.Common.{needs_quotes, target_name, is_plain, Refusal, Target, IsDayNumber}
+use Rattle.register_records.proofs.Common.{has_special, Column, cell_columns, columns, entry_order, kind_columns}
+use Rattle.register_records.proofs.Common.{tail_order, Begins, GainsFields, writing, line_text, TableRow, Texts}
+use Rattle.register_records.proofs.Common.{is_delimiter, entry_field, kind_name, kind_names, row_fields, tail_texts}
+use Rattle.register_records.proofs.Common.{text_shown, take-append-add, and_parts, nat_tests, flat_map-append, ints}
+use Rattle.register_records.proofs.Common.{map-append, take_more, list_any-append, signed_decimal, list_all}
 use Rattle.std.proofs.lemmas.Fmt.{length-decimal-le, decimal_by_steps}
 use Rattle.std.proofs.lemmas.List.{at_drop_more, flat_map_more, take_more_set, take-append-le}
 use borrow.Rule.Slice.PartMut.{put_mid}
@@ -17,6 +17,7 @@ use Rattle.register_records.specs.TableColumns.{row_with, heading, kind_fields, 
 use Rattle.register_records.specs.declared.table_columns.ColumnKind.{ColumnKind}
 use Rattle.register_records.specs.declared.table_columns.ColumnKind.TheVariants.{Cells, Id, Note, Calendar, Date}
 use Rattle.register_records.proofs.BareLemmas.{unquoted}
+use Rattle.csv.specs.Writing.{field_text, is_blank, row_body}
 
 -- the bytes of some fields, and of one more
 abbrev pub body : ℕ → List (List ℕ) → List ℕ
@@ -251,3 +252,18 @@ fields_in_parts notes ts row =
     in_kinds (λ (c : Column). c.field row) notes ts
     ∙ ap (λ (fields : List (List ℕ)). fields ++ flat_map (kind_fields ts row) tail_order) (entry_fields notes ts row)
     ∙ ap (λ (fields : List (List ℕ)). map (entry_field row) (entry_order notes) ++ fields) (tail_same row ts)
+
+-- the steps of making a line, and of putting a byte of a quoted field
+pub ruleset line_steps = (
+  ended,
+  fields_in_parts,
+  heading_names,
+  one_column,
+  room_for_rest,
+  same_body,
+  same_line,
+  some_fields,
+  two_of,
+)
+
+pub ruleset escape_steps = (escaped-double, escaped-other, append_assoc)

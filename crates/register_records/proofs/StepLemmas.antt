@@ -87,3 +87,6 @@ plain_no_seal form f h = search rules
 
 pub other_no_seal : (form : Form) (f : Fields) → is_seal f ≡ false → IsNoSeal form f
 other_no_seal form f h = search rules
+
+-- the steps of reading a record, and of what stands behind a seal
+pub ruleset read_steps = (always, entry_left, found, found_none, no_seal_left, not_empty, other_no_seal, plain_no_seal)

@@ -4,11 +4,10 @@ use Rattle.std.proofs.Common.{None, Contains, Option, sym, refl, ap, ◌∙◌, 
 use Rattle.std.proofs.Common.{arith, length-append, rules}
 use Rattle.register_records.proofs.Common.{Target, entry_fault_cause, AreNumberedFrom, HasAllEntries, HasEntries}
 use Rattle.register_records.proofs.Common.{HasFirstEntries, Numbered, Reading, TablesGrow, IsRowOf, TableRow}
-use Rattle.register_records.proofs.Common.{entry_seen, ArePartOfTable, Gains, IfWhole, IsFrontOfTable, IsTableOf}
-use Rattle.register_records.proofs.Common.{IsTableOfAll, IsWholeTable, IsNextRow, table_fault, reading_of, row_seen}
-use Rattle.register_records.proofs.Common.{row_targets, Cause, SourceEnd, EntryFault, Row, Setup, Table, ∥∥₁_elim}
-use Rattle.register_records.proofs.Common.{∥∥₁_map, ∥∥₁_prop, false_from_ne_true, length-map, map-append, Appends}
-use Rattle.register_records.proofs.Common.{append_known, AllZip, range_with_len}
+use Rattle.register_records.proofs.Common.{entry_seen, IsFrontOfTable, IsTableOf, IsNextRow, table_fault, reading_of}
+use Rattle.register_records.proofs.Common.{row_seen, row_targets, Cause, SourceEnd, EntryFault, Row, Setup, Table}
+use Rattle.register_records.proofs.Common.{∥∥₁_elim, ∥∥₁_map, ∥∥₁_prop, false_from_ne_true, length-map, map-append}
+use Rattle.register_records.proofs.Common.{Appends, append_known, AllZip, range_with_len}
 use Rattle.std.proofs.lemmas.List.Elements.{Contains-append_right, Contains-push_cases}
 use Rattle.register_records.specs.TableStates.{fault_of, lines_waiting, lost_output}
 use Rattle.register_records.specs.Tables.{Layout, heading_line, table_text, journal_of, lines_text, refusal_notes}
@@ -23,6 +22,7 @@ use Rattle.register_records.specs.declared.reading.EntryFault.TheVariants as ent
 use Rattle.register_records.specs.declared.tables.TableState.{TableState}
 use Rattle.register_records.specs.declared.tables.TableState.TheVariants as state
 use Rattle.register_records.specs.declared.writing.RowWriter.{RowWriter}
+use Rattle.register_records.specs.Sources.{ArePartOfTable, Gains, IfWhole, IsTableOfAll, IsWholeTable}
 
 lines_last : (layout : Layout) (rows : List TableRow) (row : TableRow)
     → lines_text layout (rows ++ row ∷ []) ≡ lines_text layout rows ++ row_line layout row

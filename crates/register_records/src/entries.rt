@@ -191,6 +191,7 @@ fn are_plain_by_chunks(text: &[u8]) -> bool
 }
 
 /// Whether a text is within its limit, which by its type it is.
+#[tactic(auto, using(crate::proofs::FieldLemmas::text_steps))]
 fn is_within<const N: usize>(text: &ArrayString<N>) -> bool
     ensures is { result ≡ true }
     ensures fits { length text.now.bytes ≤ N }
@@ -264,6 +265,7 @@ fn have_date(
 
 /// Copies a field, which is UTF-8, to a text.
 #[inline(always)]
+#[tactic(auto, using(crate::proofs::FieldLemmas::text_steps))]
 fn copy_text<const N: usize>(copy: &mut ArrayString<N>, field: &[u8])
     requires fits { length field.now ≤ N }
     requires is_text { is_utf8 field.now ≡ true }

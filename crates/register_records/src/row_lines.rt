@@ -60,6 +60,7 @@ fn put_names(lines: &mut LineBuffer, column: ColumnKind, targets: &[Target])
 }
 
 /// Appends the line of the heading. There must be memory for `LINE_ROOM` bytes more.
+#[tactic(auto, using(crate::proofs::LineLemmas::line_steps))]
 pub(crate) fn make_heading(lines: &mut LineBuffer, has_notes: bool, targets: &[Target])
     requires separated { is_delimiter lines.old.delimiter ≡ true }
     requires few { length targets.now ≤ MAX_TARGETS }
@@ -133,6 +134,7 @@ fn put_tail(lines: &mut LineBuffer, row: &Row)
 }
 
 /// Appends the line of a row. There must be memory for `LINE_ROOM` bytes more.
+#[tactic(auto, using(crate::proofs::LineLemmas::line_steps))]
 pub(crate) fn make_row(lines: &mut LineBuffer, has_notes: bool, row: &Row)
     requires separated { is_delimiter lines.old.delimiter ≡ true }
     requires room { lines.old.len + LINE_ROOM ≤ line_capacity lines.old }

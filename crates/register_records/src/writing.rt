@@ -77,6 +77,7 @@ impl RowWriter {
     /// # Errors
     ///
     /// `OutOfMemory`, with the output as it was, and `WriteFault` where the output has failed.
+    #[tactic(auto, using(crate::proofs::StepLemmas::passed_on))]
     pub fn open<W: Output>(
         alloc: Global,
         output: &mut W,

@@ -1,10 +1,7 @@
-use Rattle.std.proofs.Common.{ℕ, List, map, sym, ap, ◌∙◌, subst, append-nil, rules}
+use Rattle.std.proofs.Common.{ℕ, List, map, sym, ap, ◌∙◌, subst}
 use Rattle.register_records.proofs.Common.{target_name, GainsFields, line_bytes, take_all}
-use Rattle.register_records.proofs.LineLemmas.{name_columns, same_body}
+use Rattle.register_records.proofs.LineLemmas.{name_columns}
 use Rattle.register_records.proofs.row_lines.put_names.Goals as goal
-
-pub targets-init : goal.targets-init
-targets-init c = search (rules, same_body, append-nil)
 
 pub returns-after-targets-clause-value : goal.returns-after-targets-clause-value
 returns-after-targets-clause-value c =

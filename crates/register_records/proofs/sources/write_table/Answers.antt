@@ -45,9 +45,6 @@ next_row g c =
 pub put_next-requires-clause-next : goal.put_next-requires-clause-next
 put_next-requires-clause-next g c = next_row g (goal.at.put_next-requires-clause-next g c).Then-branch
 
-pub put_next-requires-clause-open : goal.put_next-requires-clause-open
-put_next-requires-clause-open g c = c.entries.invariant.open_
-
 pub entries-smaller : goal.entries-smaller
 entries-smaller g c =
     let read = c.in_ok-read_next.ensures.reads in let found = c.if-branch.true in

@@ -5,12 +5,6 @@ use Rattle.register_records.proofs.reading.EntryReader.open.Goals as goal
 use Rattle.csv.specs.Reading.{default_config, reader_config}
 use Rattle.register_records.specs.ReadingState.{records_left}
 
-pub read_record-requires : goal.read_record-requires
-read_record-requires g c = search rules
-
-pub returns-then-not-found-clause-bad : goal.returns-then-not-found-clause-bad
-returns-then-not-found-clause-bad g c _ = search rules
-
 pub invariant_of-result : goal.invariant_of-result
 invariant_of-result g c =
     let fr = c.from_reader-records.ensures in

@@ -21,6 +21,3 @@ cells-preserved c =
 
 pub returns-clause-value : goal.returns-clause-value
 returns-clause-value c cells known = search (rules, take_all, all_cells)
-
-pub invariant_of-self-clause-plain : goal.invariant_of-self-clause-plain
-invariant_of-self-clause-plain c = c.cells.invariant.made.put.plain

@@ -1,11 +1,8 @@
-use Rattle.register_records.proofs.Common.{◌≡◌, ℕ, List, drop, sym, ap, ◌∙◌, subst, arith, rules, fields_text}
-use Rattle.register_records.proofs.Common.{GainsFields, writing, line_bytes, row_seen, row_targets, tail_fields}
+use Rattle.register_records.proofs.Common.{◌≡◌, ℕ, List, drop, sym, ap, ◌∙◌, subst, arith, fields_text, GainsFields}
+use Rattle.register_records.proofs.Common.{writing, line_bytes, row_seen, row_targets, tail_fields}
 use Rattle.register_records.proofs.LineLemmas.{tail_alike}
 use Rattle.register_records.proofs.RowTailLemmas.{one_passed}
 use Rattle.register_records.proofs.rows.Row.put_tail_from.Goals as goal
-
-pub passed-init : goal.passed-init
-passed-init c = search rules
 
 pub passed-preserved : goal.passed-preserved
 passed-preserved c =

@@ -8,9 +8,3 @@ next_outcome-next-requires-clause-known g c =
 
 pub reconvert-requires-clause-cells : goal.reconvert-requires-clause-cells
 reconvert-requires-clause-cells g c = ∥∥₁_map c.args.self.now.is_row (λ is. is.cells)
-
-pub returns-in-Ok-false : goal.returns-in-Ok-false
-returns-in-Ok-false g c = search rules
-
-pub returns-in-Err : goal.returns-in-Err
-returns-in-Err g c = search rules

@@ -1,27 +1,22 @@
--- The names that several of these proofs cite, passed on from one place.
+-- The names that these proofs cite, passed on from one place, so that few lines of imports serve.
 pub use Rattle.byte_buffers.proofs.BufferLemmas.{put_then}
 pub use Rattle.byte_buffers.specs.declared.comparing.TheConstants.{WORD_LEN}
 pub use Rattle.csv.proofs.ReadFacts.{rows-end, rows-more, strip-short}
 pub use Rattle.csv.proofs.WriteFacts.{appends-none, escaped-double, escaped-other, fields-snoc, quoted-step, slice-end}
-unfoldable pub use Rattle.csv.specs.Reading.{strip_bom}
+unfoldable pub use Rattle.csv.specs.Reading.{records_from, strip_bom}
 pub use Rattle.csv.specs.Records.{fields_of}
-unfoldable pub use Rattle.csv.specs.Records.{field_at}
 pub use Rattle.csv.specs.Writing.{needs_byte, needs_quotes}
 unfoldable pub use Rattle.csv.specs.Writing.{escaped, fields_text}
-pub use Rattle.csv.specs.declared.parser.Config.{Config}
-pub use Rattle.csv.specs.declared.parser.State.{State}
 pub use Rattle.csv.specs.declared.reader.Reader.{Reader}
 pub use Rattle.date_texts.proofs.TextWords.{all_digits, value_after}
 pub use Rattle.date_texts.specs.Calendars.{all_targets, calendar_name, default_targets, target_name}
 pub use Rattle.date_texts.specs.Cells.{IsCell, is_plain, no_date, on_date}
-pub use Rattle.date_texts.specs.Dates.{IsDateOfCalendar, calendar_of_date, day_number_of_date}
+pub use Rattle.date_texts.specs.DateText.{IsDateText}
 pub use Rattle.date_texts.specs.Laws.{CanonicalTextsReadBack, CellsArePlain, OneCalendar, OneCell, OneDateText}
 pub use Rattle.date_texts.specs.Names.{IsNamed}
 pub use Rattle.date_texts.specs.Numerals.{IsNumeral}
 pub use Rattle.date_texts.specs.Refusals.{refusal_number}
 pub use Rattle.date_texts.specs.Trimmed.{trimmed}
-pub use Rattle.date_texts.specs.declared.calendar.Calendar.{Calendar}
-pub use Rattle.date_texts.specs.declared.date.Date.{Date}
 pub use Rattle.date_texts.specs.declared.refusal.Refusal.{Refusal}
 pub use Rattle.date_texts.specs.declared.target.Target.{Target}
 pub use Rattle.date_texts.specs.declared.target.Target.TheVariants.{Haab}
@@ -30,10 +25,9 @@ pub use Rattle.day_numbers.specs.declared.day.Day.{Day}
 pub use Rattle.register_records.specs.BareTexts.{IsPlain, has_special, is_plain_byte, is_special_byte}
 pub use Rattle.register_records.specs.Causes.{entry_fault_cause}
 pub use Rattle.register_records.specs.Columns.{Column, cell_columns, columns, entry_order, kind_columns, tail_order}
-pub use Rattle.register_records.specs.Entries.{AreAfterHeader, AreAll, AreNumberedFrom, HasAllEntries, HasEntries}
-pub use Rattle.register_records.specs.Entries.{HasFirstEntries, HasRecords, HasTooMany, HaveOneDate, IsNotSealed}
-pub use Rattle.register_records.specs.Entries.{Numbered, Reading, are_fit, are_utf8, body_of, body_of_texts, body_seen}
-pub use Rattle.register_records.specs.Entries.{entries_of, record_limit, text_records}
+pub use Rattle.register_records.specs.Entries.{AreNumberedFrom, HasAllEntries, HasEntries, HasFirstEntries, HasTooMany}
+pub use Rattle.register_records.specs.Entries.{HaveOneDate, IsNotSealed, Numbered, Reading, are_fit, are_utf8, body_of}
+pub use Rattle.register_records.specs.Entries.{body_of_texts, body_seen, record_limit}
 unfoldable pub use Rattle.register_records.specs.Entries.{entries_from}
 pub use Rattle.register_records.specs.Headers.{IsHeader}
 pub use Rattle.register_records.specs.Laws.{CellsReadBack, EveryTextHasTable, OneTable, TablesGrow}
@@ -42,7 +36,7 @@ pub use Rattle.register_records.specs.LineViews.{GrowsBy, line_bytes, line_capac
 pub use Rattle.register_records.specs.Lines.{fields_behind, line_text}
 pub use Rattle.register_records.specs.Outcomes.{AreCells, IsOutcome, IsRowOf, Says, TableRow, accepted, no_date_text}
 pub use Rattle.register_records.specs.Outcomes.{no_such_date, out_of_range, refused, unknown_calendar}
-pub use Rattle.register_records.specs.Records.{Fields, Texts, texts_of}
+pub use Rattle.register_records.specs.Records.{Fields, Texts, has_notes, texts_of}
 pub use Rattle.register_records.specs.Retrying.{inner_remaining}
 pub use Rattle.register_records.specs.RowTails.{cells_of, tail_bytes}
 pub use Rattle.register_records.specs.Seals.{Agrees, AreClosed, entry_records, is_seal}
@@ -50,15 +44,14 @@ unfoldable pub use Rattle.register_records.specs.Seals.{before_seal}
 pub use Rattle.register_records.specs.Seen.{entry_seen, outcome_seen}
 pub use Rattle.register_records.specs.SetupRules.{is_delimiter}
 pub use Rattle.register_records.specs.ShortLists.{items_in}
-pub use Rattle.register_records.specs.Sources.{IfBroken, IsFrontOfTable, IsTableOf}
+pub use Rattle.register_records.specs.Sources.{IsFrontOfTable, IsTableOf}
 pub use Rattle.register_records.specs.TableColumns.{column_texts, entry_field, kind_name, kind_names, row_fields}
 pub use Rattle.register_records.specs.TableColumns.{tail_texts, text_shown}
+pub use Rattle.register_records.specs.Tables.{table_text}
 pub use Rattle.register_records.specs.TablesWritten.{IsNextRow, table_fault}
 pub use Rattle.register_records.specs.TargetRanks.{have_one_name, rank_of, ranks_in}
 pub use Rattle.register_records.specs.Views.{given_of, reader_failed, reading_of, reads_by, row_seen, row_targets}
 pub use Rattle.register_records.specs.Views.{tail_fields, targets_of, text_of}
-pub use Rattle.register_records.specs.declared.ends.Cause.{Cause}
-pub use Rattle.register_records.specs.declared.ends.SourceEnd.{SourceEnd}
 pub use Rattle.register_records.specs.declared.entries.Entry.{Entry}
 pub use Rattle.register_records.specs.declared.entries.TheConstants.{CHUNK}
 pub use Rattle.register_records.specs.declared.reading.EntryFault.{EntryFault}
@@ -66,13 +59,11 @@ pub use Rattle.register_records.specs.declared.row_tails.TheConstants.{CELL_ROOM
 pub use Rattle.register_records.specs.declared.rows.Row.{Row}
 pub use Rattle.register_records.specs.declared.setups.Form.{Form}
 pub use Rattle.register_records.specs.declared.setups.Form.TheVariants.{Plain, Sealed}
-pub use Rattle.register_records.specs.declared.setups.Setup.{Setup}
-pub use Rattle.register_records.specs.declared.tables.Table.{Table}
 pub use Rattle.register_records.specs.declared.target_lists.TheConstants.{RANK_ROOM}
-pub use Rattle.std.proofs.Common.{◌≡◌, ℕ, ◌+◌, ◌-◌, ◌*◌, ◌^◌, ◌<◌, ◌≤◌, Bool, true, false, ◌↔◌, List, [], ◌∷◌, ◌++◌}
-pub use Rattle.std.proofs.Common.{map, length, get_or, take, drop, ℤ, IfSome, if◌then◌else◌, nat_lt, Some, None, Ok}
-pub use Rattle.std.proofs.Common.{Err, decimal, Option, Result, option_map, flat_map, sym, refl, ap, ◌∙◌, subst, inl}
-pub use Rattle.std.proofs.Common.{inr, append_assoc, append-nil, add-one, arith, length-append, rules}
+pub use Rattle.std.proofs.Common.{◌≡◌, ℕ, ◌+◌, ◌-◌, ◌*◌, ◌^◌, ◌<◌, ◌≤◌, true, false, ◌↔◌, List, [], ◌∷◌, ◌++◌, map}
+pub use Rattle.std.proofs.Common.{length, get_or, take, drop, IfSome, nat_lt, Some, None, Ok, Err, decimal, Option}
+pub use Rattle.std.proofs.Common.{option_map, flat_map, sym, refl, ap, ◌∙◌, subst, inl, append_assoc, append-nil}
+pub use Rattle.std.proofs.Common.{add-one, arith, length-append, rules}
 pub use Rattle.std.proofs.Math.Logic.{∥∥₁_elim, ∥∥₁_map, ∥∥₁_prop}
 pub use Rattle.std.proofs.Math.Seq.{drop-append_seam, take-add, take-append-add}
 pub use Rattle.std.proofs.Props.{props}

@@ -2,12 +2,12 @@
 use Rattle.std.proofs.Common.{◌≡◌, ℕ, ◌<◌, ◌≤◌, Bool, true, false, List, [], ◌∷◌, ◌++◌, length, IsSomeAnd}
 use Rattle.std.proofs.Common.{if◌then◌else◌, IsTrue, Some, None, codes, Option, sym, refl, ap, ◌∙◌, subst, inl, inr}
 use Rattle.std.proofs.Common.{arith, rules}
-use Rattle.register_records.proofs.Common.{strip_bom, IsNamed, IsNumeral, trimmed, AreAfterHeader, AreAll, HasRecords}
-use Rattle.register_records.proofs.Common.{Reading, entries_of, record_limit, text_records, IsHeader, Fields, Texts}
-use Rattle.register_records.proofs.Common.{texts_of, Agrees, AreClosed, before_seal, entry_records, is_seal, Form}
-use Rattle.register_records.proofs.Common.{Plain, Sealed, append_cancel_left}
+use Rattle.register_records.proofs.Common.{strip_bom, IsNamed, IsNumeral, trimmed, Reading, record_limit, IsHeader}
+use Rattle.register_records.proofs.Common.{Fields, Texts, texts_of, Agrees, AreClosed, before_seal, entry_records}
+use Rattle.register_records.proofs.Common.{is_seal, Form, Plain, Sealed, append_cancel_left}
 use Rattle.date_texts.proofs.DecisionLemmas.{Is, all_four, both, in_words, is_at_most, is_named, is_number, is_true}
 use Rattle.register_records.specs.Laws.{Fate, HasFate, OneFate, accepted, no_header, not_sealed, too_many}
+use Rattle.register_records.specs.Entries.{AreAfterHeader, AreAll, HasRecords, entries_of, text_records}
 
 -- whether a record is an accepted header
 is_noted : (form : Form) (note : List ℕ) → Is (form ≡ Sealed → IsNamed note (codes "note"))

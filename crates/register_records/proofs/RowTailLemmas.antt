@@ -18,7 +18,7 @@ use Rattle.register_records.specs.RowTails.{is_cells, fields_of}
 use Rattle.register_records.specs.TableColumns.{row_with, IsCellField}
 use Rattle.register_records.specs.declared.row_tails.RowTail.{RowTail}
 use Rattle.register_records.specs.declared.table_columns.ColumnKind.TheVariants.{Cells, Refusal as RefusalColumn}
-use Rattle.register_records.proofs.EveryTableLemmas.{has_cells}
+use Rattle.register_records.proofs.OutcomeLemmas.{has_cells, one_cells}
 use Rattle.register_records.proofs.LineLemmas.{more_fields_text, plain_bytes, plain_text, plain_day, plain_decimal}
 
 -- the bytes of fields behind delimiters
@@ -193,18 +193,6 @@ no_cells : (r : Refusal) (place : ℕ) (ts : List Target) (fields : List (List �
 no_cells r place (t ∷ ts) (x ∷ fields) a =
     grind (arith, ints, no_cells r (place + 1) ts fields a.1, nothing_at place, a.0)
 no_cells r place ts fields a = search (rules, ints, nothing_at)
-
--- where one thing can stand beside each item of a list, one list can stand beside it
-pub one_beside : {A B : Type 0} (R : A → B → Type 0) → ((x : A) (y z : B) → R x y → R x z → y ≡ z)
-    → (xs : List A) (ys zs : List B) → AllZip R xs ys → AllZip R xs zs → ys ≡ zs
-one_beside R one (x ∷ xs) (y ∷ ys) (z ∷ zs) a b =
-    grind (arith, ints, one x y z a.0 b.0, one_beside R one xs ys zs a.1 b.1)
-one_beside R one xs ys zs a b = search (rules, ints)
-
--- a row has one list of cells
-pub one_cells : OneCell → (o : Result ℤ Refusal) (ts : List Target) (xs ys : List (List ℕ)) → AreCells ts o xs
-    → AreCells ts o ys → xs ≡ ys
-one_cells law o ts xs ys a b = search (rules, one_beside)
 
 -- what was appended in four steps
 pub four_texts : {A : Type 0} {none one two three four : List A} (a b c d : List A) → none ≡ [] → one ≡ none ++ a

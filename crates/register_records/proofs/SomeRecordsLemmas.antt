@@ -3,14 +3,13 @@ use Rattle.std.proofs.Common.{◌≡◌, ℕ, ◌+◌, ◌≤◌, true, false, L
 use Rattle.std.proofs.Common.{Err, Result, sym, refl, ap, ◌∙◌, subst, append-nil, arith, rules}
 use Rattle.register_records.proofs.Common.{Refusal, Target, entry_order, AreNumberedFrom, HasFirstEntries, Numbered}
 use Rattle.register_records.proofs.Common.{Reading, are_fit, body_of, entries_from, record_limit, IsOutcome, IsRowOf}
-use Rattle.register_records.proofs.Common.{TableRow, Fields, Texts, before_seal, entry_records, is_seal, entry_seen}
-use Rattle.register_records.proofs.Common.{IsFrontOfTable, entry_field, row_fields, tail_texts, row_seen, Row, Form}
-use Rattle.register_records.proofs.Common.{Plain, Sealed, and_parts, nat_tests, length-map, AllZip, ⊤, chars, is_utf8}
-use Rattle.register_records.proofs.OutcomeLemmas.{outcome_of_same}
-use Rattle.register_records.proofs.EveryTableLemmas.{AreInOrder, numbered as in_order}
+use Rattle.register_records.proofs.Common.{TableRow, Fields, Texts, has_notes, before_seal, entry_records, is_seal}
+use Rattle.register_records.proofs.Common.{entry_seen, IsFrontOfTable, entry_field, row_fields, tail_texts, table_text}
+use Rattle.register_records.proofs.Common.{row_seen, Row, Form, Plain, Sealed, and_parts, nat_tests, length-map, AllZip}
+use Rattle.register_records.proofs.Common.{⊤, chars, is_utf8}
+use Rattle.register_records.proofs.OutcomeLemmas.{outcome_of_same, AreInOrder, numbered as in_order}
 use Rattle.date_texts.specs.declared.refusal.Refusal.TheVariants as refusal
-use Rattle.register_records.specs.Records.{has_notes}
-use Rattle.register_records.specs.Tables.{Layout, heading_line, table_text, lines_text}
+use Rattle.register_records.specs.Tables.{Layout, heading_line, lines_text}
 use Rattle.register_records.proofs.FieldLemmas.{no_bytes}
 use Rattle.register_records.proofs.LineLemmas.{fields_in_parts}
 

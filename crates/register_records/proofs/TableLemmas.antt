@@ -1,28 +1,36 @@
--- What a table in the making holds, and what the output of a source has gained.
-use Rattle.std.proofs.Common.{◌≡◌, ℕ, ◌+◌, Bool, true, false, ◌≢◌, ◌⊎◌, List, [], ◌∷◌, ◌++◌, map, length, is_some, Some}
-use Rattle.std.proofs.Common.{None, Contains, Option, sym, refl, ap, ◌∙◌, subst, inl, inr, append_assoc, append-nil}
-use Rattle.std.proofs.Common.{arith, length-append, rules}
+-- What a table in the making holds, what the output of a source has gained, and how writing its table ends.
+use Rattle.std.proofs.Common.{◌≡◌, ℕ, ◌+◌, ◌-◌, ◌<◌, ◌≤◌, Bool, true, false, ◌≢◌, ◌⊎◌, List, [], ◌∷◌, ◌++◌, map, length}
+use Rattle.std.proofs.Common.{is_some, IfSome, Some, None, Err, Contains, Option, sym, refl, ap, ◌∙◌, subst, inl, inr}
+use Rattle.std.proofs.Common.{append_assoc, append-nil, arith, length-append, rules}
 use Rattle.register_records.proofs.Common.{Target, entry_fault_cause, AreNumberedFrom, HasAllEntries, HasEntries}
-use Rattle.register_records.proofs.Common.{HasFirstEntries, Numbered, Reading, TablesGrow, IsRowOf, TableRow}
-use Rattle.register_records.proofs.Common.{entry_seen, IsFrontOfTable, IsTableOf, IsNextRow, table_fault, reading_of}
-use Rattle.register_records.proofs.Common.{row_seen, row_targets, Cause, SourceEnd, EntryFault, Row, Setup, Table}
-use Rattle.register_records.proofs.Common.{∥∥₁_elim, ∥∥₁_map, ∥∥₁_prop, false_from_ne_true, length-map, map-append}
-use Rattle.register_records.proofs.Common.{Appends, append_known, AllZip, range_with_len}
+use Rattle.register_records.proofs.Common.{HasFirstEntries, HasTooMany, IsNotSealed, Numbered, Reading, record_limit}
+use Rattle.register_records.proofs.Common.{IsRowOf, TableRow, entry_seen, IsFrontOfTable, IsTableOf}
+use Rattle.register_records.proofs.Common.{table_text, IsNextRow, table_fault, given_of, reader_failed, reading_of}
+use Rattle.register_records.proofs.Common.{reads_by, row_seen, row_targets, text_of, Entry, EntryFault, Row, ∥∥₁_elim}
+use Rattle.register_records.proofs.Common.{∥∥₁_map, ∥∥₁_prop, false_from_ne_true, length-map, map-append, Appends}
+use Rattle.register_records.proofs.Common.{append_known, AllZip, range_with_len}
 use Rattle.std.proofs.lemmas.List.Elements.{Contains-append_right, Contains-push_cases}
-use Rattle.register_records.specs.TableStates.{fault_of, lines_waiting, lost_output}
-use Rattle.register_records.specs.Tables.{Layout, heading_line, table_text, journal_of, lines_text, refusal_notes}
-use Rattle.register_records.specs.Tables.{row_line}
+use Rattle.register_records.specs.TableStates.{fault_of, lines_waiting, lost_output, is_of_table}
+use Rattle.register_records.specs.Tables.{Layout, heading_line, journal_of, lines_text, refusal_notes, row_line}
 use Rattle.register_records.specs.TablesWritten.{HasEnded, Holds, IsSameTable, IsTableSoFar, entries_seen}
 use Rattle.register_records.specs.TablesWritten.{has_lost_output, is_headed, made_by, made_for, rows_seen, waiting_of}
 use Rattle.register_records.specs.Views.{layout_of, line_of, waiting_in, writes_by}
+use Rattle.register_records.specs.declared.tables.TableState.{TableState}
+use Rattle.register_records.specs.declared.writing.RowWriter.{RowWriter}
+use Rattle.register_records.specs.Sources.{IfBroken, ArePartOfTable, Gains, IfWhole, IsTableOfAll, IsWholeTable}
+use Rattle.std.specs.declared.io.traits.Read.{Ghosts}
+use Rattle.register_records.specs.NextEntries.{ReadsNext}
+use Rattle.register_records.specs.SourceTables.{IsBroken}
+use Rattle.register_records.specs.declared.reading.EntryReader.{EntryReader}
 use Rattle.register_records.specs.declared.ends.Cause.TheVariants as cause
 use Rattle.register_records.specs.declared.ends.SourceEnd.TheVariants as end
 use Rattle.register_records.specs.declared.outputs.Output as outputs
 use Rattle.register_records.specs.declared.reading.EntryFault.TheVariants as entry
-use Rattle.register_records.specs.declared.tables.TableState.{TableState}
 use Rattle.register_records.specs.declared.tables.TableState.TheVariants as state
-use Rattle.register_records.specs.declared.writing.RowWriter.{RowWriter}
-use Rattle.register_records.specs.Sources.{ArePartOfTable, Gains, IfWhole, IsTableOfAll, IsWholeTable}
+use Rattle.register_records.specs.declared.ends.Cause.{Cause}
+use Rattle.register_records.specs.declared.ends.SourceEnd.{SourceEnd}
+use Rattle.register_records.specs.declared.setups.Setup.{Setup}
+use Rattle.register_records.specs.declared.tables.Table.{Table}
 
 lines_last : (layout : Layout) (rows : List TableRow) (row : TableRow)
     → lines_text layout (rows ++ row ∷ []) ≡ lines_text layout rows ++ row_line layout row
@@ -30,18 +38,15 @@ unfolding lines_text
 lines_last layout [] row = append-nil (row_line layout row)
 lines_last layout (x ∷ rows) row = search (rules, append_assoc, lines_last layout rows row)
 
-journal_last : (rows : List TableRow) (row : TableRow)
+pub journal_last : (rows : List TableRow) (row : TableRow)
     → journal_of (rows ++ row ∷ []) ≡ journal_of rows ++ refusal_notes row.number row.outcome
 unfolding journal_of
 journal_last [] row = append-nil (refusal_notes row.number row.outcome)
 journal_last (x ∷ rows) row = grind (arith, journal_last rows row)
 
-table_last : (layout : Layout) (rows : List TableRow) (row : TableRow)
+pub table_last : (layout : Layout) (rows : List TableRow) (row : TableRow)
     → table_text layout (rows ++ row ∷ []) ≡ table_text layout rows ++ row_line layout row
 table_last layout rows row = search (rules, lines_last, append_assoc)
-
-pub tables_grow : TablesGrow
-tables_grow layout rows row = (table_last layout rows row, journal_last rows row)
 
 no_lines : (layout : Layout) → lines_text layout [] ≡ []
 unfolding lines_text
@@ -332,3 +337,64 @@ module _ {W : Type 0} (o : outputs.Ghosts W) (start : W) (setup : Setup) (text :
     all_rows h = rw (f.same.0, f.same.1) at (∥∥₁_elim (are_rows o table output f.rows f.holds f.sent) ∥∥₁_prop (λ are.
         ∥∥₁_map (rw (sym f.same.1, f.all open_) at h)
         (all_so o table output f.rows f.holds f.sent text are good (f.headed open_))))
+
+-- which causes there are of a table, of a row, and of a reader behind the header that has not failed before
+other_than : (f : Option Cause) (c d : Cause) → f ≡ Some c → IfSome f (λ c. is_of_table c ≡ true)
+    → is_of_table d ≡ false → c ≢ d
+other_than f c d e of not is = search rules
+
+pub of_row : (c : Cause) → (c ≡ cause.NoMemory) ⊎ (c ≡ cause.SinkFault) → c ≢ cause.Unconfirmed
+of_row c of is = search rules
+
+of_reading : (f : EntryFault) (c : Cause) → c ≡ entry_fault_cause f → (f ≢ entry.BadHeader) × (f ≢ entry.Failed)
+    → (c ≢ cause.SinkFault) × (c ≢ cause.BadHeader) × (c ≢ cause.NoThread) × (c ≢ cause.Unconfirmed)
+of_reading f c e other = search rules
+
+-- fewer entries may follow those given once another was given
+pub fewer_left : (given more : List Numbered) (entry : Numbered) (n : ℕ) → more ≡ given ++ entry ∷ []
+    → (n ≡ length given + 1) × (n ≤ record_limit) → record_limit - length more < record_limit - length given
+fewer_left given more entry n e number =
+    omega (arith, ap length e, length-append given (entry ∷ []), number.0, number.1)
+
+-- a table that goes on does not end as broken
+pub unbroken : {W : Type 0} (e : SourceEnd) (table : Table W) (IsSo : Cause → Type 0) → table_fault table ≡ None
+    → IfBroken e (λ c. table_fault table ≡ Some c) → IfBroken e IsSo
+unbroken (end.Whole rows refused journal) table IsSo open_ is = tt
+unbroken (end.Broken c) table IsSo open_ is = let clash = sym open_ ∙ is in absurd (cc)
+
+module _ {W : Type 0} (o : outputs.Ghosts W) (start : W) (setup : Setup) (text : Option (List ℕ))
+    (given : List Numbered) (table : Table W) (output : W) where
+  -- a fault of the table or of the output
+  pub broken_by_table : (c : Cause) → table_fault table ≡ Some c → c ≢ cause.Unconfirmed
+      → (c ≡ cause.SinkFault → o.has_failed output ≡ true) → o.own_mark output ≡ o.own_mark start
+      → ((c ≢ cause.SinkFault) → Follows o start setup text given table output)
+      → IsBroken o setup text start output c
+  broken_by_table c fault known failed mark follows =
+      let not = λ (d : Cause) (e : is_of_table d ≡ false). other_than _ c d fault table.of_table e in
+      search (rules, front, kept, other_cause, not, follows, failed)
+
+  -- a fault of reading
+  pub broken_by_reader : {R : Type 0} {g : Ghosts R} (old new : EntryReader R g) (entry : Entry) (f : EntryFault)
+      → ReadsNext old new entry (Err f) → text_of old ≡ text → reads_by old ≡ reading_of setup
+      → reader_failed old ≡ false → given_of old ≡ given → table_fault table ≡ None
+      → Follows o start setup text given table output → IsBroken o setup text start output (entry_fault_cause f)
+  broken_by_reader old new entry f reads text_is by_is goes given_is open_ follows =
+      let text_now = reads.text.0 ∙ text_is in let by = reads.text.1 ∙ by_is in
+      let never = of_reading f _ refl (reads.no_header, reads.only_failed goes) in
+      let other : table_fault table ≢ Some cause.SinkFault = λ is. let e = sym open_ ∙ is in absurd (cc) in record {
+        part = λ is. front _ _ _ _ _ _ _ follows other;
+        too_many = λ is. let past = reads.many (only_many f _ refl is) in (
+          of_reader (λ reading text _. IfSome text (λ t. HasTooMany reading t)) _ _ _ _ [] [] text_now by refl past.1,
+          first_rows _ _ _ _ _ _ _ follows open_ _ (ap length (sym given_is) ∙ past.0),
+        );
+        not_sealed = λ is. let which = only_not_sealed f _ refl is in let lacks = reads.not_sealed which in (
+          sym (ap (λ (reading : Reading). reading.form) by) ∙ lacks.0,
+          of_reader (λ reading text _. IfSome text (λ t. IsNotSealed reading t)) _ _ _ _ [] [] text_now by refl lacks.1,
+          all_rows _ _ _ _ _ _ _ follows open_
+              (of_reader HasAllEntries _ _ _ _ _ _ text_now by (reads.kept ∙ given_is) (reads.above which)),
+        );
+        never = (never.1, never.2, never.3);
+        sink = λ is. absurd (never.0 is);
+        kept = λ is. kept _ _ _ _ _ _ _ follows other;
+        mark = marked _ _ _ _ _ _ _ follows;
+      }

@@ -1,6 +1,6 @@
 use Rattle.std.proofs.Common.{◌≡◌, ℕ, List, ap, ◌∙◌}
 use Rattle.register_records.proofs.Common.{cells_of, outcome_seen, tail_texts, row_targets, ∥∥₁_elim, props}
-use Rattle.register_records.proofs.RowTailLemmas.{one_cells}
+use Rattle.register_records.proofs.OutcomeLemmas.{one_cells}
 use Rattle.register_records.proofs.rows.Row.tail_with.Goals as goal
 
 pub returns-clause-value : goal.returns-clause-value

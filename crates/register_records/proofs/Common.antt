@@ -10,9 +10,9 @@ unfoldable pub use Rattle.csv.specs.Writing.{escaped, fields_text}
 pub use Rattle.csv.specs.declared.reader.Reader.{Reader}
 pub use Rattle.date_texts.proofs.TextWords.{all_digits, value_after}
 pub use Rattle.date_texts.specs.Calendars.{all_targets, calendar_name, default_targets, target_name}
-pub use Rattle.date_texts.specs.Cells.{IsCell, is_plain, no_date, on_date}
+pub use Rattle.date_texts.specs.Cells.{is_plain}
 pub use Rattle.date_texts.specs.DateText.{IsDateText}
-pub use Rattle.date_texts.specs.Laws.{CanonicalTextsReadBack, CellsArePlain, OneCalendar, OneCell, OneDateText}
+pub use Rattle.date_texts.specs.Laws.{CellsArePlain, OneCalendar, OneCell, OneDateText}
 pub use Rattle.date_texts.specs.Names.{IsNamed}
 pub use Rattle.date_texts.specs.Numerals.{IsNumeral}
 pub use Rattle.date_texts.specs.Refusals.{refusal_number}
@@ -30,7 +30,6 @@ pub use Rattle.register_records.specs.Entries.{HaveOneDate, IsNotSealed, Numbere
 pub use Rattle.register_records.specs.Entries.{body_of_texts, body_seen, record_limit}
 unfoldable pub use Rattle.register_records.specs.Entries.{entries_from}
 pub use Rattle.register_records.specs.Headers.{IsHeader}
-pub use Rattle.register_records.specs.Laws.{CellsReadBack, EveryTextHasTable, OneTable, TablesGrow}
 pub use Rattle.register_records.specs.LineRoom.{Begins, GainsFields, field_room, name_limit, writing}
 pub use Rattle.register_records.specs.LineViews.{GrowsBy, line_bytes, line_capacity}
 pub use Rattle.register_records.specs.Lines.{fields_behind, line_text}
@@ -44,10 +43,8 @@ unfoldable pub use Rattle.register_records.specs.Seals.{before_seal}
 pub use Rattle.register_records.specs.Seen.{entry_seen, outcome_seen}
 pub use Rattle.register_records.specs.SetupRules.{is_delimiter}
 pub use Rattle.register_records.specs.ShortLists.{items_in}
-pub use Rattle.register_records.specs.Sources.{IsFrontOfTable, IsTableOf}
 pub use Rattle.register_records.specs.TableColumns.{column_texts, entry_field, kind_name, kind_names, row_fields}
 pub use Rattle.register_records.specs.TableColumns.{tail_texts, text_shown}
-pub use Rattle.register_records.specs.Tables.{table_text}
 pub use Rattle.register_records.specs.TablesWritten.{IsNextRow, table_fault}
 pub use Rattle.register_records.specs.TargetRanks.{have_one_name, rank_of, ranks_in}
 pub use Rattle.register_records.specs.Views.{given_of, reader_failed, reading_of, reads_by, row_seen, row_targets}

@@ -1,14 +1,13 @@
--- The outcome of a record: that it has one, and only one, so that every accepted text has a table, and one at most; and what
--- the calls that read its texts say of it.
+-- The outcome of a record: that it has one, and one only, so that every accepted text has one table; and what the calls
+-- that read its texts say of it.
 use Rattle.std.proofs.Common.{◌≡◌, ℕ, ◌+◌, Bool, true, false, ◌↔◌, List, [], ◌∷◌, map, length, ℤ, IfOk, if◌then◌else◌}
 use Rattle.std.proofs.Common.{IsOk, nat_lt, Some, None, Ok, Err, Option, Result, sym, refl, ◌∙◌, subst, inl, inr, arith}
 use Rattle.std.proofs.Common.{rules}
-use Rattle.register_records.proofs.Common.{calendar_name, IsCell, IsDateText, OneCalendar, OneCell, OneDateText}
-use Rattle.register_records.proofs.Common.{IsNamed, Refusal, Target, IsDayNumber, Day, HaveOneDate, Numbered}
-use Rattle.register_records.proofs.Common.{entries_from, record_limit, AreCells, IsOutcome}
-use Rattle.register_records.proofs.Common.{IsRowOf, Says, TableRow, accepted, no_date_text, no_such_date, out_of_range}
-use Rattle.register_records.proofs.Common.{refused, unknown_calendar, Fields, Texts, outcome_seen}
-use Rattle.register_records.proofs.Common.{Form, ∥∥₁_elim, props, ints, AllZip, range_with_len}
+use Rattle.register_records.proofs.Common.{calendar_name, IsDateText, OneCalendar, OneCell, OneDateText, IsNamed}
+use Rattle.register_records.proofs.Common.{Refusal, Target, IsDayNumber, Day, HaveOneDate, Numbered, entries_from}
+use Rattle.register_records.proofs.Common.{record_limit, AreCells, IsOutcome, IsRowOf, Says, TableRow, accepted}
+use Rattle.register_records.proofs.Common.{no_date_text, no_such_date, out_of_range, refused, unknown_calendar, Fields}
+use Rattle.register_records.proofs.Common.{Texts, outcome_seen, Form, ∥∥₁_elim, props, ints, AllZip, range_with_len}
 use Rattle.date_texts.proofs.DateDecisionLemmas.{has_cell, is_date_of_calendar, names_calendar, says_date}
 use Rattle.date_texts.proofs.DecisionLemmas.{is_between}
 use Rattle.date_texts.specs.declared.refusal.Refusal.TheVariants as refusal
@@ -16,6 +15,7 @@ use Rattle.register_records.specs.Outcomes as outcome
 use Rattle.date_texts.specs.Dates.{day_number_of_date, IsDateOfCalendar}
 use Rattle.date_texts.specs.declared.calendar.Calendar.{Calendar}
 use Rattle.date_texts.specs.declared.date.Date.{Date}
+use Rattle.date_texts.specs.Cells.{IsCell}
 
 -- the outcome of a body
 abbrev pub HasOutcome : Result Texts Refusal → Type 0

@@ -4,14 +4,14 @@ use Rattle.std.proofs.Common.{Err, Result, sym, refl, ap, ◌∙◌, subst, appe
 use Rattle.register_records.proofs.Common.{Refusal, Target, entry_order, AreNumberedFrom, HasFirstEntries, Numbered}
 use Rattle.register_records.proofs.Common.{Reading, are_fit, body_of, entries_from, record_limit, IsOutcome, IsRowOf}
 use Rattle.register_records.proofs.Common.{TableRow, Fields, Texts, has_notes, before_seal, entry_records, is_seal}
-use Rattle.register_records.proofs.Common.{entry_seen, IsFrontOfTable, entry_field, row_fields, tail_texts, table_text}
-use Rattle.register_records.proofs.Common.{row_seen, Row, Form, Plain, Sealed, and_parts, nat_tests, length-map, AllZip}
-use Rattle.register_records.proofs.Common.{⊤, chars, is_utf8}
+use Rattle.register_records.proofs.Common.{entry_seen, entry_field, row_fields, tail_texts, row_seen, Row, Form, Plain}
+use Rattle.register_records.proofs.Common.{Sealed, and_parts, nat_tests, length-map, AllZip, ⊤, chars, is_utf8}
 use Rattle.register_records.proofs.OutcomeLemmas.{outcome_of_same, AreInOrder, numbered as in_order}
 use Rattle.date_texts.specs.declared.refusal.Refusal.TheVariants as refusal
-use Rattle.register_records.specs.Tables.{Layout, heading_line, lines_text}
+use Rattle.register_records.specs.Tables.{table_text, Layout, heading_line, lines_text}
 use Rattle.register_records.proofs.FieldLemmas.{no_bytes}
 use Rattle.register_records.proofs.LineLemmas.{fields_in_parts}
+use Rattle.register_records.specs.Sources.{IsFrontOfTable}
 
 -- a body without the note for which a plain form has no place, and so an entry and a row
 abbrev placed : Form → Result Texts Refusal → Result Texts Refusal

@@ -4,20 +4,21 @@ use Rattle.std.proofs.Common.{is_some, IfSome, Some, None, Err, Contains, Option
 use Rattle.std.proofs.Common.{append_assoc, append-nil, arith, length-append, rules}
 use Rattle.register_records.proofs.Common.{Target, entry_fault_cause, AreNumberedFrom, HasAllEntries, HasEntries}
 use Rattle.register_records.proofs.Common.{HasFirstEntries, HasTooMany, IsNotSealed, Numbered, Reading, record_limit}
-use Rattle.register_records.proofs.Common.{IsRowOf, TableRow, entry_seen, IsFrontOfTable, IsTableOf}
-use Rattle.register_records.proofs.Common.{table_text, IsNextRow, table_fault, given_of, reader_failed, reading_of}
-use Rattle.register_records.proofs.Common.{reads_by, row_seen, row_targets, text_of, Entry, EntryFault, Row, ∥∥₁_elim}
-use Rattle.register_records.proofs.Common.{∥∥₁_map, ∥∥₁_prop, false_from_ne_true, length-map, map-append, Appends}
-use Rattle.register_records.proofs.Common.{append_known, AllZip, range_with_len}
+use Rattle.register_records.proofs.Common.{IsRowOf, TableRow, entry_seen, IsNextRow, table_fault, given_of}
+use Rattle.register_records.proofs.Common.{reader_failed, reading_of, reads_by, row_seen, row_targets, text_of, Entry}
+use Rattle.register_records.proofs.Common.{EntryFault, Row, ∥∥₁_elim, ∥∥₁_map, ∥∥₁_prop, false_from_ne_true, length-map}
+use Rattle.register_records.proofs.Common.{map-append, Appends, append_known, AllZip, range_with_len}
 use Rattle.std.proofs.lemmas.List.Elements.{Contains-append_right, Contains-push_cases}
 use Rattle.register_records.specs.TableStates.{fault_of, lines_waiting, lost_output, is_of_table}
-use Rattle.register_records.specs.Tables.{Layout, heading_line, journal_of, lines_text, refusal_notes, row_line}
+use Rattle.register_records.specs.Tables.{table_text, Layout, heading_line, journal_of, lines_text, refusal_notes}
+use Rattle.register_records.specs.Tables.{row_line}
 use Rattle.register_records.specs.TablesWritten.{HasEnded, Holds, IsSameTable, IsTableSoFar, entries_seen}
 use Rattle.register_records.specs.TablesWritten.{has_lost_output, is_headed, made_by, made_for, rows_seen, waiting_of}
 use Rattle.register_records.specs.Views.{layout_of, line_of, waiting_in, writes_by}
 use Rattle.register_records.specs.declared.tables.TableState.{TableState}
 use Rattle.register_records.specs.declared.writing.RowWriter.{RowWriter}
-use Rattle.register_records.specs.Sources.{IfBroken, ArePartOfTable, Gains, IfWhole, IsTableOfAll, IsWholeTable}
+use Rattle.register_records.specs.Sources.{IsFrontOfTable, IsTableOf, IsTableWith, IfBroken, ArePartOfTable, Gains}
+use Rattle.register_records.specs.Sources.{IfWhole, IsTableOfAll, IsWholeTable}
 use Rattle.std.specs.declared.io.traits.Read.{Ghosts}
 use Rattle.register_records.specs.NextEntries.{ReadsNext}
 use Rattle.register_records.specs.SourceTables.{IsBroken}
@@ -252,16 +253,15 @@ module _ {W : Type 0} (o : outputs.Ghosts W) (table : Table W) (output : W) (row
     front_so count counted first =
         (entries_seen rows, rows_seen rows, table_is are, (first, counted ∙ sym (length-map rows row_seen)))
 
+    pub headed_so : (AreSo : List Numbered → List TableRow → Type 0) → is_headed table ≡ true
+        → AreSo (entries_seen rows) (rows_seen rows) → Gained (IsTableWith layout AreSo)
+    headed_so AreSo some so = (bytes, (entries_seen rows, rows_seen rows, table_is are, so), (written good some).0)
+
     pub whole_so : (count : ℕ) → count ≡ length rows → is_headed table ≡ true
         → HasEntries reading text (entries_seen rows)
         → Gained (IsWholeTable reading layout text count (length table.journal.items) table.journal.items)
     whole_so count counted some accepted =
-        let counts = counted ∙ sym (length-map rows row_seen) in let wrote = (written good some).0 in
-        (bytes, (entries_seen rows, rows_seen rows, table_is are, (accepted, counts, refl, holds.noted)), wrote)
-
-    pub all_so : is_headed table ≡ true → HasAllEntries reading text (entries_seen rows)
-        → Gained (IsTableOfAll reading layout text)
-    all_so some all = (bytes, (entries_seen rows, rows_seen rows, table_is are, all), (written good some).0)
+        headed_so _ some (accepted, counted ∙ sym (length-map rows row_seen), refl, holds.noted)
 
 -- a table for this output and by this setup, in which no line waits and to which these entries of the text were added,
 -- but for the last one where that halted it
@@ -311,32 +311,28 @@ module _ {W : Type 0} (o : outputs.Ghosts W) (start : W) (setup : Setup) (text :
     pub flushed : o.is_flushed output ≡ true
     flushed = (written o table output f.rows f.holds f.sent good (f.headed open_)).1
 
+    -- it has gained its heading and the lines of its rows, which are as said
+    all_lines : (AreSo : List Numbered → List TableRow → Type 0) → ∥ AreSo (entries_seen f.rows) (rows_seen f.rows) ∥₁
+        → HasGained (IsTableWith (layout_of setup) AreSo)
+    all_lines AreSo said = rw (f.same.0, f.same.1) at (∥∥₁_elim (are_rows o table output f.rows f.holds f.sent) ∥∥₁_prop
+        (λ are. ∥∥₁_map said (headed_so o table output f.rows f.holds f.sent text are good AreSo (f.headed open_))))
+
     pub whole_rows : ∥ HasEntries (reading_of setup) text given ∥₁
         → HasGained (IsWholeTable (reading_of setup) (layout_of setup) text table.rows (length table.journal.items)
         table.journal.items)
-    whole_rows h = rw (f.same.0, f.same.1) at (∥∥₁_elim (are_rows o table output f.rows f.holds f.sent) ∥∥₁_prop (λ are.
-        ∥∥₁_map (rw (sym f.same.1, f.all open_) at h)
-        (whole_so o table output f.rows f.holds f.sent text are good table.rows (sym f.holds.counted)
-        (f.headed open_))))
+    whole_rows h =
+        let count = sym f.holds.counted ∙ sym (length-map f.rows row_seen) in
+        all_lines _ (∥∥₁_map (rw (f.all open_) at h) (λ entries. (entries, count, refl, f.holds.noted)))
 
     pub first_rows : (count : ℕ) → length given ≡ count
         → HasGained (IsFrontOfTable (reading_of setup) (layout_of setup) text count)
     first_rows count counted =
-        let length_is = sym counted ∙ ap length (f.all open_) ∙ length-map f.rows (λ (row : Row). entry_seen row.entry) in
-        let gains : ∥ Gains (o.contents (made_for table)) (o.contents output)
-        (IsFrontOfTable (reading_of (made_by table)) (layout_of (made_by table)) text count) ∥₁
-        = ∥∥₁_elim (are_rows o table output f.rows f.holds f.sent) ∥∥₁_prop (λ are.
-        ∥∥₁_map (rw (sym f.same.1) at f.first) (λ first. (
-          table_text (layout_of (made_by table)) (rows_seen f.rows),
-          front_so o table output f.rows f.holds f.sent text are good count length_is first,
-          (written o table output f.rows f.holds f.sent good (f.headed open_)).0,
-        ))) in rw (f.same.0, f.same.1) at gains
+        let seen = length-map f.rows (λ (row : Row). entry_seen row.entry) ∙ sym (length-map f.rows row_seen) in
+        all_lines _ (∥∥₁_map f.first (λ first. (first, sym counted ∙ ap length (f.all open_) ∙ seen)))
 
     pub all_rows : ∥ HasAllEntries (reading_of setup) text given ∥₁
         → HasGained (IsTableOfAll (reading_of setup) (layout_of setup) text)
-    all_rows h = rw (f.same.0, f.same.1) at (∥∥₁_elim (are_rows o table output f.rows f.holds f.sent) ∥∥₁_prop (λ are.
-        ∥∥₁_map (rw (sym f.same.1, f.all open_) at h)
-        (all_so o table output f.rows f.holds f.sent text are good (f.headed open_))))
+    all_rows h = all_lines _ (rw (f.all open_) at h)
 
 -- which causes there are of a table, of a row, and of a reader behind the header that has not failed before
 other_than : (f : Option Cause) (c d : Cause) → f ≡ Some c → IfSome f (λ c. is_of_table c ≡ true)

@@ -1,7 +1,7 @@
-use Rattle.register_records.proofs.Common.{Ok, sym, subst, no_date, on_date, IsDateText}
-use Rattle.register_records.proofs.Common.{IsDayNumber, IsOutcome, accepted}
+use Rattle.register_records.proofs.Common.{Ok, sym, subst, IsDateText, IsDayNumber, IsOutcome, accepted}
 use Rattle.register_records.proofs.laws.cells_read_back.Goals as goal
 use Rattle.date_texts.specs.Dates.{calendar_of_date}
+use Rattle.date_texts.specs.Cells.{no_date, on_date}
 
 pub returns : goal.returns
 returns c calendar n texts within named (on_date date of is day text) some =

@@ -5,6 +5,7 @@ pub use Rattle.csv.proofs.ReadFacts.{rows-end, rows-more, strip-short}
 pub use Rattle.csv.proofs.WriteFacts.{appends-none, escaped-double, escaped-other, fields-snoc, quoted-step, slice-end}
 unfoldable pub use Rattle.csv.specs.Reading.{records_from, strip_bom}
 pub use Rattle.csv.specs.Records.{fields_of}
+unfoldable pub use Rattle.csv.specs.Records.{cut_from, field_at}
 pub use Rattle.csv.specs.Writing.{needs_byte, needs_quotes}
 unfoldable pub use Rattle.csv.specs.Writing.{escaped, fields_text}
 pub use Rattle.csv.specs.declared.reader.Reader.{Reader}
@@ -22,7 +23,7 @@ pub use Rattle.date_texts.specs.declared.target.Target.{Target}
 pub use Rattle.date_texts.specs.declared.target.Target.TheVariants.{Haab}
 pub use Rattle.day_numbers.specs.Days.{IsDayNumber, weekday_names, weekday_number}
 pub use Rattle.day_numbers.specs.declared.day.Day.{Day}
-pub use Rattle.register_records.specs.BareTexts.{IsPlain, has_special, is_plain_byte, is_special_byte}
+pub use Rattle.register_records.specs.BareTexts.{IsPlain, has_plain_texts, is_plain_byte}
 pub use Rattle.register_records.specs.Causes.{entry_fault_cause}
 pub use Rattle.register_records.specs.Columns.{Column, cell_columns, columns, entry_order, kind_columns, tail_order}
 pub use Rattle.register_records.specs.Entries.{AreNumberedFrom, HasAllEntries, HasEntries, HasFirstEntries, HasTooMany}
@@ -69,10 +70,10 @@ pub use Rattle.std.proofs.lemmas.Bool.Decides.{nat_tests}
 pub use Rattle.std.proofs.lemmas.Grind.{common_steps, flat_map-append}
 pub use Rattle.std.proofs.lemmas.Int.{ints}
 pub use Rattle.std.proofs.lemmas.List.{append_cancel_left, length-map, map-append, take_all, take_more}
-pub use Rattle.std.proofs.lemmas.List.Folds.{find_at, list_all-append, list_all_at, list_all_more, list_any-append}
-pub use Rattle.std.proofs.lemmas.List.Sums.{fold-append, passes_at_first, position_or_len_is}
+pub use Rattle.std.proofs.lemmas.List.Folds.{find_at, list_all_at, list_all_more}
+pub use Rattle.std.proofs.lemmas.List.Sums.{AllPass-from_list_all, fold-append, passes_at_first, position_or_len_is}
 pub use Rattle.std.specs.Fmt.{signed_decimal}
 pub use Rattle.std.specs.Io.KnownBytes.{Appends, Keeps, append_known}
-pub use Rattle.std.specs.List.{AllZip, list_all, list_any, onto_first, position_or_len, range_with_len, slice_split}
+pub use Rattle.std.specs.List.{AllZip, list_all, onto_first, position_or_len, range_with_len, slice_split}
 pub use Rattle.std.specs.Prelude.{⊤}
 unfoldable pub use Rattle.std.specs.Str.{chars, is_utf8}

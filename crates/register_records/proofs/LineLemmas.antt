@@ -4,11 +4,11 @@ use Rattle.std.proofs.Common.{get_or, take, drop, set, ℤ, if◌then◌else◌,
 use Rattle.std.proofs.Common.{◌∙◌, append_assoc, append-nil, arith, length-append, length-set, length-take-le, rules}
 use Rattle.register_records.proofs.Common.{escaped-double, escaped-other, fields-snoc, fields_text, needs_byte}
 use Rattle.register_records.proofs.Common.{needs_quotes, target_name, is_plain, Refusal, Target, IsDayNumber}
-use Rattle.register_records.proofs.Common.{has_special, Column, cell_columns, columns, entry_order, kind_columns}
+use Rattle.register_records.proofs.Common.{has_plain_texts, Column, cell_columns, columns, entry_order, kind_columns}
 use Rattle.register_records.proofs.Common.{tail_order, Begins, GainsFields, writing, line_text, TableRow, Texts}
 use Rattle.register_records.proofs.Common.{is_delimiter, entry_field, kind_name, kind_names, row_fields, tail_texts}
 use Rattle.register_records.proofs.Common.{text_shown, take-append-add, and_parts, nat_tests, flat_map-append, ints}
-use Rattle.register_records.proofs.Common.{map-append, take_more, list_any-append, signed_decimal, list_all}
+use Rattle.register_records.proofs.Common.{map-append, take_more, AllPass-from_list_all, signed_decimal, list_all}
 use Rattle.std.proofs.lemmas.Fmt.{length-decimal-le, decimal_by_steps}
 use Rattle.std.proofs.lemmas.List.{at_drop_more, flat_map_more, take_more_set, take-append-le}
 use borrow.Rule.Slice.PartMut.{put_mid}
@@ -18,6 +18,7 @@ use Rattle.register_records.specs.declared.table_columns.ColumnKind.{ColumnKind}
 use Rattle.register_records.specs.declared.table_columns.ColumnKind.TheVariants.{Cells, Id, Note, Calendar, Date}
 use Rattle.register_records.proofs.BareLemmas.{unquoted}
 use Rattle.csv.specs.Writing.{field_text, is_blank, row_body}
+use Rattle.std.proofs.lemmas.List.Folds.{list_any-append, list_any_none}
 
 -- the bytes of some fields, and of one more
 abbrev pub body : ℕ → List (List ℕ) → List ℕ
@@ -161,10 +162,9 @@ plain_cell_byte d c h p = grind (arith, nat_tests)
 
 pub plain_bytes : (d : ℕ) → is_delimiter d ≡ true → (text : List ℕ) → list_all is_plain text ≡ true
     → needs_quotes (writing d) text ≡ false
-plain_bytes d h [] p = refl
-plain_bytes d h (c ∷ text) p =
-    let both = and_parts (is_plain c) (list_all is_plain text) p in
-    rw (plain_cell_byte d c h both.0, plain_bytes d h text both.1) refl
+plain_bytes d h text p =
+    let all = AllPass-from_list_all is_plain text p in
+    list_any_none (needs_byte (writing d)) text (λ k e lt. plain_cell_byte d _ h (all k e lt))
 
 -- a map of all lists
 map_of_all : {X Y Z : Type 0} (f : Y → Z) (g : X → List Y) (xs : List X)
@@ -174,7 +174,7 @@ map_of_all f g (x ∷ xs) =
     map-append f (g x) (flat_map g xs) ∙ ap (λ ys. map f (g x) ++ ys) (map_of_all f g xs)
 
 -- the texts of an entry none of whose bytes calls for quotes
-pub plain_column : (d : ℕ) → is_delimiter d ≡ true → (body : Result Texts Refusal) → has_special body ≡ false
+pub plain_column : (d : ℕ) → is_delimiter d ≡ true → (body : Result Texts Refusal) → has_plain_texts body ≡ true
     → (column : ColumnKind) → needs_quotes (writing d) (text_shown body column) ≡ false
 plain_column d h body bare Id = (unquoted d h body bare).0
 plain_column d h body bare Calendar = (unquoted d h body bare).1

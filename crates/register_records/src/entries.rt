@@ -4,7 +4,7 @@ ghost use Rattle.std.specs.Prelude.{◌≡◌, ◌≤◌, ◌↔◌, ◌∷◌, 
 ghost use Rattle.std.specs.List.{list_all};
 ghost use Rattle.std.specs.Str.{is_utf8};
 ghost use Rattle.csv.specs.Records.{fields_of, text_of};
-ghost use Rattle.register_records.specs.BareTexts.{IsPlain, has_special, is_plain_byte};
+ghost use Rattle.register_records.specs.BareTexts.{IsPlain, has_plain_texts, is_plain_byte};
 ghost use Rattle.register_records.specs.Entries.{HasDate, HaveOneDate, are_fit, body_of, body_seen, may_hold, record_limit};
 
 use crate::record_fields::RecordFields;
@@ -60,7 +60,7 @@ pub struct Entry {
     pub ghost limited: { number ≤ record_limit },
     ghost held: { IsTrue (may_hold body) },
     pub ghost fit: { are_fit (body_seen body) ≡ true },
-    ghost bared: { bare ≡ true → has_special (body_seen body) ≡ false },
+    ghost bared: { bare ≡ true → has_plain_texts (body_seen body) ≡ true },
 }
 
 impl Entry {
@@ -139,7 +139,7 @@ impl Entry {
 
     /// Whether the texts are known to hold no byte that calls for quotes in a table, whatever its delimiter.
     pub(crate) fn is_bare(&self) -> bool
-        ensures { result ≡ true → has_special (body_seen self.now.body) ≡ false }
+        ensures { result ≡ true → has_plain_texts (body_seen self.now.body) ≡ true }
     {
         self.bare
     }

@@ -2,7 +2,7 @@
 
 ghost use Rattle.std.specs.Prelude.{◌≡◌, ◌≤◌, ◌+◌, ◌++◌, ◌∷◌, [], length, map, true, false};
 ghost use Rattle.date_texts.specs.declared.target.TheConstants.{MAX_TARGETS};
-ghost use Rattle.register_records.specs.BareTexts.{has_special};
+ghost use Rattle.register_records.specs.BareTexts.{has_plain_texts};
 ghost use Rattle.register_records.specs.Columns.{entry_order};
 ghost use Rattle.register_records.specs.Entries.{body_seen};
 ghost use Rattle.register_records.specs.LineRoom.{Begins, GainsFields, entry_name_room, entry_room, name_room};
@@ -82,7 +82,7 @@ pub(crate) fn make_heading(lines: &mut LineBuffer, has_notes: bool, targets: &[T
 fn put_column(lines: &mut LineBuffer, column: ColumnKind, body: &Body, bare: bool)
     requires separated { is_delimiter lines.old.delimiter ≡ true }
     requires room { lines.old.len + quoted_room column ≤ line_capacity lines.old }
-    requires bare { bare ≡ true → has_special (body_seen body.now) ≡ false }
+    requires bare { bare ≡ true → has_plain_texts (body_seen body.now) ≡ true }
     ensures value { GainsFields lines.old.delimiter (text_shown (body_seen body.now) column ∷ [])
         (line_bytes lines.old) (line_bytes lines.new) }
     ensures grows { GrowsBy (quoted_room column) lines.old lines.new }

@@ -37,15 +37,13 @@ plain_text d field h = rw h refl
 pub only_field : (d : ℕ) (before field bytes : List ℕ) → needs_quotes (writing d) field ≡ false
     → bytes ≡ before ++ field → bytes ≡ before ++ body d (field ∷ [])
 unfolding fields_text
-only_field d before field bytes h e =
-    e ∙ ap (λ (t : List ℕ). before ++ t) (rw (plain_text d field h) (sym (append-nil field)))
+only_field d before field bytes h e = search (rules, plain_text, append-nil)
 
 -- a line that one field begins
 pub first_text : (d : ℕ) (before field bytes : List ℕ) → bytes ≡ before ++ field_text (writing d) field
     → bytes ≡ before ++ body d (field ∷ [])
 unfolding fields_text
-first_text d before field bytes e =
-    e ∙ ap (λ (t : List ℕ). before ++ t) (sym (append-nil (field_text (writing d) field)))
+first_text d before field bytes e = search (rules, append-nil)
 
 -- a line is blank where it shows no byte
 blank_shows_none : (d : ℕ) (fields : List (List ℕ)) → is_blank (writing d) fields ≡ (length (body d fields) == 0)
@@ -94,8 +92,7 @@ pub one_column : (f : ColumnKind → List (List ℕ)) (d : ℕ) (before : List �
     (columns : List ColumnKind) (i : ℕ) (e : ColumnKind) (new : List ℕ) → i < length columns
     → new ≡ before ++ body d ((first ++ flat_map f (take i columns)) ++ f (get_or columns i e))
     → new ≡ before ++ body d (first ++ flat_map f (take (i + 1) columns))
-one_column f d before first columns i e new lt is =
-    is ∙ ap (λ (fields : List (List ℕ)). before ++ body d fields) (one_more_column f first columns i e lt)
+one_column f d before first columns i e new lt is = cc (is, one_more_column f first columns i e lt)
 
 -- more fields
 pub more_fields_text : (d : ℕ) (fields more : List (List ℕ))
@@ -113,14 +110,7 @@ more_fields d before fields more old new some is n = search (rules, more_fields_
 pub put_after : (room places : List ℕ) (at d k count : ℕ) → at < length room → count ≤ length places
     → take (at + 1 + count) (put_mid (at + 1) k (set room at d) places) ≡ take at room ++ d ∷ take count places
 put_after room places at d k count lt few =
-    let base = set room at d in
-    let front : at + 1 ≡ length (take (at + 1) base) =
-    omega (arith, length-take-le (at + 1) base (omega (arith, length-set room at d))) in
-    ap (λ n. take (n + count) (put_mid (at + 1) k base places)) front
-    ∙ take-append-add (take (at + 1) base) _ count
-    ∙ ap (λ (t : List ℕ). take (at + 1) base ++ t) (take-append-le count places _ few)
-    ∙ ap (λ (t : List ℕ). t ++ take count places) (take_more_set room at d lt)
-    ∙ append_assoc (take at room) (d ∷ []) (take count places)
+    grind (arith, length-take-le, length-set, take-append-add, take-append-le, take_more_set room at d lt, append_assoc)
 
 -- fields that a line gained by a delimiter that is its own
 pub gained : (d e : ℕ) (before : List ℕ) (fields more : List (List ℕ)) (old new : List ℕ) → e ≡ d
@@ -170,8 +160,7 @@ plain_bytes d h text p =
 map_of_all : {X Y Z : Type 0} (f : Y → Z) (g : X → List Y) (xs : List X)
     → map f (flat_map g xs) ≡ flat_map (λ x. map f (g x)) xs
 map_of_all f g [] = refl
-map_of_all f g (x ∷ xs) =
-    map-append f (g x) (flat_map g xs) ∙ ap (λ ys. map f (g x) ++ ys) (map_of_all f g xs)
+map_of_all f g (x ∷ xs) = map-append f (g x) (flat_map g xs) ∙ cc (map_of_all f g xs)
 
 -- the texts of an entry none of whose bytes calls for quotes
 pub plain_column : (d : ℕ) → is_delimiter d ≡ true → (body : Result Texts Refusal) → has_plain_texts body ≡ true
@@ -185,17 +174,7 @@ plain_column d h body bare kind = refl
 -- equal fields
 pub same_body : (d : ℕ) (before : List ℕ) (fields wanted : List (List ℕ)) (bytes : List ℕ) → fields ≡ wanted
     → bytes ≡ before ++ body d fields → bytes ≡ before ++ body d wanted
-same_body d before fields wanted bytes e h = h ∙ ap (λ (fields : List (List ℕ)). before ++ body d fields) e
-
-pub same_line : (d : ℕ) (before : List ℕ) (fields wanted : List (List ℕ)) (bytes : List ℕ) → fields ≡ wanted
-    → bytes ≡ before ++ line_text d fields → bytes ≡ before ++ line_text d wanted
-same_line d before fields wanted bytes e h = rw (← e) h
-
-pub some_fields : (fields more : List (List ℕ)) → 1 ≤ length fields → 1 ≤ length (fields ++ more)
-some_fields fields more some = rw (length-append fields more) (omega arith)
-
-pub two_of : (fields rest : List (List ℕ)) (a b : List ℕ) → 2 ≤ length (fields ++ (a ∷ b ∷ rest))
-two_of fields rest a b = rw (length-append fields (a ∷ b ∷ rest)) (omega arith)
+same_body d before fields wanted bytes e h = cc
 
 -- what a function gives of the columns of a table: of those of an entry, of which each is one, and of those of a tail
 in_kinds : {X : Type 0} (f : Column → X) (notes : Bool) (ts : List Target)
@@ -208,7 +187,7 @@ in_kinds f notes ts =
 pub name_columns : (place : ℕ) (ts : List Target)
     → map (λ (c : Column). c.name) (cell_columns place ts) ≡ map target_name ts
 name_columns place [] = refl
-name_columns place (t ∷ ts) = ap (λ (names : List (List ℕ)). target_name t ∷ names) (name_columns (place + 1) ts)
+name_columns place (t ∷ ts) = cc (name_columns (place + 1) ts)
 
 entry_names : (notes : Bool) (ts : List Target) → flat_map (kind_names ts) (entry_order notes) ≡ map kind_name (entry_order notes)
 entry_names false ts = refl
@@ -216,9 +195,7 @@ entry_names true ts = refl
 
 pub heading_names : (notes : Bool) (ts : List Target)
     → heading notes ts ≡ map kind_name (entry_order notes) ++ flat_map (kind_names ts) tail_order
-heading_names notes ts =
-    in_kinds (λ (c : Column). c.name) notes ts
-    ∙ ap (λ (names : List (List ℕ)). names ++ flat_map (kind_names ts) tail_order) (entry_names notes ts)
+heading_names notes ts = in_kinds (λ (c : Column). c.name) notes ts ∙ cc (entry_names notes ts)
 
 -- each kind but the cells has one name
 pub one_name : (ts : List Target) (kind : ColumnKind) → (kind ≡ Cells → ⊥) → kind_names ts kind ≡ kind_name kind ∷ []
@@ -230,8 +207,7 @@ cell_fields : (row : TableRow) (place : ℕ) (ts : List Target)
     → map (λ (c : Column). c.field row) (cell_columns place ts)
     ≡ map (λ (c : Column). c.field (row_with row.outcome row.cells)) (cell_columns place ts)
 cell_fields row place [] = refl
-cell_fields row place (t ∷ ts) =
-    ap (λ (fields : List (List ℕ)). get_or row.cells place [] ∷ fields) (cell_fields row (place + 1) ts)
+cell_fields row place (t ∷ ts) = cc (cell_fields row (place + 1) ts)
 
 tail_same : (row : TableRow) (ts : List Target)
     → flat_map (kind_fields ts row) tail_order ≡ tail_texts ts row.outcome row.cells
@@ -249,21 +225,9 @@ entry_fields true ts row = refl
 pub fields_in_parts : (notes : Bool) (ts : List Target) (row : TableRow)
     → row_fields notes ts row ≡ map (entry_field row) (entry_order notes) ++ tail_texts ts row.outcome row.cells
 fields_in_parts notes ts row =
-    in_kinds (λ (c : Column). c.field row) notes ts
-    ∙ ap (λ (fields : List (List ℕ)). fields ++ flat_map (kind_fields ts row) tail_order) (entry_fields notes ts row)
-    ∙ ap (λ (fields : List (List ℕ)). map (entry_field row) (entry_order notes) ++ fields) (tail_same row ts)
+    in_kinds (λ (c : Column). c.field row) notes ts ∙ cc (entry_fields notes ts row, tail_same row ts)
 
 -- the steps of making a line, and of putting a byte of a quoted field
-pub ruleset line_steps = (
-  ended,
-  fields_in_parts,
-  heading_names,
-  one_column,
-  room_for_rest,
-  same_body,
-  same_line,
-  some_fields,
-  two_of,
-)
+pub ruleset line_steps = (ended, fields_in_parts, heading_names, length-append, one_column, room_for_rest, same_body)
 
 pub ruleset escape_steps = (escaped-double, escaped-other, append_assoc)

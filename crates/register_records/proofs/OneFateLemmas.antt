@@ -2,7 +2,7 @@
 use Rattle.std.proofs.Common.{◌≡◌, ℕ, ◌<◌, ◌≤◌, Bool, true, false, List, [], ◌∷◌, ◌++◌, length, IsSomeAnd}
 use Rattle.std.proofs.Common.{if◌then◌else◌, IsTrue, Some, None, codes, Option, sym, refl, ap, ◌∙◌, subst, inl, inr}
 use Rattle.std.proofs.Common.{arith, rules}
-use Rattle.register_records.proofs.Common.{strip_bom, IsNamed, IsNumeral, trimmed, Reading, record_limit, IsHeader}
+use Rattle.register_records.proofs.Common.{strip_bom, IsNamed, Reading, record_limit}
 use Rattle.register_records.proofs.Common.{Fields, Texts, texts_of, Agrees, AreClosed, before_seal, entry_records}
 use Rattle.register_records.proofs.Common.{is_seal, Form, Plain, Sealed, append_cancel_left}
 use Rattle.date_texts.proofs.DecisionLemmas.{Is, all_four, both, in_words, is_at_most, is_named, is_number, is_true}
@@ -20,15 +20,9 @@ is_header_of : (form : Form) (texts : Option Texts) → Is (IsSomeAnd texts (λ 
 is_header_of form None = inr (λ h. h)
 is_header_of form (Some t) = search (rules, all_four, is_named, is_noted)
 
-is_header : (form : Form) (first : Fields) → Is (IsHeader form first)
-is_header form first = is_header_of form (texts_of form first)
-
 -- whether a seal agrees with a number
-is_numeral : (text : List ℕ) (n : ℕ) → Is (IsNumeral 7 text n)
-is_numeral text n = search (rules, both, is_at_most, is_true, is_number)
-
 agrees : (seal : Fields) (n : ℕ) → Is (Agrees seal n)
-agrees (a ∷ b ∷ []) n = is_numeral (trimmed b) n
+agrees (a ∷ b ∷ []) n = search (rules, both, is_at_most, is_true, is_number)
 agrees seal n = inr (λ h. h)
 
 -- the records up to the first seal, and the rest: whether the seal stands last and agrees with their number can be
@@ -61,7 +55,7 @@ are_closed Sealed after =
 has_records_of : (form : Form) (records : List Fields) → Is ((after : List Fields) × AreAfterHeader form records after)
 has_records_of form [] = inr (λ h. cc (h.1.1))
 has_records_of form (r ∷ rest) =
-    in_words (is_header form r) (λ is. (rest, (r, refl, is)))
+    in_words (is_header_of form (texts_of form r)) (λ is. (rest, (r, refl, is)))
     (λ h. let same : h.1.0 ≡ r = cc (h.1.1) in rw same at h.1.2)
 
 one_after : (reading : Reading) (text : List ℕ) (a b : List Fields) → HasRecords reading text a → HasRecords reading text b

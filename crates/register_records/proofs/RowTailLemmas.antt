@@ -73,12 +73,9 @@ grown d field old new h before is =
     let fields : fields_behind d new ≡ fields_behind d old ++ field ∷ [] =
     ap (fields_behind d) is ∙ ap (drop 1) (one_more_part d old field h)
     ∙ part_after_first (slice_split (cuts d) old) field (some_parts d old) in
-    let bytes : new ≡ text d (fields_behind d old) ++ text d (field ∷ []) =
-    is ∙ ap (λ (t : List ℕ). t ++ d ∷ field) before
-    ∙ ap (λ (t : List ℕ). text d (fields_behind d old) ++ t) (sym (one_field d field h)) in
     record {
       fields = fields;
-      plain = bytes ∙ sym (more_fields_text d (fields_behind d old) (field ∷ [])) ∙ ap (text d) (sym fields);
+      plain = cc (is, before, one_field d field h, more_fields_text d (fields_behind d old) (field ∷ []), fields);
     }
 
 pub not_grown : (d : ℕ) (old : List ℕ) → old ≡ text d (fields_behind d old) → Grown d [] old old
@@ -89,8 +86,10 @@ pub grown_more : (d : ℕ) (more : List (List ℕ)) (field old bytes new : List 
     → Grown d (more ++ field ∷ []) old new
 grown_more d more field old bytes new h before is =
     let last = grown d field bytes new h before.plain is in
-    let fields = last.fields ∙ ap (λ (t : List (List ℕ)). t ++ field ∷ []) before.fields
-    ∙ append_assoc (fields_behind d old) more (field ∷ []) in record { fields = fields; plain = last.plain }
+    record {
+      fields = cc (last.fields, before.fields, append_assoc (fields_behind d old) more (field ∷ []));
+      plain = last.plain;
+    }
 
 -- a text that needs no quotes, with so many bytes at most
 pub record Fits (d limit : ℕ) (text : List ℕ) : Type 0 where
@@ -121,9 +120,7 @@ first_two : (d : ℕ) → is_delimiter d ≡ true → (o : Result Day Refusal) (
     → k < 2 → needs_quotes (writing d) (get_or (tail_texts ts (outcome_seen o) cells) k []) ≡ false
 first_two d h (Ok day) ts cells zero lt = plain_day d h day.number day.in_range
 first_two d h (Ok day) ts cells (suc zero) lt = (weekday_fits d h (weekday_number day.number)).plain
-first_two d h (Err r) ts cells zero lt = refl
-first_two d h (Err r) ts cells (suc zero) lt = refl
-first_two d h o ts cells (suc (suc k)) lt = absurd (omega arith)
+first_two d h o ts cells k lt = grind arith
 
 -- the first delimiter behind a field that needs no quotes ends it
 ends_at : (d : ℕ) (field : List ℕ) (more : List (List ℕ)) → needs_quotes (writing d) field ≡ false
@@ -143,8 +140,7 @@ unfolding fields_text
 behind_first d bytes rest start place field more from is at h whole =
     let one : start ≡ 1 = omega (arith, ap length whole) in
     let parts : rest ≡ field ++ text d more =
-    is ∙ take_all (length bytes - start) (drop start bytes) (omega (arith, length-drop start bytes))
-    ∙ ap (λ k. drop k bytes) one ∙ ap (drop 1) whole ∙ ap (λ (t : List ℕ). t ++ text d more) (plain_text d field h) in
+    grind (arith, take_all (length bytes - start) (drop start bytes), length-drop, plain_text d field h) in
     take_all (length rest - place) (drop place rest) (omega (arith, length-drop place rest))
     ∙ ap (λ k. drop k rest) (at ∙ ap (position_or_len (cuts d)) parts ∙ ends_at d field more h)
     ∙ ap (drop (length field)) parts ∙ drop-append_seam field (text d more)
@@ -228,9 +224,7 @@ one_more_cell {d = d} {o = o} {ts = ts} {old = old} {bytes = bytes} {new = new} 
 pub all_cells : OneCell → (d : ℕ) (o : Result ℤ Refusal) (ts : List Target) (old new : List ℕ) → HasCells d o ts old new
     → (cells : List (List ℕ)) → AreCells ts o cells
     → fields_behind d new ≡ fields_behind d old ++ column_texts ts o cells Cells
-all_cells law d o ts old new has cells are =
-    has.put.fields
-    ∙ ap (λ (more : List (List ℕ)). fields_behind d old ++ more) (shown_cells law o ts has.fields cells has.are are)
+all_cells law d o ts old new has cells are = cc (has.put.fields, shown_cells law o ts has.fields cells has.are are)
 
 -- the cells stand among the fields of all columns of a tail
 cells_among : (ts : List Target) (o : Result Day Refusal) (cells : List (List ℕ)) (tail : RowTail)

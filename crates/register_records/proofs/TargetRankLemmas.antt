@@ -1,5 +1,5 @@
 -- Targets have their own ranks, and ranks are those of one list of targets.
-use Rattle.std.proofs.Common.{◌≡◌, ℕ, zero, suc, ◌+◌, ◌-◌, ◌^◌, ◌<◌, ◌≤◌, Bool, true, ◌&&◌, ◌↔◌, List, [], ◌∷◌, ◌++◌}
+use Rattle.std.proofs.Common.{◌≡◌, ℕ, suc, ◌+◌, ◌-◌, ◌^◌, ◌<◌, ◌≤◌, Bool, true, ◌&&◌, ◌↔◌, List, [], ◌∷◌, ◌++◌}
 use Rattle.std.proofs.Common.{length, get_or, take, drop, set, ◌==◌, slice_get, sym, refl, ap, ◌∙◌, arith, w64}
 use Rattle.register_records.proofs.Common.{WORD_LEN, all_targets, Target, Haab, have_one_name, rank_of, ranks_in}
 use Rattle.register_records.proofs.Common.{take-add, and_parts, find_at, passes_at_first, position_or_len}
@@ -32,19 +32,14 @@ one_rank t u e =
 
 pub one_list : (room : ℕ) (ts us : List Target) → length ts ≤ room → length us ≤ room
     → ranks_in room ts ≡ ranks_in room us → ts ≡ us
-one_list zero [] (u ∷ us) few other e = absurd (omega (arith, other))
-one_list zero (t ∷ ts) us few other e = absurd (omega (arith, few))
-one_list (suc room) [] (u ∷ us) few other e =
-    let first : 0 ≡ rank_of u = cc in absurd (omega (arith, (ranked u).0, first))
-one_list (suc room) (t ∷ ts) [] few other e =
-    let first : rank_of t ≡ 0 = cc in absurd (omega (arith, (ranked t).0, first))
 one_list (suc room) (t ∷ ts) (u ∷ us) few other e =
     let first : rank_of t ≡ rank_of u = cc in
     let rest : ranks_in room ts ≡ ranks_in room us = cc in
     let head = one_rank t u first in
     let tail = one_list room ts us (omega (arith, few)) (omega (arith, other)) rest in
     cc (head, tail)
-one_list room ts us few other e = refl
+one_list room [] [] few other e = refl
+one_list room ts us few other e = grind (arith, ranked)
 
 -- one more rank
 pub more_ranks : (room : ℕ) (ts : List Target) (i : ℕ) (e : Target) → i < length ts → length ts ≤ room

@@ -5,14 +5,14 @@ use Rattle.std.proofs.Common.{arith, take_all, rules}
 use Rattle.register_records.proofs.Common.{cut_from, needs_byte, needs_quotes, Refusal, IsPlain, has_plain_texts}
 use Rattle.register_records.proofs.Common.{is_plain_byte, are_utf8, body_of, body_of_texts, writing, Fields, Texts}
 use Rattle.register_records.proofs.Common.{texts_of, is_delimiter, CHUNK, Form, take-add, and_parts, or_from, or_parts}
-use Rattle.register_records.proofs.Common.{nat_tests, list_all_more, AllPass-from_list_all, list_all, ⊤, is_utf8}
+use Rattle.register_records.proofs.Common.{nat_tests, AllPass-from_list_all, list_all, ⊤, is_utf8}
 use Rattle.std.proofs.lemmas.List.{drop-drop, take-append-drop}
 use Rattle.std.specs.Simd.{first_chunks}
 use Rattle.std.proofs.lemmas.Str.{is_utf8-from_IsUtf8, IsUtf8-from_ascii}
 use Rattle.std.specs.Result.{result_ok}
 use Rattle.date_texts.specs.declared.refusal.Refusal.TheVariants as refusal
 use Rattle.std.specs.Option.{option_map_or}
-use Rattle.std.proofs.lemmas.List.Folds.{list_all-append, list_any_none}
+use Rattle.std.proofs.lemmas.List.Folds.{list_all_more, list_all-append, list_any_none}
 use Rattle.std.proofs.lemmas.Str.Ascii.{IsAscii-from_all}
 
 -- no byte of a plain text calls for quotes in a table
@@ -109,11 +109,8 @@ plain_by_chunks text chunks long is h k =
     let end = length text / CHUNK * CHUNK in
     let front : IsPlain (take end text) = plain_front (length text / CHUNK) text (rw (← is) k) in
     let place : start + (end - start) ≡ end = omega arith in
-    let same : drop (end - start) (drop start text) ≡ drop end text =
-    drop-drop (end - start) start text ∙ ap (λ m. drop m text) place in
-    subst IsPlain (take-append-drop end text)
-    (plain_join (take end text) (drop end text) front
-    (subst IsPlain same (plain_halves (end - start) (drop start text) h).1))
+    let back = rw (drop-drop (end - start) start text, place) at (plain_halves (end - start) (drop start text) h).1 in
+    rw take-append-drop at (plain_join (take end text) (drop end text) front back)
 
 -- the texts of a body that has plain ones need no quotes in a table
 pub unquoted : (d : ℕ) → is_delimiter d ≡ true → (body : Result Texts Refusal) → has_plain_texts body ≡ true

@@ -15,9 +15,7 @@ pub use Rattle.date_texts.specs.Cells.{is_plain}
 pub use Rattle.date_texts.specs.DateText.{IsDateText}
 pub use Rattle.date_texts.specs.Laws.{CellsArePlain, OneCalendar, OneCell, OneDateText}
 pub use Rattle.date_texts.specs.Names.{IsNamed}
-pub use Rattle.date_texts.specs.Numerals.{IsNumeral}
 pub use Rattle.date_texts.specs.Refusals.{refusal_number}
-pub use Rattle.date_texts.specs.Trimmed.{trimmed}
 pub use Rattle.date_texts.specs.declared.refusal.Refusal.{Refusal}
 pub use Rattle.date_texts.specs.declared.target.Target.{Target}
 pub use Rattle.date_texts.specs.declared.target.Target.TheVariants.{Haab}
@@ -30,7 +28,6 @@ pub use Rattle.register_records.specs.Entries.{AreNumberedFrom, HasAllEntries, H
 pub use Rattle.register_records.specs.Entries.{HaveOneDate, IsNotSealed, Numbered, Reading, are_fit, are_utf8, body_of}
 pub use Rattle.register_records.specs.Entries.{body_of_texts, body_seen, record_limit}
 unfoldable pub use Rattle.register_records.specs.Entries.{entries_from}
-pub use Rattle.register_records.specs.Headers.{IsHeader}
 pub use Rattle.register_records.specs.LineRoom.{Begins, GainsFields, field_room, name_limit, writing}
 pub use Rattle.register_records.specs.LineViews.{GrowsBy, line_bytes, line_capacity}
 pub use Rattle.register_records.specs.Lines.{fields_behind, line_text}
@@ -44,8 +41,8 @@ unfoldable pub use Rattle.register_records.specs.Seals.{before_seal}
 pub use Rattle.register_records.specs.Seen.{entry_seen, outcome_seen}
 pub use Rattle.register_records.specs.SetupRules.{is_delimiter}
 pub use Rattle.register_records.specs.ShortLists.{items_in}
-pub use Rattle.register_records.specs.TableColumns.{column_texts, entry_field, kind_name, kind_names, row_fields}
-pub use Rattle.register_records.specs.TableColumns.{tail_texts, text_shown}
+pub use Rattle.register_records.specs.TableColumns.{entry_field, kind_name, kind_names, row_fields, text_shown}
+pub use Rattle.register_records.specs.Tables.{table_text}
 pub use Rattle.register_records.specs.TablesWritten.{IsNextRow, table_fault}
 pub use Rattle.register_records.specs.TargetRanks.{have_one_name, rank_of, ranks_in}
 pub use Rattle.register_records.specs.Views.{given_of, reader_failed, reading_of, reads_by, row_seen, row_targets}
@@ -63,14 +60,12 @@ pub use Rattle.std.proofs.Common.{length, get_or, take, drop, IfSome, nat_lt, So
 pub use Rattle.std.proofs.Common.{option_map, flat_map, sym, refl, ap, ◌∙◌, subst, inl, append_assoc, append-nil}
 pub use Rattle.std.proofs.Common.{add-one, arith, length-append, rules}
 pub use Rattle.std.proofs.Math.Logic.{∥∥₁_elim, ∥∥₁_map, ∥∥₁_prop}
-pub use Rattle.std.proofs.Math.Seq.{drop-append_seam, take-add, take-append-add}
+pub use Rattle.std.proofs.Math.Seq.{take-add, take-append-add}
 pub use Rattle.std.proofs.Props.{props}
 pub use Rattle.std.proofs.lemmas.Bool.{and_parts, cases_Bool, cases_lt, false_from_ne_true, or_from, or_parts}
 pub use Rattle.std.proofs.lemmas.Bool.Decides.{nat_tests}
-pub use Rattle.std.proofs.lemmas.Grind.{common_steps, flat_map-append}
 pub use Rattle.std.proofs.lemmas.Int.{ints}
 pub use Rattle.std.proofs.lemmas.List.{append_cancel_left, length-map, map-append, take_all, take_more}
-pub use Rattle.std.proofs.lemmas.List.Folds.{find_at, list_all_at, list_all_more}
 pub use Rattle.std.proofs.lemmas.List.Sums.{AllPass-from_list_all, fold-append, passes_at_first, position_or_len_is}
 pub use Rattle.std.specs.Fmt.{signed_decimal}
 pub use Rattle.std.specs.Io.KnownBytes.{Appends, Keeps, append_known}

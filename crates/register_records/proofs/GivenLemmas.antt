@@ -3,13 +3,14 @@ use Rattle.register_records.proofs.Common.{◌≡◌, ℕ, ◌+◌, ◌<◌, ◌
 use Rattle.register_records.proofs.Common.{Some, None, Option, option_map, sym, refl, ap, ◌∙◌, append_assoc, append-nil}
 use Rattle.register_records.proofs.Common.{arith, length-append, rules, HasAllEntries, HasEntries, HasFirstEntries}
 use Rattle.register_records.proofs.Common.{HasTooMany, IsNotSealed, Numbered, Reading, body_of, entries_from}
-use Rattle.register_records.proofs.Common.{record_limit, IsHeader, Fields, AreClosed, before_seal, entry_records}
-use Rattle.register_records.proofs.Common.{is_seal, entry_seen, Entry, Form, ∥∥₁_map, nat_tests, append_cancel_left}
+use Rattle.register_records.proofs.Common.{record_limit, Fields, AreClosed, before_seal, entry_records, is_seal}
+use Rattle.register_records.proofs.Common.{entry_seen, Entry, Form, ∥∥₁_map, nat_tests, append_cancel_left}
 use Rattle.register_records.specs.ReadingState.{Ends, HasEntry, IsNoSeal, LacksSeal, TakesFirst, reading_by, EndsAt}
 use Rattle.register_records.specs.ReadingState.{Gives, HasRead}
 use Rattle.register_records.specs.declared.reading.ReaderState.{ReaderState}
 use Rattle.register_records.specs.declared.reading.ReaderState.TheVariants as states
 use Rattle.register_records.specs.Entries.{HasRecords, entries_of, text_records}
+use Rattle.register_records.specs.Headers.{IsHeader}
 
 pub if_some : {X : Type 0} (o : Option X) (P Q : X → Type 0) → ((x : X) → P x → Q x) → IfSome o P → IfSome o Q
 if_some o P Q f h = search rules

@@ -6,19 +6,20 @@ use Rattle.register_records.proofs.Common.{escaped-double, escaped-other, fields
 use Rattle.register_records.proofs.Common.{needs_quotes, target_name, is_plain, Refusal, Target, IsDayNumber}
 use Rattle.register_records.proofs.Common.{has_plain_texts, Column, cell_columns, columns, entry_order, kind_columns}
 use Rattle.register_records.proofs.Common.{tail_order, Begins, GainsFields, writing, line_text, TableRow, Texts}
-use Rattle.register_records.proofs.Common.{is_delimiter, entry_field, kind_name, kind_names, row_fields, tail_texts}
-use Rattle.register_records.proofs.Common.{text_shown, take-append-add, and_parts, nat_tests, flat_map-append, ints}
-use Rattle.register_records.proofs.Common.{map-append, take_more, AllPass-from_list_all, signed_decimal, list_all}
+use Rattle.register_records.proofs.Common.{is_delimiter, entry_field, kind_name, kind_names, row_fields, text_shown}
+use Rattle.register_records.proofs.Common.{take-append-add, and_parts, nat_tests, ints, map-append, take_more}
+use Rattle.register_records.proofs.Common.{AllPass-from_list_all, signed_decimal, list_all}
 use Rattle.std.proofs.lemmas.Fmt.{length-decimal-le, decimal_by_steps}
 use Rattle.std.proofs.lemmas.List.{at_drop_more, flat_map_more, take_more_set, take-append-le}
 use borrow.Rule.Slice.PartMut.{put_mid}
 use Rattle.register_records.specs.LineRoom.{columns_room, number_room}
-use Rattle.register_records.specs.TableColumns.{row_with, heading, kind_fields, laid_out}
+use Rattle.register_records.specs.TableColumns.{tail_texts, row_with, heading, kind_fields, laid_out}
 use Rattle.register_records.specs.declared.table_columns.ColumnKind.{ColumnKind}
 use Rattle.register_records.specs.declared.table_columns.ColumnKind.TheVariants.{Cells, Id, Note, Calendar, Date}
 use Rattle.register_records.proofs.BareLemmas.{unquoted}
 use Rattle.csv.specs.Writing.{field_text, is_blank, row_body}
 use Rattle.std.proofs.lemmas.List.Folds.{list_any-append, list_any_none}
+use Rattle.std.proofs.lemmas.Grind.{flat_map-append}
 
 -- the bytes of some fields, and of one more
 abbrev pub body : ℕ → List (List ℕ) → List ℕ
@@ -49,8 +50,7 @@ first_text d before field bytes e = search (rules, append-nil)
 blank_shows_none : (d : ℕ) (fields : List (List ℕ)) → is_blank (writing d) fields ≡ (length (body d fields) == 0)
 unfolding is_blank fields_text
 blank_shows_none d [] = refl
-blank_shows_none d (field ∷ []) =
-    ap (λ (t : List ℕ). length t == 0) (sym (append-nil (field_text (writing d) field)))
+blank_shows_none d (field ∷ []) = cc (append-nil (field_text (writing d) field))
 blank_shows_none d (field ∷ next ∷ rest) = grind (arith, nat_tests, length-append)
 
 -- such a line gets two quotes, and each a line feed
@@ -63,8 +63,7 @@ pub ended_from : (d : ℕ) (before : List ℕ) (fields : List (List ℕ)) (n beg
     → new ≡ before ++ line_text d fields
 ended_from d before fields n begun old mid new long at is m e =
     let test : (n == begun) ≡ is_blank (writing d) fields =
-    same_test n begun (length (body d fields))
-    (long ∙ ap length is ∙ length-append before (body d fields) ∙ ap (λ k. k + length (body d fields)) at)
+    same_test n begun (length (body d fields)) (omega (arith, ap length is, length-append before (body d fields)))
     ∙ sym (blank_shows_none d fields) in
     search (rules, test, append_assoc, body)
 
@@ -111,12 +110,6 @@ pub put_after : (room places : List ℕ) (at d k count : ℕ) → at < length ro
     → take (at + 1 + count) (put_mid (at + 1) k (set room at d) places) ≡ take at room ++ d ∷ take count places
 put_after room places at d k count lt few =
     grind (arith, length-take-le, length-set, take-append-add, take-append-le, take_more_set room at d lt, append_assoc)
-
--- fields that a line gained by a delimiter that is its own
-pub gained : (d e : ℕ) (before : List ℕ) (fields more : List (List ℕ)) (old new : List ℕ) → e ≡ d
-    → 1 ≤ length fields → Begins d before fields old → GainsFields e more old new
-    → Begins d before (fields ++ more) new
-gained d e before fields more old new same some begun more_put = (rw same at more_put) before fields some begun
 
 -- a digit or a minus sign needs no quotes
 plain_byte : (d c : ℕ) → is_delimiter d ≡ true → 45 ≤ c → c < 58 → needs_byte (writing d) c ≡ false
@@ -171,11 +164,6 @@ plain_column d h body bare Date = (unquoted d h body bare).2
 plain_column d h body bare Note = (unquoted d h body bare).3
 plain_column d h body bare kind = refl
 
--- equal fields
-pub same_body : (d : ℕ) (before : List ℕ) (fields wanted : List (List ℕ)) (bytes : List ℕ) → fields ≡ wanted
-    → bytes ≡ before ++ body d fields → bytes ≡ before ++ body d wanted
-same_body d before fields wanted bytes e h = cc
-
 -- what a function gives of the columns of a table: of those of an entry, of which each is one, and of those of a tail
 in_kinds : {X : Type 0} (f : Column → X) (notes : Bool) (ts : List Target)
     → map f (columns (laid_out notes ts))
@@ -228,6 +216,6 @@ fields_in_parts notes ts row =
     in_kinds (λ (c : Column). c.field row) notes ts ∙ cc (entry_fields notes ts row, tail_same row ts)
 
 -- the steps of making a line, and of putting a byte of a quoted field
-pub ruleset line_steps = (ended, fields_in_parts, heading_names, length-append, one_column, room_for_rest, same_body)
+pub ruleset line_steps = (ended, fields_in_parts, heading_names, length-append, one_column, room_for_rest)
 
 pub ruleset escape_steps = (escaped-double, escaped-other, append_assoc)

@@ -1,6 +1,6 @@
 -- Where records of a sealed register are taken out, its seal does not agree.
-use Rattle.std.proofs.Common.{◌≡◌, ◌+◌, Bool, true, false, List, [], ◌∷◌, ◌++◌, length, if◌then◌else◌, refl, ap, ◌∙◌}
-use Rattle.std.proofs.Common.{arith, length-append, rules}
+use Rattle.std.proofs.Common.{◌≡◌, Bool, true, false, List, [], ◌∷◌, ◌++◌, length, if◌then◌else◌, refl, ap, arith}
+use Rattle.std.proofs.Common.{length-append, rules}
 use Rattle.register_records.proofs.Common.{Fields, before_seal, is_seal, ⊤}
 use Rattle.register_records.specs.Laws.{AreLeftOf, NoLossIsSealed, kept, none, taken}
 
@@ -35,18 +35,12 @@ first_only seal (x ∷ rs) = by (is_seal x) refl (first_only seal rs)
 pub no_loss : NoLossIsSealed
 no_loss records left (after, (header, first, ok), (few, (seal, ends, is, agrees))) are_left shorter
     (after2, (header2, first2, ok2), (few2, (seal2, ends2, is2, agrees2))) =
-    let all : records ≡ header ∷ (before_seal after ++ seal ∷ []) =
-    first ∙ ap (λ (rs : List Fields). header ∷ rs) ends in
-    let all2 : left ≡ header2 ∷ (before_seal after2 ++ seal2 ∷ []) =
-    first2 ∙ ap (λ (rs : List Fields). header2 ∷ rs) ends2 in
+    let all : records ≡ header ∷ (before_seal after ++ seal ∷ []) = cc in
+    let all2 : left ≡ header2 ∷ (before_seal after2 ++ seal2 ∷ []) = cc in
     let only : IsOnlySeal seal (header ∷ (before_seal after ++ seal ∷ [])) =
     (λ clash. let no_seal : is_seal header ≡ false = search rules in cc (clash, no_seal), first_only seal after) in
     let same : seal2 ≡ seal =
     last_only seal seal2 (before_seal after2) (rw all2 at (only_left records left seal are_left (rw all only))).1 is2 in
     let agrees_too = rw same at agrees2 in
     let count : length (before_seal after) ≡ length (before_seal after2) = search rules in
-    let long : length records ≡ length (before_seal after) + 2 =
-    ap length all ∙ rw (length-append (before_seal after) (seal ∷ [])) (omega arith) in
-    let long2 : length left ≡ length (before_seal after2) + 2 =
-    ap length all2 ∙ rw (length-append (before_seal after2) (seal2 ∷ [])) (omega arith) in
-    omega (arith, shorter, count, long, long2)
+    omega (arith, shorter, count, ap length all, ap length all2, length-append {A = Fields})

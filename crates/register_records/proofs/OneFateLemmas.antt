@@ -1,10 +1,9 @@
 -- A text has one fate: each test that decides it is decided by the text.
-use Rattle.std.proofs.Common.{◌≡◌, ℕ, ◌<◌, ◌≤◌, Bool, true, false, List, [], ◌∷◌, ◌++◌, length, IsSomeAnd}
-use Rattle.std.proofs.Common.{if◌then◌else◌, IsTrue, Some, None, codes, Option, sym, refl, ap, ◌∙◌, subst, inl, inr}
-use Rattle.std.proofs.Common.{arith, rules}
-use Rattle.register_records.proofs.Common.{strip_bom, IsNamed, Reading, record_limit}
-use Rattle.register_records.proofs.Common.{Fields, Texts, texts_of, Agrees, AreClosed, before_seal, entry_records}
-use Rattle.register_records.proofs.Common.{is_seal, Form, Plain, Sealed, append_cancel_left}
+use Rattle.std.proofs.Common.{Bool, IsSomeAnd, if◌then◌else◌, IsTrue, codes, inr}
+use Rattle.register_records.proofs.Common.{◌≡◌, ℕ, ◌<◌, ◌≤◌, true, false, List, [], ◌∷◌, ◌++◌, length, Some, None}
+use Rattle.register_records.proofs.Common.{Option, sym, refl, ap, ◌∙◌, subst, inl, arith, rules, strip_bom, IsNamed}
+use Rattle.register_records.proofs.Common.{Reading, record_limit, Fields, Texts, texts_of, Agrees, AreClosed}
+use Rattle.register_records.proofs.Common.{before_seal, entry_records, is_seal, Form, Plain, Sealed, append_cancel_left}
 use Rattle.date_texts.proofs.DecisionLemmas.{Is, all_four, both, in_words, is_at_most, is_named, is_number, is_true}
 use Rattle.register_records.specs.Laws.{Fate, HasFate, OneFate, accepted, no_header, not_sealed, too_many}
 use Rattle.register_records.specs.Entries.{AreAfterHeader, AreAll, HasRecords, entries_of, text_records}
@@ -60,7 +59,7 @@ has_records_of form (r ∷ rest) =
 
 one_after : (reading : Reading) (text : List ℕ) (a b : List Fields) → HasRecords reading text a → HasRecords reading text b
     → a ≡ b
-one_after reading text a b p q = let e : p.0 ∷ a ≡ q.0 ∷ b = sym p.1 ∙ q.1 in cc
+one_after reading text a b p q = let e : p.0 ∷ a ≡ q.0 ∷ b = cc in cc
 
 -- what a fate says of the records behind the header: no two fates hold of the same records
 abbrev IsFateOf : Form → Fate → List Fields → Type 0

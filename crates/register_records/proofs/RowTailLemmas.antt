@@ -5,21 +5,21 @@ use Rattle.std.proofs.Common.{Result, flat_map, sym, refl, ap, ◌∙◌, subst,
 use Rattle.std.proofs.Common.{length-drop, take_all, drop-cons, take_at, rules, eq-eqb}
 use Rattle.register_records.proofs.Common.{fields_text, needs_byte, needs_quotes, is_plain, CellsArePlain, OneCell}
 use Rattle.register_records.proofs.Common.{refusal_number, Refusal, Target, IsDayNumber, weekday_names, weekday_number}
-use Rattle.register_records.proofs.Common.{Day, Column, cell_columns, tail_order, writing, fields_behind, AreCells}
-use Rattle.register_records.proofs.Common.{cells_of, outcome_seen, is_delimiter, column_texts, tail_texts, ∥∥₁_elim}
-use Rattle.register_records.proofs.Common.{drop-append_seam, props, or_parts, nat_tests, ints, signed_decimal, AllZip}
-use Rattle.register_records.proofs.Common.{list_all, onto_first, position_or_len, slice_split}
+use Rattle.register_records.proofs.Common.{Day, Column, cell_columns, writing, fields_behind, AreCells, cells_of}
+use Rattle.register_records.proofs.Common.{outcome_seen, is_delimiter, ∥∥₁_elim, props, or_parts, nat_tests, ints}
+use Rattle.register_records.proofs.Common.{signed_decimal, AllZip, list_all, onto_first, position_or_len, slice_split}
 use Rattle.std.proofs.lemmas.Slice.Zip.{AllZip-long, all_zipped_more}
 use Rattle.std.proofs.lemmas.Fmt.{length-decimal-le, length_signed_le}
 use Rattle.std.proofs.lemmas.List.Splits.{length-slice_split}
 use Rattle.day_numbers.specs.Numbered.{words}
 use Rattle.day_numbers.proofs.NameLemmas.{each_name}
-use Rattle.register_records.specs.RowTails.{is_cells, fields_of}
-use Rattle.register_records.specs.TableColumns.{row_with, IsCellField}
+use Rattle.register_records.specs.RowTails.{fields_of}
+use Rattle.register_records.specs.TableColumns.{column_texts, tail_texts, row_with, IsCellField}
 use Rattle.register_records.specs.declared.row_tails.RowTail.{RowTail}
 use Rattle.register_records.specs.declared.table_columns.ColumnKind.TheVariants.{Cells, Refusal as RefusalColumn}
 use Rattle.register_records.proofs.OutcomeLemmas.{has_cells, one_cells}
 use Rattle.register_records.proofs.LineLemmas.{more_fields_text, plain_bytes, plain_text, plain_day, plain_decimal}
+use Rattle.std.proofs.Math.Seq.{drop-append_seam}
 
 -- the bytes of fields behind delimiters
 abbrev pub text : ℕ → List (List ℕ) → List ℕ
@@ -174,10 +174,7 @@ day_cells n place all (t ∷ ts) (x ∷ cells) e a =
     let lt : place < length all = omega (arith, length-drop place all, ap length e) in
     let split : drop place all ≡ get_or all place [] ∷ drop (place + 1) all = rw (add-one, drop-cons all place [])
     refl in
-    let first : get_or all place [] ≡ x = cc (split, e) in
-    let rest : drop (place + 1) all ≡ cells = cc (split, e) in
-    let more = day_cells n (place + 1) all ts cells rest a.1 in
-    cc (first, more)
+    cc (split, e, day_cells n (place + 1) all ts cells (cc (split, e)) a.1)
 day_cells n place all ts cells e a = search (rules, length-drop, add-one, drop-cons)
 
 nothing_at : (place : ℕ) → get_or {A = List ℕ} [] place [] ≡ []
@@ -199,8 +196,8 @@ four_texts a b c d e f g h i = rw (i, h, g, f, e) (simp (append_assoc, append-ni
 pub shown_cells : OneCell → (o : Result ℤ Refusal) (ts : List Target) (fields cells : List (List ℕ))
     → AllZip (IsCellField o) ts fields → AreCells ts o cells → fields ≡ column_texts ts o cells Cells
 shown_cells law (Ok n) ts fields cells shown are =
-    one_cells law (Ok n) ts fields cells shown are ∙ sym (day_cells n 0 cells ts cells refl are)
-shown_cells law (Err r) ts fields cells shown are = rw are (sym (no_cells r 0 ts fields shown))
+    cc (one_cells law (Ok n) ts fields cells shown are, day_cells n 0 cells ts cells refl are)
+shown_cells law (Err r) ts fields cells shown are = cc (are, no_cells r 0 ts fields shown)
 
 -- bytes to which the fields of these targets were appended
 pub record HasCells (d : ℕ) (o : Result ℤ Refusal) (ts : List Target) (old new : List ℕ) : Type 0 where
@@ -232,10 +229,8 @@ cells_among : (ts : List Target) (o : Result Day Refusal) (cells : List (List �
     → cells_of ts o tail ≡ cells
 cells_among ts (Ok day) cells tail are is =
     let behind = flat_map (column_texts ts (Ok day.number) cells) (RefusalColumn ∷ []) in
-    ap (λ (fields : List (List ℕ)). take (length ts) (drop (position_or_len is_cells tail_order) fields)) is
-    ∙ ap (λ (shown : List (List ℕ)). take (length ts) (shown ++ behind))
-    (day_cells day.number 0 cells ts cells refl are)
-    ∙ take_at cells behind (length ts) (AllZip-long (IsCellField (Ok day.number)) ts cells are)
+    let all = take_at cells behind (length ts) (AllZip-long (IsCellField (Ok day.number)) ts cells are) in
+    cc (is, all, day_cells day.number 0 cells ts cells refl are)
 cells_among ts (Err r) cells tail are is = sym are
 
 pub record AreWhole (ts : List Target) (o : Result Day Refusal) (tail : RowTail) : Type 0 where

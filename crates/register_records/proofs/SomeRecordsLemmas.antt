@@ -4,11 +4,11 @@ use Rattle.std.proofs.Common.{Err, Result, sym, refl, ap, ◌∙◌, subst, appe
 use Rattle.register_records.proofs.Common.{Refusal, Target, entry_order, AreNumberedFrom, HasFirstEntries, Numbered}
 use Rattle.register_records.proofs.Common.{Reading, are_fit, body_of, entries_from, record_limit, IsOutcome, IsRowOf}
 use Rattle.register_records.proofs.Common.{TableRow, Fields, Texts, has_notes, before_seal, entry_records, is_seal}
-use Rattle.register_records.proofs.Common.{entry_seen, entry_field, row_fields, tail_texts, row_seen, Row, Form, Plain}
+use Rattle.register_records.proofs.Common.{entry_seen, entry_field, row_fields, table_text, row_seen, Row, Form, Plain}
 use Rattle.register_records.proofs.Common.{Sealed, and_parts, nat_tests, length-map, AllZip, ⊤, chars, is_utf8}
 use Rattle.register_records.proofs.OutcomeLemmas.{outcome_of_same, AreInOrder, numbered as in_order}
 use Rattle.date_texts.specs.declared.refusal.Refusal.TheVariants as refusal
-use Rattle.register_records.specs.Tables.{table_text, Layout, heading_line, lines_text}
+use Rattle.register_records.specs.Tables.{Layout, heading_line, lines_text}
 use Rattle.register_records.proofs.FieldLemmas.{no_bytes}
 use Rattle.register_records.proofs.LineLemmas.{fields_in_parts}
 use Rattle.register_records.specs.Sources.{IsFrontOfTable}
@@ -118,10 +118,8 @@ texts_placed Sealed number body outcome cells row is = refl
 fields_placed : (form : Form) (targets : List Target) (row : TableRow)
     → row_fields (has_notes form) targets (placed_row form row) ≡ row_fields (has_notes form) targets row
 fields_placed form targets row =
-    fields_in_parts (has_notes form) targets (placed_row form row)
-    ∙ ap (λ (fields : List (List ℕ)). fields ++ tail_texts targets row.outcome row.cells)
-    (texts_placed form row.number row.body row.outcome row.cells row refl)
-    ∙ sym (fields_in_parts (has_notes form) targets row)
+    let texts = texts_placed form row.number row.body row.outcome row.cells row refl in
+    cc (fields_in_parts (has_notes form) targets row, fields_in_parts (has_notes form) targets (placed_row form row), texts)
 
 lines_placed : (form : Form) (layout : Layout) → layout.writing.has_notes ≡ has_notes form → (rows : List TableRow)
     → lines_text layout (map (placed_row form) rows) ≡ lines_text layout rows

@@ -4,14 +4,13 @@ use Rattle.std.proofs.Common.{is_some, IfSome, Some, None, Err, Contains, Option
 use Rattle.std.proofs.Common.{append_assoc, append-nil, arith, length-append, rules}
 use Rattle.register_records.proofs.Common.{Target, entry_fault_cause, AreNumberedFrom, HasAllEntries, HasEntries}
 use Rattle.register_records.proofs.Common.{HasFirstEntries, HasTooMany, IsNotSealed, Numbered, Reading, record_limit}
-use Rattle.register_records.proofs.Common.{IsRowOf, TableRow, entry_seen, IsNextRow, table_fault, given_of}
+use Rattle.register_records.proofs.Common.{IsRowOf, TableRow, entry_seen, table_text, IsNextRow, table_fault, given_of}
 use Rattle.register_records.proofs.Common.{reader_failed, reading_of, reads_by, row_seen, row_targets, text_of, Entry}
 use Rattle.register_records.proofs.Common.{EntryFault, Row, ∥∥₁_elim, ∥∥₁_map, ∥∥₁_prop, false_from_ne_true, length-map}
 use Rattle.register_records.proofs.Common.{map-append, Appends, append_known, AllZip, range_with_len}
 use Rattle.std.proofs.lemmas.List.Elements.{Contains-append_right, Contains-push_cases}
 use Rattle.register_records.specs.TableStates.{fault_of, lines_waiting, lost_output, is_of_table}
-use Rattle.register_records.specs.Tables.{table_text, Layout, heading_line, journal_of, lines_text, refusal_notes}
-use Rattle.register_records.specs.Tables.{row_line}
+use Rattle.register_records.specs.Tables.{Layout, heading_line, journal_of, lines_text, refusal_notes, row_line}
 use Rattle.register_records.specs.TablesWritten.{HasEnded, Holds, IsSameTable, IsTableSoFar, entries_seen}
 use Rattle.register_records.specs.TablesWritten.{has_lost_output, is_headed, made_by, made_for, rows_seen, waiting_of}
 use Rattle.register_records.specs.Views.{layout_of, line_of, waiting_in, writes_by}

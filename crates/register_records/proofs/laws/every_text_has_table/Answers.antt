@@ -1,8 +1,7 @@
-use Rattle.register_records.proofs.Common.{sym, refl, subst, IsRowOf}
+use Rattle.register_records.proofs.Common.{sym, refl, subst, IsRowOf, table_text}
 use Rattle.register_records.proofs.OutcomeLemmas.{AreInOrder, all_beside, has_row, numbered}
 use Rattle.register_records.proofs.laws.every_text_has_table.Goals as goal
 use Rattle.register_records.specs.Sources.{IsTableOf}
-use Rattle.register_records.specs.Tables.{table_text}
 
 pub returns : goal.returns
 returns c reading layout text entries is =

@@ -1,5 +1,4 @@
-use Rattle.register_records.proofs.Common.{◌≡◌, ℕ, List, drop, sym, ap, ◌∙◌, subst, arith, fields_text, GainsFields}
-use Rattle.register_records.proofs.Common.{writing, line_bytes, row_seen, row_targets, tail_fields}
+use Rattle.register_records.proofs.Common.{◌≡◌, drop, arith, fields_text, writing, row_seen, row_targets, tail_fields}
 use Rattle.register_records.proofs.LineLemmas.{tail_alike}
 use Rattle.register_records.proofs.RowTailLemmas.{one_passed}
 use Rattle.register_records.proofs.rows.Row.put_tail_from.Goals as goal
@@ -18,12 +17,8 @@ passed-preserved c =
 pub returns-clause-value : goal.returns-clause-value
 returns-clause-value c =
     let row = c.args.self.now in
-    let d = c.args.lines.now.delimiter in
     let all : c.passed.counter ≡ c.args.passed = omega arith in
-    let bytes : c.passed.bytes.now ≡ fields_text (writing d) (drop c.args.passed (tail_fields row)) =
-    c.passed.invariant.behind
-    ∙ ap (λ n. fields_text (writing row.tail.delimiter) (drop n (tail_fields row))) all
-    ∙ ap (λ e. fields_text (writing e) (drop c.args.passed (tail_fields row))) (sym c.requires.same) in
-    subst (λ (fields : List (List ℕ)). GainsFields d (drop c.args.passed fields) (line_bytes c.args.lines.now)
-    (line_bytes c.written.new.self)) (sym (tail_alike (row_seen row) (row_targets row)))
-    (c.written.ensures.value (drop c.args.passed (tail_fields row)) bytes)
+    let bytes : c.passed.bytes.now
+    ≡ fields_text (writing c.args.lines.now.delimiter) (drop c.args.passed (tail_fields row)) =
+    cc (c.passed.invariant.behind, all, c.requires.same) in
+    rw (tail_alike (row_seen row) (row_targets row)) (c.written.ensures.value (drop c.args.passed (tail_fields row)) bytes)

@@ -1,58 +1,28 @@
 -- Texts that hold no byte that calls for quotes, and plain texts, which are ASCII besides.
-use Rattle.std.proofs.Common.{◌≡◌, ◌∙◌, ◌+◌, ◌*◌, ◌/◌, ◌-◌, ◌<◌, ◌≤◌, ◌++◌, ℕ, zero, suc, List, [], ◌∷◌, Option, rules}
-use Rattle.std.proofs.Common.{Some, true, false, refl, sym, ap, subst, arith, length, take, drop, get_or, take_all}
-use Rattle.register_records.proofs.Common.{⊤, Err, Result, option_map_or, and_parts, or_parts, nat_tests, list_all_more}
-use Rattle.register_records.proofs.Common.{take-add, is_utf8-from_IsUtf8, list_all, needs_byte, needs_quotes, Refusal}
-use Rattle.register_records.proofs.Common.{IsPlain, has_special, is_plain_byte, body_of, body_of_texts, writing, Fields}
-use Rattle.register_records.proofs.Common.{Texts, texts_of, is_delimiter, CHUNK, Form}
-use Rattle.std.specs.Prelude.{IfSome, IsAscii}
-use Rattle.std.proofs.lemmas.Bool.{or_from}
-use Rattle.std.proofs.lemmas.List.Folds.{list_all-append}
+use Rattle.std.proofs.Common.{◌≡◌, ℕ, zero, suc, ◌+◌, ◌-◌, ◌*◌, ◌/◌, ◌<◌, ◌≤◌, true, false, List, [], ◌∷◌, ◌++◌, length}
+use Rattle.std.proofs.Common.{get_or, take, drop, IfSome, Some, Err, IsAscii, Option, Result, sym, refl, ap, ◌∙◌, subst}
+use Rattle.std.proofs.Common.{arith, take_all, rules}
+use Rattle.register_records.proofs.Common.{cut_from, needs_byte, needs_quotes, Refusal, IsPlain, has_plain_texts}
+use Rattle.register_records.proofs.Common.{is_plain_byte, are_utf8, body_of, body_of_texts, writing, Fields, Texts}
+use Rattle.register_records.proofs.Common.{texts_of, is_delimiter, CHUNK, Form, take-add, and_parts, or_from, or_parts}
+use Rattle.register_records.proofs.Common.{nat_tests, AllPass-from_list_all, list_all, ⊤, is_utf8}
 use Rattle.std.proofs.lemmas.List.{drop-drop, take-append-drop}
 use Rattle.std.specs.Simd.{first_chunks}
-use Rattle.std.proofs.lemmas.Str.{IsUtf8-from_ascii}
-use Rattle.std.proofs.lemmas.Str.Ascii.{IsAscii-cons, IsAscii-nil}
-use Rattle.std.specs.Str.{is_utf8}
-use Rattle.std.specs.List.{list_any}
+use Rattle.std.proofs.lemmas.Str.{is_utf8-from_IsUtf8, IsUtf8-from_ascii}
 use Rattle.std.specs.Result.{result_ok}
-use Rattle.csv.specs.Records.{cut_from}
 use Rattle.date_texts.specs.declared.refusal.Refusal.TheVariants as refusal
-use Rattle.register_records.specs.BareTexts.{is_special_byte}
-use Rattle.register_records.specs.Entries.{are_utf8}
+use Rattle.std.specs.Option.{option_map_or}
+use Rattle.std.proofs.lemmas.List.Folds.{list_all_more, list_all-append, list_any_none}
+use Rattle.std.proofs.lemmas.Str.Ascii.{IsAscii-from_all}
 
--- no byte of this text calls for quotes
-abbrev pub IsBare : List ℕ → Type 0
-IsBare text = list_any is_special_byte text ≡ false
+-- no byte of a plain text calls for quotes in a table
+plain_byte_bare : (d c : ℕ) → is_delimiter d ≡ true → is_plain_byte c ≡ true → needs_byte (writing d) c ≡ false
+plain_byte_bare d c h p = grind (arith, nat_tests)
 
--- a byte that does not
-bare_byte : (d c : ℕ) → is_delimiter d ≡ true → is_special_byte c ≡ false → needs_byte (writing d) c ≡ false
-bare_byte d c h p = grind (arith, nat_tests)
-
-pub bare_text : (d : ℕ) → is_delimiter d ≡ true → (text : List ℕ) → IsBare text
-    → needs_quotes (writing d) text ≡ false
-bare_text d h [] p = refl
-bare_text d h (c ∷ text) p =
-    let both = or_parts (is_special_byte c) (list_any is_special_byte text) p in
-    rw (bare_byte d c h both.0, bare_text d h text both.1) refl
-
--- a plain text is ASCII, and none of its bytes does
-plain_byte_ascii : (b : ℕ) → is_plain_byte b ≡ true → b < 128
-plain_byte_ascii b h = grind (arith, nat_tests)
-
-plain_byte_bare : (b : ℕ) → is_plain_byte b ≡ true → is_special_byte b ≡ false
-plain_byte_bare b h = grind (arith, nat_tests)
-
-plain_ascii : (text : List ℕ) → IsPlain text → IsAscii text
-plain_ascii [] h = IsAscii-nil
-plain_ascii (b ∷ text) h =
-    let both = and_parts (is_plain_byte b) (list_all is_plain_byte text) h in
-    IsAscii-cons b text (plain_byte_ascii b both.0) (plain_ascii text both.1)
-
-plain_bare : (text : List ℕ) → IsPlain text → IsBare text
-plain_bare [] h = refl
-plain_bare (b ∷ text) h =
-    let both = and_parts (is_plain_byte b) (list_all is_plain_byte text) h in
-    or_from _ _ (plain_byte_bare b both.0) (plain_bare text both.1)
+pub bare_text : (d : ℕ) → is_delimiter d ≡ true → (text : List ℕ) → IsPlain text → needs_quotes (writing d) text ≡ false
+bare_text d h text p =
+    let all = AllPass-from_list_all is_plain_byte text p in
+    list_any_none (needs_byte (writing d)) text (λ k e lt. plain_byte_bare d _ h (all k e lt))
 
 -- the two parts of a plain text
 plain_halves : (n : ℕ) (text : List ℕ) → IsPlain text → IsPlain (take n text) × IsPlain (drop n text)
@@ -83,9 +53,15 @@ plain_record : (form : Form) (ends bytes : List ℕ) → IsPlain bytes
     → IfSome (texts_of form (cut_from 0 ends bytes)) ArePlainTexts
 plain_record form ends bytes h = plain_texts form (cut_from 0 ends bytes) (plain_fields 0 ends bytes h)
 
--- so they are UTF-8
+-- so they are ASCII, which is UTF-8
+plain_byte_ascii : (b : ℕ) → is_plain_byte b ≡ true → b < 128
+plain_byte_ascii b h = grind (arith, nat_tests)
+
 plain_utf8 : (text : List ℕ) → IsPlain text → is_utf8 text ≡ true
-plain_utf8 text h = is_utf8-from_IsUtf8 text (IsUtf8-from_ascii text (plain_ascii text h))
+plain_utf8 text h =
+    let all = AllPass-from_list_all is_plain_byte text h in
+    let ascii = IsAscii-from_all text (λ k d lt. plain_byte_ascii _ (all k d lt)) in
+    is_utf8-from_IsUtf8 text (IsUtf8-from_ascii text ascii)
 
 pub utf8_texts : (form : Form) (ends bytes : List ℕ) (t : Texts) → texts_of form (cut_from 0 ends bytes) ≡ Some t
     → IsPlain bytes → are_utf8 t ≡ true
@@ -93,13 +69,13 @@ utf8_texts form ends bytes t e h =
     let plain : ArePlainTexts t = rw e at (plain_record form ends bytes h) in
     rw (plain_utf8 _ plain.0, plain_utf8 _ plain.1, plain_utf8 _ plain.2, plain_utf8 _ plain.3) refl
 
--- no byte of a plain record's texts calls for quotes
+-- and the body of such a record has plain texts
 bare_option : (o : Option Texts) → IfSome o ArePlainTexts
-    → has_special (option_map_or body_of_texts o (Err refusal.FieldCount)) ≡ false
-bare_option o h = search (rules, or_from, plain_bare)
+    → has_plain_texts (option_map_or body_of_texts o (Err refusal.FieldCount)) ≡ true
+bare_option o h = grind arith
 
 pub bare_record : (form : Form) (ends bytes : List ℕ) → IsPlain bytes
-    → has_special (body_of form (cut_from 0 ends bytes)) ≡ false
+    → has_plain_texts (body_of form (cut_from 0 ends bytes)) ≡ true
 bare_record form ends bytes h = bare_option (texts_of form (cut_from 0 ends bytes)) (plain_record form ends bytes h)
 
 -- a text is plain by its chunks, and by as many bytes at its end
@@ -133,19 +109,16 @@ plain_by_chunks text chunks long is h k =
     let end = length text / CHUNK * CHUNK in
     let front : IsPlain (take end text) = plain_front (length text / CHUNK) text (rw (← is) k) in
     let place : start + (end - start) ≡ end = omega arith in
-    let same : drop (end - start) (drop start text) ≡ drop end text =
-    drop-drop (end - start) start text ∙ ap (λ m. drop m text) place in
-    subst IsPlain (take-append-drop end text)
-    (plain_join (take end text) (drop end text) front
-    (subst IsPlain same (plain_halves (end - start) (drop start text) h).1))
+    let back = rw (drop-drop (end - start) start text, place) at (plain_halves (end - start) (drop start text) h).1 in
+    rw take-append-drop at (plain_join (take end text) (drop end text) front back)
 
--- the texts of a body none of whose bytes calls for quotes need none in a table
-pub unquoted : (d : ℕ) → is_delimiter d ≡ true → (body : Result Texts Refusal) → has_special body ≡ false
+-- the texts of a body that has plain ones need no quotes in a table
+pub unquoted : (d : ℕ) → is_delimiter d ≡ true → (body : Result Texts Refusal) → has_plain_texts body ≡ true
     → (needs_quotes (writing d) (option_map_or (λ (t : Texts). t.id) (result_ok body) []) ≡ false)
     × (needs_quotes (writing d) (option_map_or (λ (t : Texts). t.calendar) (result_ok body) []) ≡ false)
     × (needs_quotes (writing d) (option_map_or (λ (t : Texts). t.date) (result_ok body) []) ≡ false)
     × (needs_quotes (writing d) (option_map_or (λ (t : Texts). t.note) (result_ok body) []) ≡ false)
-unquoted d h body bare = search (rules, or_parts, bare_text)
+unquoted d h body bare = search (rules, and_parts, bare_text)
 
 -- the steps of looking at a text chunk by chunk
 pub ruleset chunk_steps = (and_parts, plain_more, plain_by_chunks, take_all)

@@ -1,16 +1,16 @@
 -- What a step of a reader of entries does to those that it gave.
-use Rattle.std.proofs.Common.{◌≡◌, ◌<◌, ◌≤◌, ◌+◌, ◌++◌, ℕ, List, [], ◌∷◌, length, Option, Some, None, true, rules, refl}
-use Rattle.std.proofs.Common.{sym, ap, ◌∙◌, arith, append_assoc, IfSome, nat_lt, option_map, append-nil, length-append}
-use Rattle.register_records.proofs.Common.{∥∥₁_map, nat_tests, append_cancel_left, IsHeader, HasAllEntries, HasEntries}
-use Rattle.register_records.proofs.Common.{HasFirstEntries, HasRecords, Reading, HasTooMany, IsNotSealed, Numbered}
-use Rattle.register_records.proofs.Common.{body_of, entries_of, record_limit, text_records, AreClosed, entry_records}
-use Rattle.register_records.proofs.Common.{is_seal, entry_seen, Ends, HasEntry, IsNoSeal, LacksSeal, TakesFirst, Entry}
-use Rattle.register_records.proofs.Common.{Form, Fields}
-use Rattle.register_records.specs.Entries.{entries_from}
-use Rattle.register_records.specs.Seals.{before_seal}
-use Rattle.register_records.specs.ReadingState.{reading_by, EndsAt, Gives, HasRead}
+use Rattle.register_records.proofs.Common.{◌≡◌, ℕ, ◌+◌, ◌<◌, ◌≤◌, true, List, [], ◌∷◌, ◌++◌, length, IfSome, nat_lt}
+use Rattle.register_records.proofs.Common.{Some, None, Option, option_map, sym, refl, ap, ◌∙◌, append_assoc, append-nil}
+use Rattle.register_records.proofs.Common.{arith, length-append, rules, HasAllEntries, HasEntries, HasFirstEntries}
+use Rattle.register_records.proofs.Common.{HasTooMany, IsNotSealed, Numbered, Reading, body_of, entries_from}
+use Rattle.register_records.proofs.Common.{record_limit, Fields, AreClosed, before_seal, entry_records, is_seal}
+use Rattle.register_records.proofs.Common.{entry_seen, Entry, Form, ∥∥₁_map, nat_tests, append_cancel_left}
+use Rattle.register_records.specs.ReadingState.{Ends, HasEntry, IsNoSeal, LacksSeal, TakesFirst, reading_by, EndsAt}
+use Rattle.register_records.specs.ReadingState.{Gives, HasRead}
 use Rattle.register_records.specs.declared.reading.ReaderState.{ReaderState}
 use Rattle.register_records.specs.declared.reading.ReaderState.TheVariants as states
+use Rattle.register_records.specs.Entries.{HasRecords, entries_of, text_records}
+use Rattle.register_records.specs.Headers.{IsHeader}
 
 pub if_some : {X : Type 0} (o : Option X) (P Q : X → Type 0) → ((x : X) → P x → Q x) → IfSome o P → IfSome o Q
 if_some o P Q f h = search rules
@@ -225,3 +225,6 @@ module _ {o : Option (List ℕ)} {reading : Reading} {state : ReaderState} {left
     pub may_many : IfSome left (HasEntry reading.form) → count ≡ record_limit
         → ∥ IfSome o (λ text. HasTooMany reading text) ∥₁
     may_many e full = ∥∥₁_map opened (λ s. too_many reading o s e (sym counted ∙ full))
+
+-- the steps of reading the next entry
+pub ruleset given_steps = (may_ended, may_end, may_fail, may_all, may_many, may_lack, may_above)

@@ -1,28 +1,25 @@
 -- The fields of a line, while they are appended.
-use Rattle.std.proofs.Common.{◌≡◌, ◌<◌, ◌≤◌, ◌+◌, ◌^◌, ◌%◌, ◌++◌, ℕ, List, [], ◌∷◌, true, false, refl, sym, ap, ◌∙◌}
-use Rattle.std.proofs.Common.{rules, arith, append_assoc, append-nil, length, length-append, length-set, map, set, take}
-use Rattle.std.proofs.Common.{◌==◌, if◌then◌else◌, Bool, Result, drop, get_or, ℤ, length-take-le}
-use Rattle.register_records.proofs.Common.{decimal, signed_decimal, ints, and_parts, nat_tests, length-decimal-le}
-use Rattle.register_records.proofs.Common.{map-append, take_more, flat_map, list_all, needs_byte, needs_quotes}
-use Rattle.register_records.proofs.Common.{IsDayNumber, Begins, GainsFields, columns_room, writing, is_delimiter}
-use Rattle.register_records.proofs.Common.{is_plain, target_name, Refusal, Target, Column, cell_columns, entry_order}
-use Rattle.register_records.proofs.Common.{tail_order, entry_field, text_shown, kind_name, kind_names, row_fields}
-use Rattle.register_records.proofs.Common.{row_with, tail_texts, TableRow, Cells, Id, Note, Texts, has_special}
-use Rattle.std.proofs.lemmas.Grind.{flat_map-append}
-use Rattle.std.proofs.lemmas.Fmt.{decimal_by_steps}
+use Rattle.std.proofs.Common.{◌≡◌, ℕ, ◌+◌, ◌%◌, ◌^◌, ◌<◌, ◌≤◌, Bool, true, false, List, [], ◌∷◌, ◌++◌, map, length}
+use Rattle.std.proofs.Common.{get_or, take, drop, set, ℤ, if◌then◌else◌, ◌==◌, decimal, Result, flat_map, sym, refl, ap}
+use Rattle.std.proofs.Common.{◌∙◌, append_assoc, append-nil, arith, length-append, length-set, length-take-le, rules}
+use Rattle.register_records.proofs.Common.{escaped-double, escaped-other, fields-snoc, fields_text, needs_byte}
+use Rattle.register_records.proofs.Common.{needs_quotes, target_name, is_plain, Refusal, Target, IsDayNumber}
+use Rattle.register_records.proofs.Common.{has_plain_texts, Column, cell_columns, columns, entry_order, kind_columns}
+use Rattle.register_records.proofs.Common.{tail_order, Begins, GainsFields, writing, line_text, TableRow, Texts}
+use Rattle.register_records.proofs.Common.{is_delimiter, entry_field, kind_name, kind_names, row_fields, text_shown}
+use Rattle.register_records.proofs.Common.{take-append-add, and_parts, nat_tests, ints, map-append, take_more}
+use Rattle.register_records.proofs.Common.{AllPass-from_list_all, signed_decimal, list_all}
+use Rattle.std.proofs.lemmas.Fmt.{length-decimal-le, decimal_by_steps}
 use Rattle.std.proofs.lemmas.List.{at_drop_more, flat_map_more, take_more_set, take-append-le}
-use Rattle.std.proofs.Math.Seq.{take-append-add}
-use Rattle.std.proofs.lemmas.List.Folds.{list_any-append}
 use borrow.Rule.Slice.PartMut.{put_mid}
-use Rattle.csv.specs.Writing.{field_text, fields_text, is_blank, row_body}
-use Rattle.csv.proofs.WriteFacts.{fields-snoc}
-use Rattle.register_records.specs.LineRoom.{number_room}
-use Rattle.register_records.specs.Lines.{line_text}
-use Rattle.register_records.specs.Columns.{columns, kind_columns}
-use Rattle.register_records.specs.TableColumns.{heading, kind_fields, laid_out}
+use Rattle.register_records.specs.LineRoom.{columns_room, number_room}
+use Rattle.register_records.specs.TableColumns.{tail_texts, row_with, heading, kind_fields, laid_out}
 use Rattle.register_records.specs.declared.table_columns.ColumnKind.{ColumnKind}
-use Rattle.register_records.specs.declared.table_columns.ColumnKind.TheVariants.{Calendar, Date}
+use Rattle.register_records.specs.declared.table_columns.ColumnKind.TheVariants.{Cells, Id, Note, Calendar, Date}
 use Rattle.register_records.proofs.BareLemmas.{unquoted}
+use Rattle.csv.specs.Writing.{field_text, is_blank, row_body}
+use Rattle.std.proofs.lemmas.List.Folds.{list_any-append, list_any_none}
+use Rattle.std.proofs.lemmas.Grind.{flat_map-append}
 
 -- the bytes of some fields, and of one more
 abbrev pub body : ℕ → List (List ℕ) → List ℕ
@@ -41,22 +38,19 @@ plain_text d field h = rw h refl
 pub only_field : (d : ℕ) (before field bytes : List ℕ) → needs_quotes (writing d) field ≡ false
     → bytes ≡ before ++ field → bytes ≡ before ++ body d (field ∷ [])
 unfolding fields_text
-only_field d before field bytes h e =
-    e ∙ ap (λ (t : List ℕ). before ++ t) (rw (plain_text d field h) (sym (append-nil field)))
+only_field d before field bytes h e = search (rules, plain_text, append-nil)
 
 -- a line that one field begins
 pub first_text : (d : ℕ) (before field bytes : List ℕ) → bytes ≡ before ++ field_text (writing d) field
     → bytes ≡ before ++ body d (field ∷ [])
 unfolding fields_text
-first_text d before field bytes e =
-    e ∙ ap (λ (t : List ℕ). before ++ t) (sym (append-nil (field_text (writing d) field)))
+first_text d before field bytes e = search (rules, append-nil)
 
 -- a line is blank where it shows no byte
 blank_shows_none : (d : ℕ) (fields : List (List ℕ)) → is_blank (writing d) fields ≡ (length (body d fields) == 0)
 unfolding is_blank fields_text
 blank_shows_none d [] = refl
-blank_shows_none d (field ∷ []) =
-    ap (λ (t : List ℕ). length t == 0) (sym (append-nil (field_text (writing d) field)))
+blank_shows_none d (field ∷ []) = cc (append-nil (field_text (writing d) field))
 blank_shows_none d (field ∷ next ∷ rest) = grind (arith, nat_tests, length-append)
 
 -- such a line gets two quotes, and each a line feed
@@ -69,8 +63,7 @@ pub ended_from : (d : ℕ) (before : List ℕ) (fields : List (List ℕ)) (n beg
     → new ≡ before ++ line_text d fields
 ended_from d before fields n begun old mid new long at is m e =
     let test : (n == begun) ≡ is_blank (writing d) fields =
-    same_test n begun (length (body d fields))
-    (long ∙ ap length is ∙ length-append before (body d fields) ∙ ap (λ k. k + length (body d fields)) at)
+    same_test n begun (length (body d fields)) (omega (arith, ap length is, length-append before (body d fields)))
     ∙ sym (blank_shows_none d fields) in
     search (rules, test, append_assoc, body)
 
@@ -98,8 +91,7 @@ pub one_column : (f : ColumnKind → List (List ℕ)) (d : ℕ) (before : List �
     (columns : List ColumnKind) (i : ℕ) (e : ColumnKind) (new : List ℕ) → i < length columns
     → new ≡ before ++ body d ((first ++ flat_map f (take i columns)) ++ f (get_or columns i e))
     → new ≡ before ++ body d (first ++ flat_map f (take (i + 1) columns))
-one_column f d before first columns i e new lt is =
-    is ∙ ap (λ (fields : List (List ℕ)). before ++ body d fields) (one_more_column f first columns i e lt)
+one_column f d before first columns i e new lt is = cc (is, one_more_column f first columns i e lt)
 
 -- more fields
 pub more_fields_text : (d : ℕ) (fields more : List (List ℕ))
@@ -117,20 +109,7 @@ more_fields d before fields more old new some is n = search (rules, more_fields_
 pub put_after : (room places : List ℕ) (at d k count : ℕ) → at < length room → count ≤ length places
     → take (at + 1 + count) (put_mid (at + 1) k (set room at d) places) ≡ take at room ++ d ∷ take count places
 put_after room places at d k count lt few =
-    let base = set room at d in
-    let front : at + 1 ≡ length (take (at + 1) base) =
-    omega (arith, length-take-le (at + 1) base (omega (arith, length-set room at d))) in
-    ap (λ n. take (n + count) (put_mid (at + 1) k base places)) front
-    ∙ take-append-add (take (at + 1) base) _ count
-    ∙ ap (λ (t : List ℕ). take (at + 1) base ++ t) (take-append-le count places _ few)
-    ∙ ap (λ (t : List ℕ). t ++ take count places) (take_more_set room at d lt)
-    ∙ append_assoc (take at room) (d ∷ []) (take count places)
-
--- fields that a line gained by a delimiter that is its own
-pub gained : (d e : ℕ) (before : List ℕ) (fields more : List (List ℕ)) (old new : List ℕ) → e ≡ d
-    → 1 ≤ length fields → Begins d before fields old → GainsFields e more old new
-    → Begins d before (fields ++ more) new
-gained d e before fields more old new same some begun more_put = (rw same at more_put) before fields some begun
+    grind (arith, length-take-le, length-set, take-append-add, take-append-le, take_more_set room at d lt, append_assoc)
 
 -- a digit or a minus sign needs no quotes
 plain_byte : (d c : ℕ) → is_delimiter d ≡ true → 45 ≤ c → c < 58 → needs_byte (writing d) c ≡ false
@@ -166,41 +145,24 @@ plain_cell_byte d c h p = grind (arith, nat_tests)
 
 pub plain_bytes : (d : ℕ) → is_delimiter d ≡ true → (text : List ℕ) → list_all is_plain text ≡ true
     → needs_quotes (writing d) text ≡ false
-plain_bytes d h [] p = refl
-plain_bytes d h (c ∷ text) p =
-    let both = and_parts (is_plain c) (list_all is_plain text) p in
-    rw (plain_cell_byte d c h both.0, plain_bytes d h text both.1) refl
+plain_bytes d h text p =
+    let all = AllPass-from_list_all is_plain text p in
+    list_any_none (needs_byte (writing d)) text (λ k e lt. plain_cell_byte d _ h (all k e lt))
 
 -- a map of all lists
 map_of_all : {X Y Z : Type 0} (f : Y → Z) (g : X → List Y) (xs : List X)
     → map f (flat_map g xs) ≡ flat_map (λ x. map f (g x)) xs
 map_of_all f g [] = refl
-map_of_all f g (x ∷ xs) =
-    map-append f (g x) (flat_map g xs) ∙ ap (λ ys. map f (g x) ++ ys) (map_of_all f g xs)
+map_of_all f g (x ∷ xs) = map-append f (g x) (flat_map g xs) ∙ cc (map_of_all f g xs)
 
 -- the texts of an entry none of whose bytes calls for quotes
-pub plain_column : (d : ℕ) → is_delimiter d ≡ true → (body : Result Texts Refusal) → has_special body ≡ false
+pub plain_column : (d : ℕ) → is_delimiter d ≡ true → (body : Result Texts Refusal) → has_plain_texts body ≡ true
     → (column : ColumnKind) → needs_quotes (writing d) (text_shown body column) ≡ false
 plain_column d h body bare Id = (unquoted d h body bare).0
 plain_column d h body bare Calendar = (unquoted d h body bare).1
 plain_column d h body bare Date = (unquoted d h body bare).2
 plain_column d h body bare Note = (unquoted d h body bare).3
 plain_column d h body bare kind = refl
-
--- equal fields
-pub same_body : (d : ℕ) (before : List ℕ) (fields wanted : List (List ℕ)) (bytes : List ℕ) → fields ≡ wanted
-    → bytes ≡ before ++ body d fields → bytes ≡ before ++ body d wanted
-same_body d before fields wanted bytes e h = h ∙ ap (λ (fields : List (List ℕ)). before ++ body d fields) e
-
-pub same_line : (d : ℕ) (before : List ℕ) (fields wanted : List (List ℕ)) (bytes : List ℕ) → fields ≡ wanted
-    → bytes ≡ before ++ line_text d fields → bytes ≡ before ++ line_text d wanted
-same_line d before fields wanted bytes e h = rw (← e) h
-
-pub some_fields : (fields more : List (List ℕ)) → 1 ≤ length fields → 1 ≤ length (fields ++ more)
-some_fields fields more some = rw (length-append fields more) (omega arith)
-
-pub two_of : (fields rest : List (List ℕ)) (a b : List ℕ) → 2 ≤ length (fields ++ (a ∷ b ∷ rest))
-two_of fields rest a b = rw (length-append fields (a ∷ b ∷ rest)) (omega arith)
 
 -- what a function gives of the columns of a table: of those of an entry, of which each is one, and of those of a tail
 in_kinds : {X : Type 0} (f : Column → X) (notes : Bool) (ts : List Target)
@@ -213,7 +175,7 @@ in_kinds f notes ts =
 pub name_columns : (place : ℕ) (ts : List Target)
     → map (λ (c : Column). c.name) (cell_columns place ts) ≡ map target_name ts
 name_columns place [] = refl
-name_columns place (t ∷ ts) = ap (λ (names : List (List ℕ)). target_name t ∷ names) (name_columns (place + 1) ts)
+name_columns place (t ∷ ts) = cc (name_columns (place + 1) ts)
 
 entry_names : (notes : Bool) (ts : List Target) → flat_map (kind_names ts) (entry_order notes) ≡ map kind_name (entry_order notes)
 entry_names false ts = refl
@@ -221,9 +183,7 @@ entry_names true ts = refl
 
 pub heading_names : (notes : Bool) (ts : List Target)
     → heading notes ts ≡ map kind_name (entry_order notes) ++ flat_map (kind_names ts) tail_order
-heading_names notes ts =
-    in_kinds (λ (c : Column). c.name) notes ts
-    ∙ ap (λ (names : List (List ℕ)). names ++ flat_map (kind_names ts) tail_order) (entry_names notes ts)
+heading_names notes ts = in_kinds (λ (c : Column). c.name) notes ts ∙ cc (entry_names notes ts)
 
 -- each kind but the cells has one name
 pub one_name : (ts : List Target) (kind : ColumnKind) → (kind ≡ Cells → ⊥) → kind_names ts kind ≡ kind_name kind ∷ []
@@ -235,8 +195,7 @@ cell_fields : (row : TableRow) (place : ℕ) (ts : List Target)
     → map (λ (c : Column). c.field row) (cell_columns place ts)
     ≡ map (λ (c : Column). c.field (row_with row.outcome row.cells)) (cell_columns place ts)
 cell_fields row place [] = refl
-cell_fields row place (t ∷ ts) =
-    ap (λ (fields : List (List ℕ)). get_or row.cells place [] ∷ fields) (cell_fields row (place + 1) ts)
+cell_fields row place (t ∷ ts) = cc (cell_fields row (place + 1) ts)
 
 tail_same : (row : TableRow) (ts : List Target)
     → flat_map (kind_fields ts row) tail_order ≡ tail_texts ts row.outcome row.cells
@@ -254,6 +213,9 @@ entry_fields true ts row = refl
 pub fields_in_parts : (notes : Bool) (ts : List Target) (row : TableRow)
     → row_fields notes ts row ≡ map (entry_field row) (entry_order notes) ++ tail_texts ts row.outcome row.cells
 fields_in_parts notes ts row =
-    in_kinds (λ (c : Column). c.field row) notes ts
-    ∙ ap (λ (fields : List (List ℕ)). fields ++ flat_map (kind_fields ts row) tail_order) (entry_fields notes ts row)
-    ∙ ap (λ (fields : List (List ℕ)). map (entry_field row) (entry_order notes) ++ fields) (tail_same row ts)
+    in_kinds (λ (c : Column). c.field row) notes ts ∙ cc (entry_fields notes ts row, tail_same row ts)
+
+-- the steps of making a line, and of putting a byte of a quoted field
+pub ruleset line_steps = (ended, fields_in_parts, heading_names, length-append, one_column, room_for_rest)
+
+pub ruleset escape_steps = (escaped-double, escaped-other, append_assoc)

@@ -1,9 +1,8 @@
 -- Where records of a sealed register are taken out, its seal does not agree.
-use Rattle.std.proofs.Common.{◌≡◌, ◌+◌, ◌++◌, ℕ, List, [], ◌∷◌, length, Bool, true, false, refl, ap, rules, ◌∙◌, arith}
-use Rattle.std.proofs.Common.{if◌then◌else◌, length-append}
-use Rattle.register_records.proofs.Common.{⊤, IsHeader, Fields, Agrees, is_seal, Sealed}
+use Rattle.std.proofs.Common.{◌≡◌, Bool, true, false, List, [], ◌∷◌, ◌++◌, length, if◌then◌else◌, refl, ap, arith}
+use Rattle.std.proofs.Common.{length-append, rules}
+use Rattle.register_records.proofs.Common.{Fields, before_seal, is_seal, ⊤}
 use Rattle.register_records.specs.Laws.{AreLeftOf, NoLossIsSealed, kept, none, taken}
-use Rattle.register_records.specs.Seals.{before_seal}
 
 -- of these records only this one is a seal
 abbrev IsOnlySeal : Fields → List Fields → Type 0
@@ -22,7 +21,7 @@ last_only : (seal r : Fields) (rest : List Fields) → IsOnlySeal seal (rest ++ 
 last_only seal r [] only is = only.0 is
 last_only seal r (x ∷ rest) only is = last_only seal r rest only.1 is
 
--- no seal stands before the first one, and no header is a seal
+-- no seal stands before the first one
 first_only : (seal : Fields) (rs : List Fields) → IsOnlySeal seal (before_seal rs ++ seal ∷ [])
 unfolding before_seal
 first_only seal [] = (λ is. refl, tt)
@@ -33,27 +32,15 @@ first_only seal (x ∷ rs) = by (is_seal x) refl (first_only seal rs)
     by true e later = (λ is. refl, tt)
     by false e later = (λ is. cc (e, is), later)
 
-header_no_seal : (fs : Fields) → IsHeader Sealed fs → is_seal fs ≡ false
-header_no_seal fs h = search rules
-
-one_number : (seal : Fields) (n m : ℕ) → Agrees seal n → Agrees seal m → n ≡ m
-one_number seal n m a b = search rules
-
 pub no_loss : NoLossIsSealed
 no_loss records left (after, (header, first, ok), (few, (seal, ends, is, agrees))) are_left shorter
     (after2, (header2, first2, ok2), (few2, (seal2, ends2, is2, agrees2))) =
-    let all : records ≡ header ∷ (before_seal after ++ seal ∷ []) =
-    first ∙ ap (λ (rs : List Fields). header ∷ rs) ends in
-    let all2 : left ≡ header2 ∷ (before_seal after2 ++ seal2 ∷ []) =
-    first2 ∙ ap (λ (rs : List Fields). header2 ∷ rs) ends2 in
+    let all : records ≡ header ∷ (before_seal after ++ seal ∷ []) = cc in
+    let all2 : left ≡ header2 ∷ (before_seal after2 ++ seal2 ∷ []) = cc in
     let only : IsOnlySeal seal (header ∷ (before_seal after ++ seal ∷ [])) =
-    (λ clash. cc (clash, header_no_seal header ok), first_only seal after) in
+    (λ clash. let no_seal : is_seal header ≡ false = search rules in cc (clash, no_seal), first_only seal after) in
     let same : seal2 ≡ seal =
     last_only seal seal2 (before_seal after2) (rw all2 at (only_left records left seal are_left (rw all only))).1 is2 in
-    let count : length (before_seal after) ≡ length (before_seal after2) =
-    one_number seal _ _ agrees (rw same at agrees2) in
-    let long : length records ≡ length (before_seal after) + 2 =
-    ap length all ∙ rw (length-append (before_seal after) (seal ∷ [])) (omega arith) in
-    let long2 : length left ≡ length (before_seal after2) + 2 =
-    ap length all2 ∙ rw (length-append (before_seal after2) (seal2 ∷ [])) (omega arith) in
-    omega (arith, shorter, count, long, long2)
+    let agrees_too = rw same at agrees2 in
+    let count : length (before_seal after) ≡ length (before_seal after2) = search rules in
+    omega (arith, shorter, count, ap length all, ap length all2, length-append {A = Fields})

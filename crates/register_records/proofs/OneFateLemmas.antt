@@ -1,14 +1,12 @@
 -- A text has one fate: each test that decides it is decided by the text.
-use Rattle.std.proofs.Common.{inl, inr, ◌≡◌, ◌≤◌, ◌<◌, ◌++◌, ℕ, List, [], ◌∷◌, length, Bool, true, false, refl, rules}
-use Rattle.std.proofs.Common.{sym, ap, ◌∙◌, arith, subst, Option, None, Some, codes, if◌then◌else◌, IsSomeAnd, IsTrue}
-use Rattle.register_records.proofs.Common.{append_cancel_left, IsNamed, IsNumeral, trimmed, HasRecords, Reading}
-use Rattle.register_records.proofs.Common.{entries_of, record_limit, text_records, IsHeader, Fields, Texts, texts_of}
-use Rattle.register_records.proofs.Common.{Agrees, AreClosed, entry_records, is_seal, Form, Plain, Sealed}
-use Rattle.csv.specs.Reading.{strip_bom}
+use Rattle.std.proofs.Common.{Bool, IsSomeAnd, if◌then◌else◌, IsTrue, codes, inr}
+use Rattle.register_records.proofs.Common.{◌≡◌, ℕ, ◌<◌, ◌≤◌, true, false, List, [], ◌∷◌, ◌++◌, length, Some, None}
+use Rattle.register_records.proofs.Common.{Option, sym, refl, ap, ◌∙◌, subst, inl, arith, rules, strip_bom, IsNamed}
+use Rattle.register_records.proofs.Common.{Reading, record_limit, Fields, Texts, texts_of, Agrees, AreClosed}
+use Rattle.register_records.proofs.Common.{before_seal, entry_records, is_seal, Form, Plain, Sealed, append_cancel_left}
 use Rattle.date_texts.proofs.DecisionLemmas.{Is, all_four, both, in_words, is_at_most, is_named, is_number, is_true}
-use Rattle.register_records.specs.Entries.{AreAfterHeader, AreAll}
 use Rattle.register_records.specs.Laws.{Fate, HasFate, OneFate, accepted, no_header, not_sealed, too_many}
-use Rattle.register_records.specs.Seals.{before_seal}
+use Rattle.register_records.specs.Entries.{AreAfterHeader, AreAll, HasRecords, entries_of, text_records}
 
 -- whether a record is an accepted header
 is_noted : (form : Form) (note : List ℕ) → Is (form ≡ Sealed → IsNamed note (codes "note"))
@@ -21,15 +19,9 @@ is_header_of : (form : Form) (texts : Option Texts) → Is (IsSomeAnd texts (λ 
 is_header_of form None = inr (λ h. h)
 is_header_of form (Some t) = search (rules, all_four, is_named, is_noted)
 
-is_header : (form : Form) (first : Fields) → Is (IsHeader form first)
-is_header form first = is_header_of form (texts_of form first)
-
 -- whether a seal agrees with a number
-is_numeral : (text : List ℕ) (n : ℕ) → Is (IsNumeral 7 text n)
-is_numeral text n = search (rules, both, is_at_most, is_true, is_number)
-
 agrees : (seal : Fields) (n : ℕ) → Is (Agrees seal n)
-agrees (a ∷ b ∷ []) n = is_numeral (trimmed b) n
+agrees (a ∷ b ∷ []) n = search (rules, both, is_at_most, is_true, is_number)
 agrees seal n = inr (λ h. h)
 
 -- the records up to the first seal, and the rest: whether the seal stands last and agrees with their number can be
@@ -62,12 +54,12 @@ are_closed Sealed after =
 has_records_of : (form : Form) (records : List Fields) → Is ((after : List Fields) × AreAfterHeader form records after)
 has_records_of form [] = inr (λ h. cc (h.1.1))
 has_records_of form (r ∷ rest) =
-    in_words (is_header form r) (λ is. (rest, (r, refl, is)))
+    in_words (is_header_of form (texts_of form r)) (λ is. (rest, (r, refl, is)))
     (λ h. let same : h.1.0 ≡ r = cc (h.1.1) in rw same at h.1.2)
 
 one_after : (reading : Reading) (text : List ℕ) (a b : List Fields) → HasRecords reading text a → HasRecords reading text b
     → a ≡ b
-one_after reading text a b p q = let e : p.0 ∷ a ≡ q.0 ∷ b = sym p.1 ∙ q.1 in cc
+one_after reading text a b p q = let e : p.0 ∷ a ≡ q.0 ∷ b = cc in cc
 
 -- what a fate says of the records behind the header: no two fates hold of the same records
 abbrev IsFateOf : Form → Fate → List Fields → Type 0

@@ -1,30 +1,25 @@
 -- The fields of a tail, while they are appended, and the cells among them.
-use Rattle.std.proofs.Common.{◌≡◌, ◌<◌, ◌≤◌, ◌+◌, ◌++◌, ℕ, List, [], ◌∷◌, true, false, refl, sym, ap, ◌∙◌, rules, arith}
-use Rattle.std.proofs.Common.{eq-eqb, add-one, append_assoc, append-nil, drop, drop-cons, get_or, length, length-drop}
-use Rattle.std.proofs.Common.{map, subst, take, ◌==◌, ℤ, pos, negsuc, Bool, IsTrue, nat_le, Ok, Err, Result, take_all}
-use Rattle.std.proofs.Common.{◌-◌, min, suc, take_at, zero}
-use Rattle.register_records.proofs.Common.{decimal, signed_decimal, AllZip, flat_map, list_all, position_or_len}
-use Rattle.register_records.proofs.Common.{or_parts, nat_tests, length-decimal-le, ints, ∥∥₁_elim, props, needs_byte}
-use Rattle.register_records.proofs.Common.{needs_quotes, IsDayNumber, weekday_names, weekday_number, Day, is_plain}
-use Rattle.register_records.proofs.Common.{refusal_number, Target, Refusal, OneCell, cells_of, is_cells, Column}
-use Rattle.register_records.proofs.Common.{cell_columns, tail_order, column_texts, row_with, tail_texts, writing}
-use Rattle.register_records.proofs.Common.{AreCells, outcome_seen, is_delimiter, Cells}
+use Rattle.std.proofs.Common.{◌≡◌, ℕ, zero, suc, ◌+◌, ◌-◌, ◌<◌, ◌≤◌, min, Bool, true, false, List, [], ◌∷◌, ◌++◌, map}
+use Rattle.std.proofs.Common.{length, get_or, take, drop, ℤ, pos, negsuc, IsTrue, nat_le, ◌==◌, Ok, Err, decimal}
+use Rattle.std.proofs.Common.{Result, flat_map, sym, refl, ap, ◌∙◌, subst, append_assoc, append-nil, add-one, arith}
+use Rattle.std.proofs.Common.{length-drop, take_all, drop-cons, take_at, rules, eq-eqb}
+use Rattle.register_records.proofs.Common.{fields_text, needs_byte, needs_quotes, is_plain, CellsArePlain, OneCell}
+use Rattle.register_records.proofs.Common.{refusal_number, Refusal, Target, IsDayNumber, weekday_names, weekday_number}
+use Rattle.register_records.proofs.Common.{Day, Column, cell_columns, writing, fields_behind, AreCells, cells_of}
+use Rattle.register_records.proofs.Common.{outcome_seen, is_delimiter, ∥∥₁_elim, props, or_parts, nat_tests, ints}
+use Rattle.register_records.proofs.Common.{signed_decimal, AllZip, list_all, onto_first, position_or_len, slice_split}
 use Rattle.std.proofs.lemmas.Slice.Zip.{AllZip-long, all_zipped_more}
-use Rattle.std.specs.List.{onto_first, slice_split}
-use Rattle.std.proofs.lemmas.Fmt.{length_signed_le}
+use Rattle.std.proofs.lemmas.Fmt.{length-decimal-le, length_signed_le}
 use Rattle.std.proofs.lemmas.List.Splits.{length-slice_split}
-use Rattle.std.proofs.Math.Seq.{drop-append_seam}
-use Rattle.csv.specs.Writing.{fields_text}
 use Rattle.day_numbers.specs.Numbered.{words}
 use Rattle.day_numbers.proofs.NameLemmas.{each_name}
-use Rattle.date_texts.specs.Laws.{CellsArePlain}
 use Rattle.register_records.specs.RowTails.{fields_of}
-use Rattle.register_records.specs.TableColumns.{IsCellField}
-use Rattle.register_records.specs.Lines.{fields_behind}
+use Rattle.register_records.specs.TableColumns.{column_texts, tail_texts, row_with, IsCellField}
 use Rattle.register_records.specs.declared.row_tails.RowTail.{RowTail}
-use Rattle.register_records.specs.declared.table_columns.ColumnKind.TheVariants.{Refusal as RefusalColumn}
-use Rattle.register_records.proofs.EveryTableLemmas.{has_cells}
+use Rattle.register_records.specs.declared.table_columns.ColumnKind.TheVariants.{Cells, Refusal as RefusalColumn}
+use Rattle.register_records.proofs.OutcomeLemmas.{has_cells, one_cells}
 use Rattle.register_records.proofs.LineLemmas.{more_fields_text, plain_bytes, plain_text, plain_day, plain_decimal}
+use Rattle.std.proofs.Math.Seq.{drop-append_seam}
 
 -- the bytes of fields behind delimiters
 abbrev pub text : ℕ → List (List ℕ) → List ℕ
@@ -78,12 +73,9 @@ grown d field old new h before is =
     let fields : fields_behind d new ≡ fields_behind d old ++ field ∷ [] =
     ap (fields_behind d) is ∙ ap (drop 1) (one_more_part d old field h)
     ∙ part_after_first (slice_split (cuts d) old) field (some_parts d old) in
-    let bytes : new ≡ text d (fields_behind d old) ++ text d (field ∷ []) =
-    is ∙ ap (λ (t : List ℕ). t ++ d ∷ field) before
-    ∙ ap (λ (t : List ℕ). text d (fields_behind d old) ++ t) (sym (one_field d field h)) in
     record {
       fields = fields;
-      plain = bytes ∙ sym (more_fields_text d (fields_behind d old) (field ∷ [])) ∙ ap (text d) (sym fields);
+      plain = cc (is, before, one_field d field h, more_fields_text d (fields_behind d old) (field ∷ []), fields);
     }
 
 pub not_grown : (d : ℕ) (old : List ℕ) → old ≡ text d (fields_behind d old) → Grown d [] old old
@@ -94,8 +86,10 @@ pub grown_more : (d : ℕ) (more : List (List ℕ)) (field old bytes new : List 
     → Grown d (more ++ field ∷ []) old new
 grown_more d more field old bytes new h before is =
     let last = grown d field bytes new h before.plain is in
-    let fields = last.fields ∙ ap (λ (t : List (List ℕ)). t ++ field ∷ []) before.fields
-    ∙ append_assoc (fields_behind d old) more (field ∷ []) in record { fields = fields; plain = last.plain }
+    record {
+      fields = cc (last.fields, before.fields, append_assoc (fields_behind d old) more (field ∷ []));
+      plain = last.plain;
+    }
 
 -- a text that needs no quotes, with so many bytes at most
 pub record Fits (d limit : ℕ) (text : List ℕ) : Type 0 where
@@ -126,9 +120,7 @@ first_two : (d : ℕ) → is_delimiter d ≡ true → (o : Result Day Refusal) (
     → k < 2 → needs_quotes (writing d) (get_or (tail_texts ts (outcome_seen o) cells) k []) ≡ false
 first_two d h (Ok day) ts cells zero lt = plain_day d h day.number day.in_range
 first_two d h (Ok day) ts cells (suc zero) lt = (weekday_fits d h (weekday_number day.number)).plain
-first_two d h (Err r) ts cells zero lt = refl
-first_two d h (Err r) ts cells (suc zero) lt = refl
-first_two d h o ts cells (suc (suc k)) lt = absurd (omega arith)
+first_two d h o ts cells k lt = grind arith
 
 -- the first delimiter behind a field that needs no quotes ends it
 ends_at : (d : ℕ) (field : List ℕ) (more : List (List ℕ)) → needs_quotes (writing d) field ≡ false
@@ -148,8 +140,7 @@ unfolding fields_text
 behind_first d bytes rest start place field more from is at h whole =
     let one : start ≡ 1 = omega (arith, ap length whole) in
     let parts : rest ≡ field ++ text d more =
-    is ∙ take_all (length bytes - start) (drop start bytes) (omega (arith, length-drop start bytes))
-    ∙ ap (λ k. drop k bytes) one ∙ ap (drop 1) whole ∙ ap (λ (t : List ℕ). t ++ text d more) (plain_text d field h) in
+    grind (arith, take_all (length bytes - start) (drop start bytes), length-drop, plain_text d field h) in
     take_all (length rest - place) (drop place rest) (omega (arith, length-drop place rest))
     ∙ ap (λ k. drop k rest) (at ∙ ap (position_or_len (cuts d)) parts ∙ ends_at d field more h)
     ∙ ap (drop (length field)) parts ∙ drop-append_seam field (text d more)
@@ -183,10 +174,7 @@ day_cells n place all (t ∷ ts) (x ∷ cells) e a =
     let lt : place < length all = omega (arith, length-drop place all, ap length e) in
     let split : drop place all ≡ get_or all place [] ∷ drop (place + 1) all = rw (add-one, drop-cons all place [])
     refl in
-    let first : get_or all place [] ≡ x = cc (split, e) in
-    let rest : drop (place + 1) all ≡ cells = cc (split, e) in
-    let more = day_cells n (place + 1) all ts cells rest a.1 in
-    cc (first, more)
+    cc (split, e, day_cells n (place + 1) all ts cells (cc (split, e)) a.1)
 day_cells n place all ts cells e a = search (rules, length-drop, add-one, drop-cons)
 
 nothing_at : (place : ℕ) → get_or {A = List ℕ} [] place [] ≡ []
@@ -199,18 +187,6 @@ no_cells r place (t ∷ ts) (x ∷ fields) a =
     grind (arith, ints, no_cells r (place + 1) ts fields a.1, nothing_at place, a.0)
 no_cells r place ts fields a = search (rules, ints, nothing_at)
 
--- where one thing can stand beside each item of a list, one list can stand beside it
-pub one_beside : {A B : Type 0} (R : A → B → Type 0) → ((x : A) (y z : B) → R x y → R x z → y ≡ z)
-    → (xs : List A) (ys zs : List B) → AllZip R xs ys → AllZip R xs zs → ys ≡ zs
-one_beside R one (x ∷ xs) (y ∷ ys) (z ∷ zs) a b =
-    grind (arith, ints, one x y z a.0 b.0, one_beside R one xs ys zs a.1 b.1)
-one_beside R one xs ys zs a b = search (rules, ints)
-
--- a row has one list of cells
-pub one_cells : OneCell → (o : Result ℤ Refusal) (ts : List Target) (xs ys : List (List ℕ)) → AreCells ts o xs
-    → AreCells ts o ys → xs ≡ ys
-one_cells law o ts xs ys a b = search (rules, one_beside)
-
 -- what was appended in four steps
 pub four_texts : {A : Type 0} {none one two three four : List A} (a b c d : List A) → none ≡ [] → one ≡ none ++ a
     → two ≡ one ++ b → three ≡ two ++ c → four ≡ three ++ d → four ≡ a ++ (b ++ (c ++ (d ++ [])))
@@ -220,8 +196,8 @@ four_texts a b c d e f g h i = rw (i, h, g, f, e) (simp (append_assoc, append-ni
 pub shown_cells : OneCell → (o : Result ℤ Refusal) (ts : List Target) (fields cells : List (List ℕ))
     → AllZip (IsCellField o) ts fields → AreCells ts o cells → fields ≡ column_texts ts o cells Cells
 shown_cells law (Ok n) ts fields cells shown are =
-    one_cells law (Ok n) ts fields cells shown are ∙ sym (day_cells n 0 cells ts cells refl are)
-shown_cells law (Err r) ts fields cells shown are = rw are (sym (no_cells r 0 ts fields shown))
+    cc (one_cells law (Ok n) ts fields cells shown are, day_cells n 0 cells ts cells refl are)
+shown_cells law (Err r) ts fields cells shown are = cc (are, no_cells r 0 ts fields shown)
 
 -- bytes to which the fields of these targets were appended
 pub record HasCells (d : ℕ) (o : Result ℤ Refusal) (ts : List Target) (old new : List ℕ) : Type 0 where
@@ -245,9 +221,7 @@ one_more_cell {d = d} {o = o} {ts = ts} {old = old} {bytes = bytes} {new = new} 
 pub all_cells : OneCell → (d : ℕ) (o : Result ℤ Refusal) (ts : List Target) (old new : List ℕ) → HasCells d o ts old new
     → (cells : List (List ℕ)) → AreCells ts o cells
     → fields_behind d new ≡ fields_behind d old ++ column_texts ts o cells Cells
-all_cells law d o ts old new has cells are =
-    has.put.fields
-    ∙ ap (λ (more : List (List ℕ)). fields_behind d old ++ more) (shown_cells law o ts has.fields cells has.are are)
+all_cells law d o ts old new has cells are = cc (has.put.fields, shown_cells law o ts has.fields cells has.are are)
 
 -- the cells stand among the fields of all columns of a tail
 cells_among : (ts : List Target) (o : Result Day Refusal) (cells : List (List ℕ)) (tail : RowTail)
@@ -255,10 +229,8 @@ cells_among : (ts : List Target) (o : Result Day Refusal) (cells : List (List �
     → cells_of ts o tail ≡ cells
 cells_among ts (Ok day) cells tail are is =
     let behind = flat_map (column_texts ts (Ok day.number) cells) (RefusalColumn ∷ []) in
-    ap (λ (fields : List (List ℕ)). take (length ts) (drop (position_or_len is_cells tail_order) fields)) is
-    ∙ ap (λ (shown : List (List ℕ)). take (length ts) (shown ++ behind))
-    (day_cells day.number 0 cells ts cells refl are)
-    ∙ take_at cells behind (length ts) (AllZip-long (IsCellField (Ok day.number)) ts cells are)
+    let all = take_at cells behind (length ts) (AllZip-long (IsCellField (Ok day.number)) ts cells are) in
+    cc (is, all, day_cells day.number 0 cells ts cells refl are)
 cells_among ts (Err r) cells tail are is = sym are
 
 pub record AreWhole (ts : List Target) (o : Result Day Refusal) (tail : RowTail) : Type 0 where

@@ -1,24 +1,17 @@
 -- Rows whose entries are numbered from 1 are the first rows of some records.
-use Rattle.std.proofs.Common.{◌≡◌, ◌∙◌, ◌+◌, ◌≤◌, ℕ, List, [], ◌∷◌, ◌++◌, true, false, ap, subst, arith, rules, length}
-use Rattle.std.proofs.Common.{map, refl, sym}
-use Rattle.register_records.proofs.Common.{and_parts, length-map, nat_tests, AllZip, ℤ, ⊤, Err, Ok, Result, Target}
-use Rattle.register_records.proofs.Common.{Refusal, AreNumberedFrom, HasFirstEntries, Numbered, Reading, are_fit}
-use Rattle.register_records.proofs.Common.{body_of, record_limit, IsOutcome, IsRowOf, TableRow, Fields, Texts}
-use Rattle.register_records.proofs.Common.{entry_records, is_seal, entry_seen, IsFrontOfTable, entry_order, entry_field}
-use Rattle.register_records.proofs.Common.{row_fields, tail_texts, Layout, heading_line, table_text, row_seen, Row}
-use Rattle.register_records.proofs.Common.{Form, Plain, Sealed}
-use Rattle.register_records.proofs.OutcomeLemmas.{outcome_of_same}
-use Rattle.register_records.proofs.EveryTableLemmas.{AreInOrder, numbered as in_order}
-use Rattle.std.proofs.lemmas.List.{append-nil}
-use Rattle.std.specs.Str.{chars, is_utf8}
-use Rattle.std.specs.Prelude.{None, replicate}
+use Rattle.std.proofs.Common.{◌≡◌, ℕ, ◌+◌, ◌≤◌, true, false, List, [], ◌∷◌, ◌++◌, map, length, replicate, ℤ, None, Ok}
+use Rattle.std.proofs.Common.{Err, Result, sym, refl, ap, ◌∙◌, subst, append-nil, arith, rules}
+use Rattle.register_records.proofs.Common.{Refusal, Target, entry_order, AreNumberedFrom, HasFirstEntries, Numbered}
+use Rattle.register_records.proofs.Common.{Reading, are_fit, body_of, entries_from, record_limit, IsOutcome, IsRowOf}
+use Rattle.register_records.proofs.Common.{TableRow, Fields, Texts, has_notes, before_seal, entry_records, is_seal}
+use Rattle.register_records.proofs.Common.{entry_seen, entry_field, row_fields, table_text, row_seen, Row, Form, Plain}
+use Rattle.register_records.proofs.Common.{Sealed, and_parts, nat_tests, length-map, AllZip, ⊤, chars, is_utf8}
+use Rattle.register_records.proofs.OutcomeLemmas.{outcome_of_same, AreInOrder, numbered as in_order}
 use Rattle.date_texts.specs.declared.refusal.Refusal.TheVariants as refusal
-use Rattle.register_records.specs.Entries.{entries_from}
-use Rattle.register_records.specs.Records.{has_notes}
-use Rattle.register_records.specs.Seals.{before_seal}
-use Rattle.register_records.specs.Tables.{lines_text}
+use Rattle.register_records.specs.Tables.{Layout, heading_line, lines_text}
 use Rattle.register_records.proofs.FieldLemmas.{no_bytes}
 use Rattle.register_records.proofs.LineLemmas.{fields_in_parts}
+use Rattle.register_records.specs.Sources.{IsFrontOfTable}
 
 -- a body without the note for which a plain form has no place, and so an entry and a row
 abbrev placed : Form → Result Texts Refusal → Result Texts Refusal
@@ -125,10 +118,8 @@ texts_placed Sealed number body outcome cells row is = refl
 fields_placed : (form : Form) (targets : List Target) (row : TableRow)
     → row_fields (has_notes form) targets (placed_row form row) ≡ row_fields (has_notes form) targets row
 fields_placed form targets row =
-    fields_in_parts (has_notes form) targets (placed_row form row)
-    ∙ ap (λ (fields : List (List ℕ)). fields ++ tail_texts targets row.outcome row.cells)
-    (texts_placed form row.number row.body row.outcome row.cells row refl)
-    ∙ sym (fields_in_parts (has_notes form) targets row)
+    let texts = texts_placed form row.number row.body row.outcome row.cells row refl in
+    cc (fields_in_parts (has_notes form) targets row, fields_in_parts (has_notes form) targets (placed_row form row), texts)
 
 lines_placed : (form : Form) (layout : Layout) → layout.writing.has_notes ≡ has_notes form → (rows : List TableRow)
     → lines_text layout (map (placed_row form) rows) ≡ lines_text layout rows

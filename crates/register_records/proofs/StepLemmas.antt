@@ -1,8 +1,8 @@
 -- What the reads of one entry, or of the end, say of the records that were left.
-use Rattle.std.proofs.Common.{◌≡◌, ℕ, List, [], ◌∷◌, Bool, Option, Some, None, true, false, refl, sym, ◌∙◌, arith}
-use Rattle.std.proofs.Common.{rules, IfSome, IfErr, IsErrAnd, Result, Ok, Err}
-use Rattle.register_records.proofs.Common.{Fields, Agrees, is_seal, Ends, HasEntry, IsNoSeal, LacksSeal, Reads}
-use Rattle.register_records.proofs.Common.{TakesFirst, records_left, Entry, EntryFault, Form, Sealed, Reader}
+use Rattle.std.proofs.Common.{◌≡◌, ℕ, Bool, true, false, List, [], ◌∷◌, IfSome, IsErrAnd, IfErr, Some, None, Ok, Err}
+use Rattle.std.proofs.Common.{Option, Result, sym, refl, ◌∙◌, arith, rules}
+use Rattle.register_records.proofs.Common.{Reader, Fields, Agrees, is_seal, Entry, EntryFault, Form, Sealed}
+use Rattle.register_records.specs.ReadingState.{Ends, HasEntry, IsNoSeal, LacksSeal, Reads, TakesFirst, records_left}
 use Rattle.register_records.specs.ReadingState.{EndsBehind, ReadsEntry}
 use Rattle.register_records.proofs.GivenLemmas.{before_none, if_some, no_seal_first, seal_first}
 
@@ -87,3 +87,6 @@ plain_no_seal form f h = search rules
 
 pub other_no_seal : (form : Form) (f : Fields) → is_seal f ≡ false → IsNoSeal form f
 other_no_seal form f h = search rules
+
+-- the steps of reading a record, and of what stands behind a seal
+pub ruleset read_steps = (always, entry_left, found, found_none, no_seal_left, not_empty, other_no_seal, plain_no_seal)

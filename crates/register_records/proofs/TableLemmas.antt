@@ -1,33 +1,36 @@
--- What a table in the making holds, and what the output of a source has gained.
-use Rattle.std.proofs.Common.{◌≡◌, ◌+◌, ◌++◌, ℕ, Bool, List, [], ◌∷◌, length, map, Option, None, Some, refl, sym, ap}
-use Rattle.std.proofs.Common.{◌∙◌, ◌≢◌, ◌⊎◌, append_assoc, append-nil, arith, false, inl, inr, length-append, rules}
-use Rattle.std.proofs.Common.{subst, true}
-use Rattle.register_records.proofs.Common.{Appends, AllZip, range_with_len, length-map, map-append, ∥∥₁_elim, ∥∥₁_map}
+-- What a table in the making holds, what the output of a source has gained, and how writing its table ends.
+use Rattle.std.proofs.Common.{◌≡◌, ℕ, ◌+◌, ◌-◌, ◌<◌, ◌≤◌, Bool, true, false, ◌≢◌, ◌⊎◌, List, [], ◌∷◌, ◌++◌, map, length}
+use Rattle.std.proofs.Common.{is_some, IfSome, Some, None, Err, Contains, Option, sym, refl, ap, ◌∙◌, subst, inl, inr}
+use Rattle.std.proofs.Common.{append_assoc, append-nil, arith, length-append, rules}
 use Rattle.register_records.proofs.Common.{Target, entry_fault_cause, AreNumberedFrom, HasAllEntries, HasEntries}
-use Rattle.register_records.proofs.Common.{HasFirstEntries, Reading, Numbered, IsRowOf, TableRow, entry_seen}
-use Rattle.register_records.proofs.Common.{IsFrontOfTable, Layout, heading_line, table_text, IsNextRow, table_fault}
-use Rattle.register_records.proofs.Common.{reading_of, row_seen, row_targets, Cause, SourceEnd, EntryFault, Row, Setup}
-use Rattle.register_records.proofs.Common.{Table}
-use Rattle.std.specs.Io.KnownBytes.{append_known}
-use Rattle.std.specs.List.{Contains}
-use Rattle.std.specs.Option.{is_some}
+use Rattle.register_records.proofs.Common.{HasFirstEntries, HasTooMany, IsNotSealed, Numbered, Reading, record_limit}
+use Rattle.register_records.proofs.Common.{IsRowOf, TableRow, entry_seen, table_text, IsNextRow, table_fault, given_of}
+use Rattle.register_records.proofs.Common.{reader_failed, reading_of, reads_by, row_seen, row_targets, text_of, Entry}
+use Rattle.register_records.proofs.Common.{EntryFault, Row, ∥∥₁_elim, ∥∥₁_map, ∥∥₁_prop, false_from_ne_true, length-map}
+use Rattle.register_records.proofs.Common.{map-append, Appends, append_known, AllZip, range_with_len}
 use Rattle.std.proofs.lemmas.List.Elements.{Contains-append_right, Contains-push_cases}
-use Rattle.std.proofs.lemmas.Bool.{false_from_ne_true}
-use Rattle.std.proofs.Math.Logic.{∥∥₁_prop}
-use Rattle.register_records.specs.Laws.{TablesGrow}
-use Rattle.register_records.specs.Sources.{ArePartOfTable, Gains, IfWhole, IsTableOf, IsTableOfAll, IsWholeTable}
-use Rattle.register_records.specs.TableStates.{fault_of, lines_waiting, lost_output}
-use Rattle.register_records.specs.Tables.{journal_of, lines_text, refusal_notes, row_line}
+use Rattle.register_records.specs.TableStates.{fault_of, lines_waiting, lost_output, is_of_table}
+use Rattle.register_records.specs.Tables.{Layout, heading_line, journal_of, lines_text, refusal_notes, row_line}
 use Rattle.register_records.specs.TablesWritten.{HasEnded, Holds, IsSameTable, IsTableSoFar, entries_seen}
 use Rattle.register_records.specs.TablesWritten.{has_lost_output, is_headed, made_by, made_for, rows_seen, waiting_of}
 use Rattle.register_records.specs.Views.{layout_of, line_of, waiting_in, writes_by}
+use Rattle.register_records.specs.declared.tables.TableState.{TableState}
+use Rattle.register_records.specs.declared.writing.RowWriter.{RowWriter}
+use Rattle.register_records.specs.Sources.{IsFrontOfTable, IsTableOf, IsTableWith, IfBroken, ArePartOfTable, Gains}
+use Rattle.register_records.specs.Sources.{IfWhole, IsTableOfAll, IsWholeTable}
+use Rattle.std.specs.declared.io.traits.Read.{Ghosts}
+use Rattle.register_records.specs.NextEntries.{ReadsNext}
+use Rattle.register_records.specs.SourceTables.{IsBroken}
+use Rattle.register_records.specs.declared.reading.EntryReader.{EntryReader}
 use Rattle.register_records.specs.declared.ends.Cause.TheVariants as cause
 use Rattle.register_records.specs.declared.ends.SourceEnd.TheVariants as end
 use Rattle.register_records.specs.declared.outputs.Output as outputs
 use Rattle.register_records.specs.declared.reading.EntryFault.TheVariants as entry
-use Rattle.register_records.specs.declared.tables.TableState.{TableState}
 use Rattle.register_records.specs.declared.tables.TableState.TheVariants as state
-use Rattle.register_records.specs.declared.writing.RowWriter.{RowWriter}
+use Rattle.register_records.specs.declared.ends.Cause.{Cause}
+use Rattle.register_records.specs.declared.ends.SourceEnd.{SourceEnd}
+use Rattle.register_records.specs.declared.setups.Setup.{Setup}
+use Rattle.register_records.specs.declared.tables.Table.{Table}
 
 lines_last : (layout : Layout) (rows : List TableRow) (row : TableRow)
     → lines_text layout (rows ++ row ∷ []) ≡ lines_text layout rows ++ row_line layout row
@@ -35,18 +38,15 @@ unfolding lines_text
 lines_last layout [] row = append-nil (row_line layout row)
 lines_last layout (x ∷ rows) row = search (rules, append_assoc, lines_last layout rows row)
 
-journal_last : (rows : List TableRow) (row : TableRow)
+pub journal_last : (rows : List TableRow) (row : TableRow)
     → journal_of (rows ++ row ∷ []) ≡ journal_of rows ++ refusal_notes row.number row.outcome
 unfolding journal_of
 journal_last [] row = append-nil (refusal_notes row.number row.outcome)
 journal_last (x ∷ rows) row = grind (arith, journal_last rows row)
 
-table_last : (layout : Layout) (rows : List TableRow) (row : TableRow)
+pub table_last : (layout : Layout) (rows : List TableRow) (row : TableRow)
     → table_text layout (rows ++ row ∷ []) ≡ table_text layout rows ++ row_line layout row
 table_last layout rows row = search (rules, lines_last, append_assoc)
-
-pub tables_grow : TablesGrow
-tables_grow layout rows row = (table_last layout rows row, journal_last rows row)
 
 no_lines : (layout : Layout) → lines_text layout [] ≡ []
 unfolding lines_text
@@ -252,16 +252,15 @@ module _ {W : Type 0} (o : outputs.Ghosts W) (table : Table W) (output : W) (row
     front_so count counted first =
         (entries_seen rows, rows_seen rows, table_is are, (first, counted ∙ sym (length-map rows row_seen)))
 
+    pub headed_so : (AreSo : List Numbered → List TableRow → Type 0) → is_headed table ≡ true
+        → AreSo (entries_seen rows) (rows_seen rows) → Gained (IsTableWith layout AreSo)
+    headed_so AreSo some so = (bytes, (entries_seen rows, rows_seen rows, table_is are, so), (written good some).0)
+
     pub whole_so : (count : ℕ) → count ≡ length rows → is_headed table ≡ true
         → HasEntries reading text (entries_seen rows)
         → Gained (IsWholeTable reading layout text count (length table.journal.items) table.journal.items)
     whole_so count counted some accepted =
-        let counts = counted ∙ sym (length-map rows row_seen) in let wrote = (written good some).0 in
-        (bytes, (entries_seen rows, rows_seen rows, table_is are, (accepted, counts, refl, holds.noted)), wrote)
-
-    pub all_so : is_headed table ≡ true → HasAllEntries reading text (entries_seen rows)
-        → Gained (IsTableOfAll reading layout text)
-    all_so some all = (bytes, (entries_seen rows, rows_seen rows, table_is are, all), (written good some).0)
+        headed_so _ some (accepted, counted ∙ sym (length-map rows row_seen), refl, holds.noted)
 
 -- a table for this output and by this setup, in which no line waits and to which these entries of the text were added,
 -- but for the last one where that halted it
@@ -311,29 +310,86 @@ module _ {W : Type 0} (o : outputs.Ghosts W) (start : W) (setup : Setup) (text :
     pub flushed : o.is_flushed output ≡ true
     flushed = (written o table output f.rows f.holds f.sent good (f.headed open_)).1
 
+    -- it has gained its heading and the lines of its rows, which are as said
+    all_lines : (AreSo : List Numbered → List TableRow → Type 0) → ∥ AreSo (entries_seen f.rows) (rows_seen f.rows) ∥₁
+        → HasGained (IsTableWith (layout_of setup) AreSo)
+    all_lines AreSo said = rw (f.same.0, f.same.1) at (∥∥₁_elim (are_rows o table output f.rows f.holds f.sent) ∥∥₁_prop
+        (λ are. ∥∥₁_map said (headed_so o table output f.rows f.holds f.sent text are good AreSo (f.headed open_))))
+
     pub whole_rows : ∥ HasEntries (reading_of setup) text given ∥₁
         → HasGained (IsWholeTable (reading_of setup) (layout_of setup) text table.rows (length table.journal.items)
         table.journal.items)
-    whole_rows h = rw (f.same.0, f.same.1) at (∥∥₁_elim (are_rows o table output f.rows f.holds f.sent) ∥∥₁_prop (λ are.
-        ∥∥₁_map (rw (sym f.same.1, f.all open_) at h)
-        (whole_so o table output f.rows f.holds f.sent text are good table.rows (sym f.holds.counted)
-        (f.headed open_))))
+    whole_rows h =
+        let count = sym f.holds.counted ∙ sym (length-map f.rows row_seen) in
+        all_lines _ (∥∥₁_map (rw (f.all open_) at h) (λ entries. (entries, count, refl, f.holds.noted)))
 
     pub first_rows : (count : ℕ) → length given ≡ count
         → HasGained (IsFrontOfTable (reading_of setup) (layout_of setup) text count)
     first_rows count counted =
-        let length_is = sym counted ∙ ap length (f.all open_) ∙ length-map f.rows (λ (row : Row). entry_seen row.entry) in
-        let gains : ∥ Gains (o.contents (made_for table)) (o.contents output)
-        (IsFrontOfTable (reading_of (made_by table)) (layout_of (made_by table)) text count) ∥₁
-        = ∥∥₁_elim (are_rows o table output f.rows f.holds f.sent) ∥∥₁_prop (λ are.
-        ∥∥₁_map (rw (sym f.same.1) at f.first) (λ first. (
-          table_text (layout_of (made_by table)) (rows_seen f.rows),
-          front_so o table output f.rows f.holds f.sent text are good count length_is first,
-          (written o table output f.rows f.holds f.sent good (f.headed open_)).0,
-        ))) in rw (f.same.0, f.same.1) at gains
+        let seen = length-map f.rows (λ (row : Row). entry_seen row.entry) ∙ sym (length-map f.rows row_seen) in
+        all_lines _ (∥∥₁_map f.first (λ first. (first, sym counted ∙ ap length (f.all open_) ∙ seen)))
 
     pub all_rows : ∥ HasAllEntries (reading_of setup) text given ∥₁
         → HasGained (IsTableOfAll (reading_of setup) (layout_of setup) text)
-    all_rows h = rw (f.same.0, f.same.1) at (∥∥₁_elim (are_rows o table output f.rows f.holds f.sent) ∥∥₁_prop (λ are.
-        ∥∥₁_map (rw (sym f.same.1, f.all open_) at h)
-        (all_so o table output f.rows f.holds f.sent text are good (f.headed open_))))
+    all_rows h = all_lines _ (rw (f.all open_) at h)
+
+-- which causes there are of a table, of a row, and of a reader behind the header that has not failed before
+other_than : (f : Option Cause) (c d : Cause) → f ≡ Some c → IfSome f (λ c. is_of_table c ≡ true)
+    → is_of_table d ≡ false → c ≢ d
+other_than f c d e of not is = search rules
+
+pub of_row : (c : Cause) → (c ≡ cause.NoMemory) ⊎ (c ≡ cause.SinkFault) → c ≢ cause.Unconfirmed
+of_row c of is = search rules
+
+of_reading : (f : EntryFault) (c : Cause) → c ≡ entry_fault_cause f → (f ≢ entry.BadHeader) × (f ≢ entry.Failed)
+    → (c ≢ cause.SinkFault) × (c ≢ cause.BadHeader) × (c ≢ cause.NoThread) × (c ≢ cause.Unconfirmed)
+of_reading f c e other = search rules
+
+-- fewer entries may follow those given once another was given
+pub fewer_left : (given more : List Numbered) (entry : Numbered) (n : ℕ) → more ≡ given ++ entry ∷ []
+    → (n ≡ length given + 1) × (n ≤ record_limit) → record_limit - length more < record_limit - length given
+fewer_left given more entry n e number =
+    omega (arith, ap length e, length-append given (entry ∷ []), number.0, number.1)
+
+-- a table that goes on does not end as broken
+pub unbroken : {W : Type 0} (e : SourceEnd) (table : Table W) (IsSo : Cause → Type 0) → table_fault table ≡ None
+    → IfBroken e (λ c. table_fault table ≡ Some c) → IfBroken e IsSo
+unbroken (end.Whole rows refused journal) table IsSo open_ is = tt
+unbroken (end.Broken c) table IsSo open_ is = let clash = sym open_ ∙ is in absurd (cc)
+
+module _ {W : Type 0} (o : outputs.Ghosts W) (start : W) (setup : Setup) (text : Option (List ℕ))
+    (given : List Numbered) (table : Table W) (output : W) where
+  -- a fault of the table or of the output
+  pub broken_by_table : (c : Cause) → table_fault table ≡ Some c → c ≢ cause.Unconfirmed
+      → (c ≡ cause.SinkFault → o.has_failed output ≡ true) → o.own_mark output ≡ o.own_mark start
+      → ((c ≢ cause.SinkFault) → Follows o start setup text given table output)
+      → IsBroken o setup text start output c
+  broken_by_table c fault known failed mark follows =
+      let not = λ (d : Cause) (e : is_of_table d ≡ false). other_than _ c d fault table.of_table e in
+      search (rules, front, kept, other_cause, not, follows, failed)
+
+  -- a fault of reading
+  pub broken_by_reader : {R : Type 0} {g : Ghosts R} (old new : EntryReader R g) (entry : Entry) (f : EntryFault)
+      → ReadsNext old new entry (Err f) → text_of old ≡ text → reads_by old ≡ reading_of setup
+      → reader_failed old ≡ false → given_of old ≡ given → table_fault table ≡ None
+      → Follows o start setup text given table output → IsBroken o setup text start output (entry_fault_cause f)
+  broken_by_reader old new entry f reads text_is by_is goes given_is open_ follows =
+      let text_now = reads.text.0 ∙ text_is in let by = reads.text.1 ∙ by_is in
+      let never = of_reading f _ refl (reads.no_header, reads.only_failed goes) in
+      let other : table_fault table ≢ Some cause.SinkFault = λ is. let e = sym open_ ∙ is in absurd (cc) in record {
+        part = λ is. front _ _ _ _ _ _ _ follows other;
+        too_many = λ is. let past = reads.many (only_many f _ refl is) in (
+          of_reader (λ reading text _. IfSome text (λ t. HasTooMany reading t)) _ _ _ _ [] [] text_now by refl past.1,
+          first_rows _ _ _ _ _ _ _ follows open_ _ (ap length (sym given_is) ∙ past.0),
+        );
+        not_sealed = λ is. let which = only_not_sealed f _ refl is in let lacks = reads.not_sealed which in (
+          sym (ap (λ (reading : Reading). reading.form) by) ∙ lacks.0,
+          of_reader (λ reading text _. IfSome text (λ t. IsNotSealed reading t)) _ _ _ _ [] [] text_now by refl lacks.1,
+          all_rows _ _ _ _ _ _ _ follows open_
+              (of_reader HasAllEntries _ _ _ _ _ _ text_now by (reads.kept ∙ given_is) (reads.above which)),
+        );
+        never = (never.1, never.2, never.3);
+        sink = λ is. absurd (never.0 is);
+        kept = λ is. kept _ _ _ _ _ _ _ follows other;
+        mark = marked _ _ _ _ _ _ _ follows;
+      }

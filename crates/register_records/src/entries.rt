@@ -4,7 +4,7 @@ ghost use Rattle.std.specs.Prelude.{◌≡◌, ◌≤◌, ◌↔◌, ◌∷◌, 
 ghost use Rattle.std.specs.List.{list_all};
 ghost use Rattle.std.specs.Str.{is_utf8};
 ghost use Rattle.csv.specs.Records.{fields_of, text_of};
-ghost use Rattle.register_records.specs.BareTexts.{IsPlain, has_special, is_plain_byte};
+ghost use Rattle.register_records.specs.BareTexts.{IsPlain, has_plain_texts, is_plain_byte};
 ghost use Rattle.register_records.specs.Entries.{HasDate, HaveOneDate, are_fit, body_of, body_seen, may_hold, record_limit};
 
 use crate::record_fields::RecordFields;
@@ -60,7 +60,7 @@ pub struct Entry {
     pub ghost limited: { number ≤ record_limit },
     ghost held: { IsTrue (may_hold body) },
     pub ghost fit: { are_fit (body_seen body) ≡ true },
-    ghost bared: { bare ≡ true → has_special (body_seen body) ≡ false },
+    ghost bared: { bare ≡ true → has_plain_texts (body_seen body) ≡ true },
 }
 
 impl Entry {
@@ -139,7 +139,7 @@ impl Entry {
 
     /// Whether the texts are known to hold no byte that calls for quotes in a table, whatever its delimiter.
     pub(crate) fn is_bare(&self) -> bool
-        ensures { result ≡ true → has_special (body_seen self.now.body) ≡ false }
+        ensures { result ≡ true → has_plain_texts (body_seen self.now.body) ≡ true }
     {
         self.bare
     }
@@ -191,6 +191,7 @@ fn are_plain_by_chunks(text: &[u8]) -> bool
 }
 
 /// Whether a text is within its limit, which by its type it is.
+#[tactic(auto, using(crate::proofs::FieldLemmas::text_steps))]
 fn is_within<const N: usize>(text: &ArrayString<N>) -> bool
     ensures is { result ≡ true }
     ensures fits { length text.now.bytes ≤ N }
@@ -264,6 +265,7 @@ fn have_date(
 
 /// Copies a field, which is UTF-8, to a text.
 #[inline(always)]
+#[tactic(auto, using(crate::proofs::FieldLemmas::text_steps))]
 fn copy_text<const N: usize>(copy: &mut ArrayString<N>, field: &[u8])
     requires fits { length field.now ≤ N }
     requires is_text { is_utf8 field.now ≡ true }

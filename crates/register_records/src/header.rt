@@ -20,6 +20,7 @@ fn is_named(field: &[u8], name: &[u8]) -> bool
 }
 
 /// A field without one byte order mark at its start.
+#[tactic(auto, using(crate::proofs::FieldLemmas::mark_steps))]
 fn without_mark(field: &[u8]) -> &[u8]
     ensures { result.now ≡ strip_bom field.now }
 {

@@ -283,6 +283,7 @@ impl LineBuffer {
     }
 
     /// Appends a byte of a quoted field: a quote is doubled.
+    #[tactic(auto, using(crate::proofs::LineLemmas::escape_steps))]
     fn put_escaped(&mut self, byte: u8)
         requires { self.old.len + 2 ≤ line_capacity self.old }
         ensures value { line_bytes self.new

@@ -129,6 +129,7 @@ fn read_record<R: Read>(
 /// # Errors
 ///
 /// `NotSealed` where it does not agree or one follows, and the faults of reading.
+#[tactic(auto, using(crate::proofs::StepLemmas::read_steps))]
 fn read_behind_seal<R: Read>(
     records: &mut Reader<Retrying<R>>,
     csv_record: &mut ByteRecord,
@@ -150,6 +151,7 @@ fn read_behind_seal<R: Read>(
 /// Returns `false` where the records end as the form wants it. After a seal it asks for one more record. Where no entry
 /// was read, `entry` stays as it was.
 #[inline(always)]
+#[tactic(auto, using(crate::proofs::StepLemmas::read_steps))]
 fn read_entry<R: Read>(
     records: &mut Reader<Retrying<R>>,
     csv_record: &mut ByteRecord,
@@ -240,6 +242,7 @@ impl<R: Read + Drop> EntryReader<R> {
     /// given and one more record that is no seal stands in the text, `NotSealed` where a sealed text
     /// ends without a seal, its first seal does not agree with the number of entries, or a record
     /// follows it, and `OutOfMemory`. After a fault each further call returns `Failed` and reads nothing.
+    #[tactic(auto, using(crate::proofs::GivenLemmas::given_steps))]
     pub fn read_next(&mut self, entry: &mut Entry) -> Result<bool, EntryFault>
         // What was given, and what each fault says of the text.
         ensures reads { ReadsNext self.old self.new entry.new result }

@@ -33,7 +33,7 @@ impl<'a> RecordFields<'a> {
     ghost use Rattle.register_records.specs.declared.entries.Body.TheVariants as body;
 
     /// The fields of a record that has as many as the form wants.
-    #[tactic(auto, using(crate::proofs::FieldLemmas::missing_field))]
+    #[tactic(auto, using(crate::proofs::FieldLemmas::field_steps))]
     pub(crate) fn of(csv_record: &'a ByteRecord, form: Form) -> Option<RecordFields<'a>>
         ensures { MatchOption result (texts_of form (fields_of csv_record.now) ≡ None)
             (λ c. texts_of form (fields_of csv_record.now) ≡ Some (fields_seen c)) }

@@ -2,7 +2,7 @@
 
 ghost use Rattle.std.specs.Prelude.{◌≡◌, ◌≤◌, ◌+◌, ◌++◌, ◌∷◌, [], length, map, true, false};
 ghost use Rattle.date_texts.specs.declared.target.TheConstants.{MAX_TARGETS};
-ghost use Rattle.register_records.specs.BareTexts.{has_special};
+ghost use Rattle.register_records.specs.BareTexts.{has_plain_texts};
 ghost use Rattle.register_records.specs.Columns.{entry_order};
 ghost use Rattle.register_records.specs.Entries.{body_seen};
 ghost use Rattle.register_records.specs.LineRoom.{Begins, GainsFields, entry_name_room, entry_room, name_room};
@@ -60,6 +60,7 @@ fn put_names(lines: &mut LineBuffer, column: ColumnKind, targets: &[Target])
 }
 
 /// Appends the line of the heading. There must be memory for `LINE_ROOM` bytes more.
+#[tactic(auto, using(crate::proofs::LineLemmas::line_steps))]
 pub(crate) fn make_heading(lines: &mut LineBuffer, has_notes: bool, targets: &[Target])
     requires separated { is_delimiter lines.old.delimiter ≡ true }
     requires few { length targets.now ≤ MAX_TARGETS }
@@ -81,7 +82,7 @@ pub(crate) fn make_heading(lines: &mut LineBuffer, has_notes: bool, targets: &[T
 fn put_column(lines: &mut LineBuffer, column: ColumnKind, body: &Body, bare: bool)
     requires separated { is_delimiter lines.old.delimiter ≡ true }
     requires room { lines.old.len + quoted_room column ≤ line_capacity lines.old }
-    requires bare { bare ≡ true → has_special (body_seen body.now) ≡ false }
+    requires bare { bare ≡ true → has_plain_texts (body_seen body.now) ≡ true }
     ensures value { GainsFields lines.old.delimiter (text_shown (body_seen body.now) column ∷ [])
         (line_bytes lines.old) (line_bytes lines.new) }
     ensures grows { GrowsBy (quoted_room column) lines.old lines.new }
@@ -133,6 +134,7 @@ fn put_tail(lines: &mut LineBuffer, row: &Row)
 }
 
 /// Appends the line of a row. There must be memory for `LINE_ROOM` bytes more.
+#[tactic(auto, using(crate::proofs::LineLemmas::line_steps))]
 pub(crate) fn make_row(lines: &mut LineBuffer, has_notes: bool, row: &Row)
     requires separated { is_delimiter lines.old.delimiter ≡ true }
     requires room { lines.old.len + LINE_ROOM ≤ line_capacity lines.old }

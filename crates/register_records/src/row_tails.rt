@@ -320,6 +320,7 @@ impl RowTail {
     /// Makes this the tail of an outcome, for a table of these targets with this delimiter, where it lies: a tail
     /// is large.
     #[inline(never)]
+    #[tactic(auto, using(crate::proofs::RowTailLemmas::whole_tail, crate::proofs::RowTailLemmas::four_texts))]
     pub fn set(&mut self, targets: &TargetList, outcome: Result<Day, Refusal>, delimiter: u8)
         requires separated { is_delimiter delimiter ≡ true }
         ensures cells { AreCells (items_in targets.now.items) (outcome_seen outcome)

@@ -15,7 +15,7 @@ const SEAL: &[u8] = b"END";
 const MAX_DIGITS: usize = 7;
 
 /// Whether a record is a seal: it has two fields, and the first is `END`, spaces and tabs round it aside.
-#[tactic(auto, using(crate::proofs::SealLemmas::seal_by_first, crate::proofs::FieldLemmas::missing_field))]
+#[tactic(auto, using(crate::proofs::FieldLemmas::seal_by_first, crate::proofs::FieldLemmas::missing_field))]
 pub(crate) fn is_seal(csv_record: &ByteRecord) -> bool
     ensures { result ≡ is_seal_record (fields_of csv_record.now) }
 {
@@ -29,7 +29,7 @@ pub(crate) fn is_seal(csv_record: &ByteRecord) -> bool
 }
 
 /// The number that 1 to 7 digits spell.
-#[tactic(auto, using(crate::proofs::SealLemmas::digit_steps))]
+#[tactic(auto, using(crate::proofs::FieldLemmas::digit_steps))]
 fn number_of(text: &[u8]) -> Option<u32>
     ensures { (n : ℕ) → (result ≡ Some n) ↔ IsNumeral 7 text.now n }
 {

@@ -25,7 +25,7 @@ pub enum Form {
 }
 
 impl Form {
-    ghost use Rattle.register_records.specs.Records.{field_count, has_notes};
+    ghost use Rattle.register_records.specs.Records.{field_count};
 
     /// How many fields the header and each entry have.
     pub(crate) fn field_count(self) -> usize
@@ -34,16 +34,6 @@ impl Form {
         match self {
             Form::Plain => 3,
             Form::Sealed => 4,
-        }
-    }
-
-    /// Whether the last of them is a note, for which a table has a column.
-    pub(crate) fn has_notes(self) -> bool
-        ensures { result ≡ has_notes self }
-    {
-        match self {
-            Form::Plain => false,
-            Form::Sealed => true,
         }
     }
 }

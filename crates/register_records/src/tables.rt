@@ -107,6 +107,7 @@ impl<W: Output> Table<W> {
     /// The fault may be `NoMemory`, with the output as it was, and `SinkFault` where the output has failed.
     // Inlined, since a table asks for it before each row.
     #[inline(always)]
+    #[tactic(auto, using(crate::proofs::TableLemmas::stands_headed, crate::proofs::TableLemmas::stands_none))]
     pub fn write_heading(&mut self, output: &mut W)
         ensures same { IsSameTable self.old self.new }
         ensures rows { (rows : List Row) → Holds W.Output self.old output.old rows

@@ -11,7 +11,7 @@ use crate::lines::LineBuffer;
 use crate::outputs::{Output, send};
 use crate::row_lines::{LINE_ROOM, make_heading, make_row};
 use crate::rows::Row;
-use crate::setups::Setup;
+use crate::setups::{Form, Setup};
 use std::alloc::{AllocError, Global};
 use thiserror::Error;
 
@@ -77,6 +77,7 @@ impl RowWriter {
     /// # Errors
     ///
     /// `OutOfMemory`, with the output as it was, and `WriteFault` where the output has failed.
+    #[tactic(auto, using(crate::proofs::StepLemmas::passed_on))]
     pub fn open<W: Output>(
         alloc: Global,
         output: &mut W,
@@ -94,7 +95,7 @@ impl RowWriter {
         ensures mark { W.own_mark output.new ≡ W.own_mark output.old }
     {
         let mut lines = LineBuffer::new(alloc, setup.delimiter(), ROOM)?;
-        let has_notes = setup.form().has_notes();
+        let has_notes = setup.form() == Form::Sealed;
         make_heading(&mut lines, has_notes, setup.targets());
         if send(output, lines.as_slice()).is_err() {
             return Err(RowFault::WriteFault);

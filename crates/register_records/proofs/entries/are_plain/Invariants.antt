@@ -1,5 +1,4 @@
-use Rattle.std.proofs.Common.{◌≡◌, take}
-use Rattle.register_records.proofs.Common.{list_all, is_plain_byte}
+use Rattle.register_records.proofs.Common.{◌≡◌, take, is_plain_byte, list_all}
 use Rattle.register_records.proofs.entries.are_plain.Given as goal
 
 abbrev pub invariant-bytes : goal.invariant-bytes

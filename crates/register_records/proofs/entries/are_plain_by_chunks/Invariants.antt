@@ -1,5 +1,4 @@
-use Rattle.std.proofs.Common.{◌≡◌, ◌-◌, drop, length, take, true}
-use Rattle.register_records.proofs.Common.{IsPlain, CHUNK}
+use Rattle.register_records.proofs.Common.{◌≡◌, ◌-◌, true, length, take, drop, IsPlain, CHUNK}
 use Rattle.register_records.proofs.BareLemmas.{ArePlain}
 use Rattle.register_records.proofs.entries.are_plain_by_chunks.Given as goal
 

@@ -1,5 +1,5 @@
-use Rattle.std.proofs.Common.{◌≡◌, ◌≢◌, ℕ, Bool, rules, take-add, length-drop, ◌==◌, ◌&&◌, ◌||◌}
-use Rattle.register_records.proofs.Common.{nat_tests, slice-end}
+use Rattle.std.proofs.Common.{◌≡◌, ℕ, Bool, ◌&&◌, ◌||◌, ◌≢◌, ◌==◌, length-drop, take-add, rules}
+use Rattle.register_records.proofs.Common.{slice-end, nat_tests}
 use Rattle.std.proofs.KnownBytes.{Appends-trans}
 use Rattle.register_records.proofs.outputs.send.Goals as goal
 

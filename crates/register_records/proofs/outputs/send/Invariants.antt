@@ -1,5 +1,4 @@
-use Rattle.std.proofs.Common.{length, take, ◌-◌, ◌≡◌, ◌≤◌}
-use Rattle.register_records.proofs.Common.{Appends}
+use Rattle.register_records.proofs.Common.{◌≡◌, ◌-◌, ◌≤◌, length, take, Appends}
 use Rattle.register_records.proofs.outputs.send.Given as goal
 
 abbrev pub invariant-offers : goal.invariant-offers

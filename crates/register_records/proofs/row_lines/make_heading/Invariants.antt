@@ -1,8 +1,6 @@
-use Rattle.std.proofs.Common.{◌≡◌, ◌≤◌, ◌+◌, ◌++◌, drop, map, take}
-use Rattle.register_records.proofs.Common.{flat_map, entry_order, tail_order, Begins, columns_room, line_bytes}
-use Rattle.register_records.proofs.Common.{kind_name, kind_names}
-use Rattle.register_records.specs.LineRoom.{entry_name_room, name_room}
-use Rattle.register_records.specs.LineViews.{line_capacity}
+use Rattle.register_records.proofs.Common.{◌≡◌, ◌+◌, ◌≤◌, ◌++◌, map, take, drop, flat_map, entry_order, tail_order}
+use Rattle.register_records.proofs.Common.{Begins, line_bytes, line_capacity, kind_name, kind_names}
+use Rattle.register_records.specs.LineRoom.{columns_room, entry_name_room, name_room}
 use Rattle.register_records.proofs.row_lines.make_heading.Given as goal
 
 abbrev pub invariant-columns : goal.invariant-columns

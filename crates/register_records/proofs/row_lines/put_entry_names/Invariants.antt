@@ -1,4 +1,4 @@
-use Rattle.std.proofs.Common.{◌*◌, ◌+◌, map, take}
+use Rattle.std.proofs.Common.{◌+◌, ◌*◌, map, take}
 use Rattle.register_records.proofs.Common.{entry_order, Begins, field_room, name_limit, GrowsBy, line_bytes, kind_name}
 use Rattle.register_records.proofs.row_lines.put_entry_names.Given as goal
 

@@ -1,4 +1,4 @@
-use Rattle.std.proofs.Common.{◌-◌, drop, length, refl, take}
+use Rattle.std.proofs.Common.{◌-◌, length, take, drop, refl}
 use Rattle.register_records.proofs.RowTailLemmas.{behind_first}
 use Rattle.register_records.proofs.row_tails.behind_field.Goals as goal
 

@@ -1,6 +1,5 @@
-use Rattle.std.proofs.Common.{◌≡◌, ◌<◌, ◌≤◌, ◌==◌, ℕ, List, false, true, get_or, length, sym, arith, eq-eqb, ne_eqb}
-use Rattle.register_records.proofs.Common.{position_or_len}
-use Rattle.std.proofs.lemmas.List.Sums.{position_or_len_is}
+use Rattle.std.proofs.Common.{◌≡◌, ℕ, ◌<◌, ◌≤◌, true, false, List, length, get_or, ◌==◌, sym, arith, eq-eqb, ne_eqb}
+use Rattle.register_records.proofs.Common.{position_or_len_is, position_or_len}
 use borrow.Author.Count.{below_more}
 use Rattle.register_records.proofs.row_tails.place_of.Goals as goal
 

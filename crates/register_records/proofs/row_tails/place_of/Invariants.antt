@@ -1,4 +1,4 @@
-use Rattle.std.proofs.Common.{◌≡◌, ◌<◌, ◌==◌, ℕ, false, get_or}
+use Rattle.std.proofs.Common.{◌≡◌, ℕ, ◌<◌, false, get_or, ◌==◌}
 use Rattle.register_records.proofs.row_tails.place_of.Given as goal
 
 abbrev pub invariant-bytes : goal.invariant-bytes

@@ -1,5 +1,4 @@
-use Rattle.std.proofs.Common.{◌≡◌, None, Err, refl, ap, rules}
-use Rattle.register_records.proofs.Common.{no_date_text, refused, unknown_calendar}
+use Rattle.register_records.proofs.Common.{◌≡◌, None, Err, refl, ap, rules, no_date_text, refused, unknown_calendar}
 use Rattle.date_texts.specs.declared.refusal.Refusal.TheVariants as refusal
 use Rattle.register_records.proofs.OutcomeLemmas.{day_outcome, no_calendar}
 use Rattle.register_records.proofs.rows.day_of_body.Goals as goal

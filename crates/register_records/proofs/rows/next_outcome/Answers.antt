@@ -1,6 +1,5 @@
 use Rattle.register_records.proofs.Common.{∥∥₁_map}
-use Rattle.register_records.proofs.OneTableLemmas.{known_outcome}
-use Rattle.register_records.proofs.OutcomeLemmas.{outcome_of_same}
+use Rattle.register_records.proofs.OutcomeLemmas.{known_outcome, outcome_of_same}
 use Rattle.register_records.proofs.rows.next_outcome.Goals as goal
 
 pub returns-then-same_date : goal.returns-then-same_date

@@ -1,5 +1,5 @@
 use Rattle.register_records.proofs.Common.{fields_of}
-use Rattle.register_records.proofs.SealLemmas.{agrees_by_second, second_there}
+use Rattle.register_records.proofs.FieldLemmas.{agrees_by_second, second_there}
 use Rattle.register_records.proofs.seals.number_in.Goals as goal
 
 pub returns-in_err-second : goal.returns-in_err-second

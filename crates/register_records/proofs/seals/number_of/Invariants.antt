@@ -1,5 +1,4 @@
-use Rattle.std.proofs.Common.{◌≡◌, ◌<◌, ◌^◌, true, take}
-use Rattle.register_records.proofs.Common.{all_digits, value_after}
+use Rattle.register_records.proofs.Common.{◌≡◌, ◌^◌, ◌<◌, true, take, all_digits, value_after}
 use Rattle.register_records.proofs.seals.number_of.Given as goal
 
 abbrev pub invariant-digits : goal.invariant-digits

@@ -1,4 +1,4 @@
-use Rattle.std.proofs.Common.{◌≢◌, ℕ, ◌<◌, slice_get}
+use Rattle.std.proofs.Common.{ℕ, ◌<◌, ◌≢◌, slice_get}
 use Rattle.register_records.proofs.setups.names_twice.Given as goal
 
 abbrev pub invariant-later : goal.invariant-later

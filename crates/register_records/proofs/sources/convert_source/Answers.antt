@@ -1,7 +1,5 @@
-use Rattle.std.proofs.Common.{[], inl, refl, rules}
-use Rattle.csv.proofs.WriteFacts.{appends-none}
-use Rattle.register_records.proofs.SourceTableLemmas.{unbroken}
-use Rattle.register_records.proofs.TableLemmas.{ends_so, ends_whole}
+use Rattle.register_records.proofs.Common.{[], refl, inl, rules, appends-none}
+use Rattle.register_records.proofs.TableLemmas.{unbroken, ends_so, ends_whole}
 use Rattle.register_records.proofs.sources.convert_source.Goals as goal
 
 pub returns-in-Err-clause-part : goal.returns-in-Err-clause-part

@@ -1,12 +1,10 @@
-use Rattle.std.proofs.Common.{◌≡◌, ◌≢◌, ◌∙◌, ◌+◌, ◌++◌, ◌∷◌, [], None, Some, ap, inl, inr, length, refl, rules, sym, ℕ}
-use Rattle.register_records.proofs.Common.{length-map, map-append, entry_fault_cause, HasEntries, HasFirstEntries}
-use Rattle.register_records.proofs.Common.{entry_seen, IsNextRow, table_fault, given_of, text_of, Row}
-use Rattle.register_records.specs.Views.{targets_of}
+use Rattle.std.proofs.Common.{◌≡◌, ℕ, ◌+◌, ◌≢◌, [], ◌∷◌, ◌++◌, length, Some, None, sym, refl, ap, ◌∙◌, inl, inr, rules}
+use Rattle.register_records.proofs.Common.{entry_fault_cause, HasEntries, HasFirstEntries, entry_seen, IsNextRow}
+use Rattle.register_records.proofs.Common.{table_fault, given_of, targets_of, text_of, Row, length-map, map-append}
 use Rattle.register_records.specs.declared.ends.Cause.TheVariants as cause
-use Rattle.register_records.proofs.SourceTableLemmas.{broken_by_reader, broken_by_table, fewer_left, of_row}
+use Rattle.register_records.proofs.TableLemmas.{broken_by_reader, broken_by_table, fewer_left, of_row, Follows}
+use Rattle.register_records.proofs.TableLemmas.{faultless, flushed, kept, marked, of_reader, other_cause, whole_rows}
 use Rattle.register_records.proofs.StepLemmas.{passed_on}
-use Rattle.register_records.proofs.TableLemmas.{Follows, faultless, flushed, kept, marked, of_reader, other_cause}
-use Rattle.register_records.proofs.TableLemmas.{whole_rows}
 use Rattle.register_records.proofs.sources.write_table.Given.{Over}
 use Rattle.register_records.proofs.sources.write_table.Goals.{After-write_heading, In_err-put_next, Then-branch}
 use Rattle.register_records.proofs.sources.write_table.Goals as goal
@@ -45,9 +43,6 @@ next_row g c =
 
 pub put_next-requires-clause-next : goal.put_next-requires-clause-next
 put_next-requires-clause-next g c = next_row g (goal.at.put_next-requires-clause-next g c).Then-branch
-
-pub put_next-requires-clause-open : goal.put_next-requires-clause-open
-put_next-requires-clause-open g c = c.entries.invariant.open_
 
 pub entries-smaller : goal.entries-smaller
 entries-smaller g c =

@@ -1,6 +1,5 @@
-use Rattle.std.proofs.Common.{◌≡◌, ◌-◌, None, false, length}
-use Rattle.register_records.proofs.Common.{record_limit, table_fault, given_of, reader_failed, reading_of, reads_by}
-use Rattle.register_records.proofs.Common.{text_of}
+use Rattle.register_records.proofs.Common.{◌≡◌, ◌-◌, false, length, None, record_limit, table_fault, given_of}
+use Rattle.register_records.proofs.Common.{reader_failed, reading_of, reads_by, text_of}
 use Rattle.register_records.proofs.TableLemmas.{Follows}
 use Rattle.register_records.proofs.sources.write_table.Given as goal
 

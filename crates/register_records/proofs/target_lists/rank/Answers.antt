@@ -1,20 +1,13 @@
-use Rattle.std.proofs.Common.{◌≡◌, ◌∙◌, arith, ap, inl, inr, get_or, false}
-use Rattle.register_records.proofs.Common.{all_targets, Haab, have_one_name}
-use Rattle.std.proofs.lemmas.Bool.{cases_lt}
-use Rattle.std.proofs.lemmas.Grind.{common_steps}
+use Rattle.register_records.proofs.Common.{◌≡◌, false, get_or, arith, all_targets, Haab, have_one_name, cases_lt}
 use Rattle.register_records.proofs.TargetRankLemmas.{stands_first}
 use Rattle.register_records.proofs.target_lists.rank.Goals as goal
+use Rattle.std.proofs.lemmas.Grind.{common_steps}
 
 pub ranks-preserved : goal.ranks-preserved
 ranks-preserved c k lt =
     let here : have_one_name c.args.target (get_or all_targets c.ranks.i Haab) ≡ false =
     grind (arith, common_steps) in
-    elim (cases_lt k c.ranks.i) [
-      | inl before ↦ c.ranks.invariant k before
-      | inr most ↦
-          let same : k ≡ c.ranks.i = omega (arith, lt, most) in
-          ap (λ n. have_one_name c.args.target (get_or all_targets n Haab)) same ∙ here
-    ]
+    grind (arith, cases_lt k c.ranks.i, c.ranks.invariant k)
 
 pub unreachable-requires : goal.unreachable-requires
 unreachable-requires c =

@@ -1,5 +1,4 @@
-use Rattle.std.proofs.Common.{◌≡◌, ◌<◌, ℕ, false, get_or}
-use Rattle.register_records.proofs.Common.{all_targets, Haab, have_one_name}
+use Rattle.register_records.proofs.Common.{◌≡◌, ℕ, ◌<◌, false, get_or, all_targets, Haab, have_one_name}
 use Rattle.register_records.proofs.target_lists.rank.Given as goal
 
 abbrev pub invariant-ranks : goal.invariant-ranks

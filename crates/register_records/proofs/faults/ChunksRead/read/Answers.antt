@@ -1,7 +1,6 @@
-use Rattle.std.proofs.Common.{◌≡◌, ℕ, ◌+◌, ◌-◌, ◌<◌, ◌≤◌, List, ◌++◌, suc, length, take, drop, get_or, sym, ap, ◌∙◌}
-use Rattle.std.proofs.Common.{arith, append_assoc, drop-cons, drop-drop, length-append, length-drop, length-take}
-use Rattle.std.proofs.Common.{length-take-le, take-append-drop, take_at, Vec, min}
-use Rattle.std.specs.declared.alloc.Global.{Global}
+use Rattle.std.proofs.Common.{◌≡◌, ℕ, suc, ◌+◌, ◌-◌, ◌<◌, ◌≤◌, min, List, ◌++◌, length, get_or, take, drop, Vec, Global}
+use Rattle.std.proofs.Common.{sym, ap, ◌∙◌, append_assoc, arith, length-append, length-drop, take-append-drop}
+use Rattle.std.proofs.Common.{length-take, length-take-le, drop-cons, drop-drop, take_at}
 use Rattle.register_records.specs.Faults.{bytes_left, chunk_bytes}
 use Rattle.register_records.proofs.faults.ChunksRead.read.Goals as goal
 
@@ -15,15 +14,7 @@ given_more : (b more copy rest : List ℕ) (given n : ℕ) → n ≤ length b - 
     → copy ≡ take ((given + n) - given) (drop given b)
     → drop given b ++ more ≡ take n (copy ++ rest) ++ (drop (given + n) b ++ more)
 given_more b more copy rest given n few cp =
-    let back : (given + n) - given ≡ n = omega arith in
-    let front : copy ≡ take n (drop given b) = cp ∙ ap (λ (k : ℕ). take k (drop given b)) back in
-    let room : n ≤ length (drop given b) = omega (arith, length-drop given b) in
-    let count : length copy ≡ n = ap length front ∙ length-take-le n (drop given b) room in
-    let halves : drop given b ≡ copy ++ drop (given + n) b =
-    sym (take-append-drop n (drop given b))
-    ∙ (ap (λ (x : List ℕ). take n (drop given b) ++ x) (drop-drop n given b)
-    ∙ ap (λ (x : List ℕ). x ++ drop (given + n) b) (sym front)) in
-    rw (take_at copy rest n count) (ap (λ (x : List ℕ). x ++ more) halves ∙ append_assoc copy (drop (given + n) b) more)
+    grind (arith, length-take-le, take_at, take-append-drop n (drop given b), drop-drop n given b, append_assoc, length-drop)
 
 -- where there is room and a chunk is not spent, some bytes are given
 gives_some : (b copy buf : List ℕ) (given n : ℕ) → length copy ≡ length (take n buf)

@@ -1,5 +1,4 @@
-use Rattle.std.proofs.Common.{◌≡◌, length, rules}
-use Rattle.register_records.proofs.Common.{line_bytes}
+use Rattle.register_records.proofs.Common.{◌≡◌, length, rules, line_bytes}
 use Rattle.register_records.proofs.LineLemmas.{ended_from}
 use Rattle.register_records.proofs.lines.LineBuffer.end_from.Goals as goal
 

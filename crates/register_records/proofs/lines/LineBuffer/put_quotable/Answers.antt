@@ -1,7 +1,4 @@
-use Rattle.std.proofs.Common.{◌<◌, ◌∙◌, ◌++◌, ap, append_assoc, arith, length, rules}
-use Rattle.register_records.proofs.Common.{writing, line_bytes}
-use Rattle.csv.specs.Writing.{escaped}
-use Rattle.csv.proofs.WriteFacts.{quoted-step}
+use Rattle.register_records.proofs.Common.{◌<◌, length, ◌∙◌, append_assoc, arith, rules, quoted-step, escaped, writing}
 use Rattle.register_records.proofs.lines.LineBuffer.put_quotable.Goals as goal
 
 pub bytes-init : goal.bytes-init
@@ -13,9 +10,8 @@ bytes-preserved c =
     let lt : c.bytes.b-index < length c.args.field.now = omega arith in
     let inv = c.bytes.invariant in
     let put = c.put_escaped.ensures in
+    let step = quoted-step (writing c.args.self.now.delimiter) 34 c.args.field.now c.bytes.b-index lt in
     record {
-      escaped = rw inv.grows.0 at put.value ∙ rw (inv.escaped, append_assoc)
-          (ap (λ t. line_bytes c.args.self.now ++ t)
-          (quoted-step (writing c.args.self.now.delimiter) 34 c.args.field.now c.bytes.b-index lt));
+      escaped = rw inv.grows.0 at put.value ∙ rw (inv.escaped, append_assoc) (cc (step));
       grows = (put.grows.0 ∙ inv.grows.0, put.grows.1 ∙ inv.grows.1, omega (arith, put.grows.2, inv.grows.2));
     }

@@ -1,6 +1,4 @@
-use Rattle.std.proofs.Common.{◌≡◌, ◌+◌, ◌*◌, ◌++◌, ◌∷◌, take}
-use Rattle.register_records.proofs.Common.{writing, GrowsBy, line_bytes}
-use Rattle.csv.specs.Writing.{escaped}
+use Rattle.register_records.proofs.Common.{◌≡◌, ◌+◌, ◌*◌, ◌∷◌, ◌++◌, take, escaped, writing, GrowsBy, line_bytes}
 use Rattle.register_records.proofs.lines.LineBuffer.put_quotable.Given as goal
 
 abbrev pub invariant-bytes : goal.invariant-bytes

@@ -1,5 +1,4 @@
-use Rattle.std.proofs.Common.{◌≡◌, None}
-use Rattle.register_records.proofs.Common.{Keeps}
+use Rattle.register_records.proofs.Common.{◌≡◌, None, Keeps}
 use Rattle.register_records.proofs.outputs.PlainOutputOutput.offer.Given as goal
 
 abbrev pub invariant-tries : goal.invariant-tries

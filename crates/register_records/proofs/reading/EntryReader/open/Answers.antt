@@ -1,14 +1,9 @@
-use Rattle.std.proofs.Common.{◌≡◌, ◌∙◌, ap, length, rules, sym}
-use Rattle.register_records.proofs.Common.{default_config, reader_config, fields_of, records_left, inner_remaining}
+use Rattle.register_records.proofs.Common.{◌≡◌, length, sym, ap, ◌∙◌, rules, fields_of, inner_remaining}
 use Rattle.register_records.proofs.EntryStepLemmas.{at_start}
 use Rattle.register_records.proofs.GivenLemmas.{first_step, may_first}
 use Rattle.register_records.proofs.reading.EntryReader.open.Goals as goal
-
-pub read_record-requires : goal.read_record-requires
-read_record-requires g c = search rules
-
-pub returns-then-not-found-clause-bad : goal.returns-then-not-found-clause-bad
-returns-then-not-found-clause-bad g c _ = search rules
+use Rattle.csv.specs.Reading.{default_config, reader_config}
+use Rattle.register_records.specs.ReadingState.{records_left}
 
 pub invariant_of-result : goal.invariant_of-result
 invariant_of-result g c =

@@ -1,12 +1,12 @@
-use Rattle.std.proofs.Common.{◌≡◌, ◌<◌, ◌==◌, ℕ, List, None, Option, Some, drop, length, length-take, map, rules, take}
+use Rattle.std.proofs.Common.{◌≡◌, ℕ, ◌<◌, List, map, length, take, drop, ◌==◌, Some, None, Option, length-take, rules}
 use Rattle.std.proofs.Common.{tests}
-use Rattle.register_records.proofs.Common.{position_or_len, tail_order, is_cells, tail_bytes}
+use Rattle.register_records.proofs.Common.{tail_order, tail_bytes, position_or_len}
 use Rattle.std.proofs.lemmas.Iterator.{YieldsList, YieldsList-from_take}
 use Rattle.std.proofs.lemmas.Iterator.Adapters.{YieldsList-from_skip}
 use Rattle.std.proofs.lemmas.Iterator.Consumers.{YieldsList-at, YieldsList-end, YieldsList-turn}
 use Rattle.std.proofs.lemmas.Iterator.Splits.{YieldsList-from_slice_split}
 use Rattle.std.specs.Iterator.{Yields}
-use Rattle.register_records.specs.RowTails.{fields_of}
+use Rattle.register_records.specs.RowTails.{is_cells, fields_of}
 use Rattle.register_records.proofs.row_tails.RowTail.cells.Goals as goal
 use Rattle.register_records.proofs.row_tails.RowTail.cells.Goals.{After-next}
 

@@ -1,5 +1,4 @@
-use Rattle.std.proofs.Common.{◌≡◌}
-use Rattle.register_records.proofs.Common.{items_in}
+use Rattle.register_records.proofs.Common.{◌≡◌, items_in}
 use Rattle.register_records.proofs.row_tails.RowTail.cells.Given as goal
 
 abbrev pub invariant-cells : goal.invariant-cells

@@ -1,5 +1,4 @@
-use Rattle.std.proofs.Common.{◌≡◌, ◌∙◌, arith, get_or, []}
-use Rattle.register_records.proofs.Common.{weekday_names, weekday_number}
+use Rattle.register_records.proofs.Common.{◌≡◌, [], get_or, ◌∙◌, arith, weekday_names, weekday_number}
 use Rattle.register_records.proofs.RowTailLemmas.{Fits, weekday_fits}
 use Rattle.register_records.proofs.row_tails.RowTail.push_column.Goals as goal
 use Rattle.register_records.proofs.row_tails.RowTail.push_column.Goals.{After-as_bytes}

@@ -1,5 +1,5 @@
-use Rattle.std.proofs.Common.{◌∷◌, [], rules, take, to_z-of_z, FitsSigned, w64}
-use Rattle.register_records.proofs.Common.{signed_decimal, put_then, tail_bytes}
+use Rattle.std.proofs.Common.{[], ◌∷◌, take, FitsSigned, to_z-of_z, w64, rules}
+use Rattle.register_records.proofs.Common.{put_then, tail_bytes, signed_decimal}
 use Rattle.register_records.proofs.LineLemmas.{plain_day}
 use Rattle.register_records.proofs.RowTailLemmas.{Grown, grown}
 use Rattle.register_records.proofs.row_tails.RowTail.push_day_number.Goals as goal

@@ -1,6 +1,4 @@
-use Rattle.std.proofs.Common.{take}
-use Rattle.register_records.proofs.Common.{tail_bytes, outcome_seen}
-use Rattle.date_texts.specs.Calendars.{default_targets}
+use Rattle.register_records.proofs.Common.{take, default_targets, tail_bytes, outcome_seen}
 use Rattle.register_records.proofs.RowTailLemmas.{HasCells, all_cells, no_cell, one_more_cell}
 use Rattle.register_records.proofs.row_tails.RowTail.push_default_cells.Goals as goal
 use Rattle.register_records.proofs.row_tails.RowTail.push_default_cells.Goals.{After-put_cell-end-14}

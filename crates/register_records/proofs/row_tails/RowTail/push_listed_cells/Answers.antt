@@ -1,6 +1,5 @@
-use Rattle.std.proofs.Common.{List, arith, subst, rules, sym, take}
-use Rattle.register_records.proofs.Common.{take_all, take_more, Target, tail_bytes, outcome_seen}
-use Rattle.register_records.proofs.RowTailLemmas.{HasCells, all_cells, no_cell, one_more_cell}
+use Rattle.register_records.proofs.Common.{arith, rules, take_all, take_more}
+use Rattle.register_records.proofs.RowTailLemmas.{all_cells, no_cell, one_more_cell}
 use Rattle.register_records.proofs.row_tails.RowTail.push_listed_cells.Goals as goal
 
 pub cells-init : goal.cells-init
@@ -8,19 +7,12 @@ cells-init c = search (rules, no_cell)
 
 pub cells-preserved : goal.cells-preserved
 cells-preserved c =
-    let inv = c.cells.invariant in
-    let self = c.args.self.now in
+    let more = take_more c.args.targets.now c.cells.target-index _ c.cells-test.true in
     record {
-      made = subst
-          (λ (ts : List Target). HasCells self.delimiter (outcome_seen c.args.outcome) ts (tail_bytes self)
-          (take c.put_cell-end.result c.put_cell-end.new.bytes))
-          (sym (take_more c.args.targets.now c.cells.target-index _ c.cells-test.true))
-          (one_more_cell _ c.cells_are_plain.ensures self.separated inv.made c.put_cell-end.ensures.value);
-      room = omega (arith, c.put_cell-end.ensures.grows, inv.room);
+      made = rw more
+          (one_more_cell _ c.cells_are_plain.ensures c.args.self.now.separated c.cells.invariant.made c.put_cell-end.ensures.value);
+      room = omega (arith, c.put_cell-end.ensures.grows, c.cells.invariant.room);
     }
 
 pub returns-clause-value : goal.returns-clause-value
 returns-clause-value c cells known = search (rules, take_all, all_cells)
-
-pub invariant_of-self-clause-plain : goal.invariant_of-self-clause-plain
-invariant_of-self-clause-plain c = c.cells.invariant.made.put.plain

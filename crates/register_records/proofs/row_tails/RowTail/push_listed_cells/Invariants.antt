@@ -1,6 +1,4 @@
-use Rattle.std.proofs.Common.{◌≤◌, ◌+◌, ◌*◌, take}
-use Rattle.register_records.proofs.Common.{tail_bytes, outcome_seen}
-use Rattle.register_records.specs.declared.row_tails.TheConstants.{CELL_ROOM}
+use Rattle.register_records.proofs.Common.{◌+◌, ◌*◌, ◌≤◌, take, tail_bytes, outcome_seen, CELL_ROOM}
 use Rattle.register_records.proofs.RowTailLemmas.{HasCells}
 use Rattle.register_records.proofs.row_tails.RowTail.push_listed_cells.Given as goal
 

@@ -1,5 +1,4 @@
-use Rattle.std.proofs.Common.{◌≡◌, ◌∙◌, ap, arith}
-use Rattle.register_records.proofs.Common.{decimal, refusal_number}
+use Rattle.register_records.proofs.Common.{◌≡◌, decimal, ap, ◌∙◌, arith, refusal_number}
 use Rattle.register_records.proofs.RowTailLemmas.{Fits, refusal_fits}
 use Rattle.register_records.proofs.row_tails.RowTail.push_refusal.Goals as goal
 use Rattle.register_records.proofs.row_tails.RowTail.push_refusal.Goals.{After-as_bytes}

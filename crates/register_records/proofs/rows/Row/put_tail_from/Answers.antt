@@ -1,12 +1,7 @@
-use Rattle.std.proofs.Common.{◌≡◌, ◌∙◌, ℕ, List, ap, arith, drop, rules, subst, sym}
-use Rattle.register_records.proofs.Common.{GainsFields, writing, line_bytes, row_seen, row_targets, tail_fields}
-use Rattle.csv.specs.Writing.{fields_text}
+use Rattle.register_records.proofs.Common.{◌≡◌, drop, arith, fields_text, writing, row_seen, row_targets, tail_fields}
 use Rattle.register_records.proofs.LineLemmas.{tail_alike}
 use Rattle.register_records.proofs.RowTailLemmas.{one_passed}
 use Rattle.register_records.proofs.rows.Row.put_tail_from.Goals as goal
-
-pub passed-init : goal.passed-init
-passed-init c = search rules
 
 pub passed-preserved : goal.passed-preserved
 passed-preserved c =
@@ -22,12 +17,8 @@ passed-preserved c =
 pub returns-clause-value : goal.returns-clause-value
 returns-clause-value c =
     let row = c.args.self.now in
-    let d = c.args.lines.now.delimiter in
     let all : c.passed.counter ≡ c.args.passed = omega arith in
-    let bytes : c.passed.bytes.now ≡ fields_text (writing d) (drop c.args.passed (tail_fields row)) =
-    c.passed.invariant.behind
-    ∙ ap (λ n. fields_text (writing row.tail.delimiter) (drop n (tail_fields row))) all
-    ∙ ap (λ e. fields_text (writing e) (drop c.args.passed (tail_fields row))) (sym c.requires.same) in
-    subst (λ (fields : List (List ℕ)). GainsFields d (drop c.args.passed fields) (line_bytes c.args.lines.now)
-    (line_bytes c.written.new.self)) (sym (tail_alike (row_seen row) (row_targets row)))
-    (c.written.ensures.value (drop c.args.passed (tail_fields row)) bytes)
+    let bytes : c.passed.bytes.now
+    ≡ fields_text (writing c.args.lines.now.delimiter) (drop c.args.passed (tail_fields row)) =
+    cc (c.passed.invariant.behind, all, c.requires.same) in
+    rw (tail_alike (row_seen row) (row_targets row)) (c.written.ensures.value (drop c.args.passed (tail_fields row)) bytes)

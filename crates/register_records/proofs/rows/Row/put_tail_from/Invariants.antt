@@ -1,7 +1,4 @@
-use Rattle.std.proofs.Common.{◌≡◌, ◌≤◌, drop, length}
-use Rattle.register_records.proofs.Common.{writing, tail_fields}
-use Rattle.csv.specs.Writing.{fields_text}
-use Rattle.register_records.specs.declared.row_tails.TheConstants.{TAIL_ROOM}
+use Rattle.register_records.proofs.Common.{◌≡◌, ◌≤◌, length, drop, fields_text, writing, tail_fields, TAIL_ROOM}
 use Rattle.register_records.proofs.rows.Row.put_tail_from.Given as goal
 
 abbrev pub invariant-passed : goal.invariant-passed

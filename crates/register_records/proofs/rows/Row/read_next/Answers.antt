@@ -1,5 +1,4 @@
-use Rattle.std.proofs.Common.{rules}
-use Rattle.register_records.proofs.Common.{∥∥₁_map}
+use Rattle.register_records.proofs.Common.{rules, ∥∥₁_map}
 use Rattle.register_records.proofs.rows.Row.read_next.Goals as goal
 
 pub next_outcome-next-requires-clause-known : goal.next_outcome-next-requires-clause-known
@@ -9,9 +8,3 @@ next_outcome-next-requires-clause-known g c =
 
 pub reconvert-requires-clause-cells : goal.reconvert-requires-clause-cells
 reconvert-requires-clause-cells g c = ∥∥₁_map c.args.self.now.is_row (λ is. is.cells)
-
-pub returns-in-Ok-false : goal.returns-in-Ok-false
-returns-in-Ok-false g c = search rules
-
-pub returns-in-Err : goal.returns-in-Err
-returns-in-Err g c = search rules

@@ -1,5 +1,4 @@
-use Rattle.std.proofs.Common.{rules}
-use Rattle.register_records.proofs.Common.{∥∥₁_map}
+use Rattle.register_records.proofs.Common.{rules, ∥∥₁_map}
 use Rattle.register_records.proofs.rows.Row.renew.Goals as goal
 
 pub next_outcome-next-requires-clause-known : goal.next_outcome-next-requires-clause-known

@@ -1,5 +1,5 @@
-use Rattle.std.proofs.Common.{◌≡◌, ◌≤◌, ◌*◌, ◌∙◌, ap, arith, length, length-take, rules, sym, take_all}
-use Rattle.register_records.proofs.Common.{Target, items_in, WORD_LEN, RANK_ROOM, ranks_in}
+use Rattle.std.proofs.Common.{◌≡◌, ◌*◌, ◌≤◌, length, sym, ap, ◌∙◌, arith, length-take, take_all, rules}
+use Rattle.register_records.proofs.Common.{WORD_LEN, Target, items_in, ranks_in, RANK_ROOM}
 use Rattle.register_records.specs.declared.short_lists.ShortList.{ShortList}
 use Rattle.register_records.proofs.TargetRankLemmas.{more_compared, one_list}
 use Rattle.register_records.proofs.target_lists.TargetList.is_same.Goals as goal

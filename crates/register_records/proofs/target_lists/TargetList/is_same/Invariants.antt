@@ -1,5 +1,4 @@
-use Rattle.std.proofs.Common.{◌≡◌, ◌*◌, take, true, ◌↔◌}
-use Rattle.register_records.proofs.Common.{WORD_LEN}
+use Rattle.register_records.proofs.Common.{◌≡◌, ◌*◌, true, ◌↔◌, take, WORD_LEN}
 use Rattle.register_records.proofs.target_lists.TargetList.is_same.Given as goal
 
 abbrev pub invariant-words : goal.invariant-words

@@ -1,5 +1,4 @@
-use Rattle.std.proofs.Common.{◌∙◌, add-one, arith, sym}
-use Rattle.register_records.proofs.Common.{take_more, RANK_ROOM}
+use Rattle.register_records.proofs.Common.{sym, ◌∙◌, add-one, arith, RANK_ROOM, take_more}
 use Rattle.register_records.proofs.TargetRankLemmas.{more_ranks}
 use Rattle.register_records.proofs.target_lists.TargetList.listed.Goals as goal
 

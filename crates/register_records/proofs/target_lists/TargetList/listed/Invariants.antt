@@ -1,5 +1,4 @@
-use Rattle.std.proofs.Common.{◌≡◌, take}
-use Rattle.register_records.proofs.Common.{RANK_ROOM, items_in, ranks_in}
+use Rattle.register_records.proofs.Common.{◌≡◌, take, items_in, ranks_in, RANK_ROOM}
 use Rattle.register_records.proofs.target_lists.TargetList.listed.Given as goal
 
 abbrev pub invariant-targets : goal.invariant-targets

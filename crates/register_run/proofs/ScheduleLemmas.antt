@@ -3,7 +3,7 @@ use Rattle.std.proofs.Common.{◌≡◌, ◌+◌, ℕ, List, [], ◌∷◌, Bool
 use Rattle.register_run.proofs.Common.{AllZip, Target, HasFirstEntries, Numbered, Reading, record_limit, IsRowOf, World}
 use Rattle.register_run.proofs.Common.{numbers}
 use Rattle.striped_lanes.specs.Places.{HaveNumbersFrom, KeepNumbers}
-use Rattle.striped_lanes.proofs.NumberLemmas.{numbered_front}
+use Rattle.striped_lanes.proofs.PlaceLemmas.{numbered_front}
 use Rattle.register_records.specs.Entries.{Fields, body_of, entries_from}
 use Rattle.register_records.specs.Seals.{entry_records}
 use Rattle.register_records.specs.declared.setups.Form.{Form}

@@ -1,25 +1,25 @@
 -- What is known of a source that has ended.
-use Rattle.std.proofs.Common.{rules, ◌≡◌, ◌≢◌, ◌∙◌, ap, refl, sym, subst, ℕ, List, [], ◌++◌, length, Option, None, Some}
-use Rattle.std.proofs.Common.{◌≤◌, inl, inr, arith, length-append, true, false, Bool, Err, Ok, IfOk, IfSome}
-use Rattle.register_run.proofs.Common.{AllZip, Contains, length-map, props, ∥∥₁_elim, ∥∥₁_map, ∥∥₁_prop, Row, Cause}
-use Rattle.register_run.proofs.Common.{SourceEnd, HasAllEntries, HasEntries, HasFirstEntries, Numbered, record_limit}
-use Rattle.register_run.proofs.Common.{IsRowOf, entry_seen, IfBroken, IfWhole, cause_number, Layout, Reading, layout_of}
-use Rattle.register_run.proofs.Common.{reading_of, Stripe, Sent, Findings, Table, HasMetNone, IsLowest, IsMet}
-use Rattle.register_run.proofs.Common.{is_of_table, IsSourceEnd, Carries, IsMachineWithTable, HasPassed, IsGiven}
-use Rattle.register_run.proofs.Common.{IsOfGiven, Holds, entries_seen, rows_seen, table_fault}
-use Rattle.std.proofs.lemmas.Bool.{cases_eq, false_from_ne_true}
-use Rattle.register_records.specs.Tables.{table_text}
-use Rattle.register_records.specs.TablesWritten.{HasEnded, has_lost_output, is_headed, made_for, waiting_of}
-use Rattle.register_run.specs.JoinedThreads.{IsNotOfOutput, is_of_reading, speaks_of_text}
+use Rattle.register_run.proofs.Common.{rules, ◌≡◌, ◌≢◌, ◌∙◌, ap, refl, sym, subst, ℕ, List, [], ◌++◌, length, Option}
+use Rattle.register_run.proofs.Common.{None, Some, ◌≤◌, inl, inr, arith, length-append, true, false, Bool, Err, Ok}
+use Rattle.register_run.proofs.Common.{IfOk, IfSome, AllZip, Contains, length-map, props, ∥∥₁_elim, ∥∥₁_map, ∥∥₁_prop}
+use Rattle.register_run.proofs.Common.{Row, Cause, SourceEnd, HasAllEntries, HasEntries, HasFirstEntries, Numbered}
+use Rattle.register_run.proofs.Common.{record_limit, entry_seen, Reading, layout_of, reading_of, Stripe, Sent, Findings}
+use Rattle.register_run.proofs.Common.{Table, is_of_table, Carries, IsMachineWithTable, HasPassed, IsGiven, IsOfGiven}
+use Rattle.register_run.proofs.Common.{cases_eq, false_from_ne_true, IsNotOfOutput, is_of_reading, speaks_of_text}
+use Rattle.register_records.specs.Outcomes.{IsRowOf}
+use Rattle.register_records.specs.Sources.{IfBroken, IfWhole, cause_number, ArePartOfTable, Gains, IsFrontOfTable}
+use Rattle.register_records.specs.Sources.{IsTableOf}
+use Rattle.register_records.specs.Tables.{Layout, table_text}
+use Rattle.register_records.specs.TablesWritten.{Holds, entries_seen, rows_seen, table_fault, HasEnded, has_lost_output}
+use Rattle.register_records.specs.TablesWritten.{is_headed, made_for, waiting_of}
+use Rattle.register_records.proofs.SomeRecordsLemmas.{front_of_some}
+use Rattle.register_records.proofs.TableLemmas.{are_rows, faultless, front_so, gained_so, table_is, whole_so, written}
 use Rattle.register_records.specs.declared.outputs.Output as outputs
 use Rattle.register_records.specs.declared.ends.Cause.TheVariants as cause
 use Rattle.register_records.specs.declared.ends.SourceEnd.TheVariants as end
-use Rattle.register_records.specs.Sources.{ArePartOfTable, Gains, IsFrontOfTable, IsTableOf}
-use Rattle.register_records.proofs.SomeRecordsLemmas.{front_of_some}
-use Rattle.register_records.proofs.TableLemmas.{are_rows, faultless, front_so, gained_so, table_is, whole_so, written}
-use Rattle.register_run.specs.MetCauses.{Differs}
-use Rattle.register_run.specs.Headline.{IsAllOfTable, causes_of_reading}
-use Rattle.register_run.proofs.FrontLemmas.{first_of_first, front_all, rows_front}
+use Rattle.register_run.specs.MetCauses.{HasMetNone, IsLowest, IsMet, Differs}
+use Rattle.register_run.specs.Headline.{IsSourceEnd, IsAllOfTable, causes_of_reading}
+use Rattle.register_run.proofs.GivenLemmas.{first_of_first, front_all, rows_front}
 
 listed : (c : Cause) → Contains causes_of_reading c → is_of_reading c ≡ true
 listed c h = search rules

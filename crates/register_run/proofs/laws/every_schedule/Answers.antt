@@ -1,6 +1,6 @@
 use Rattle.register_run.proofs.Common.{numbers}
 use Rattle.striped_lanes.proofs.ScheduleLemmas as machine
-use Rattle.register_run.proofs.ScheduleLemmas.{numbers_of}
+use Rattle.register_run.proofs.HistoryLemmas.{numbers_of}
 use Rattle.register_run.proofs.laws.every_schedule.Goals as goal
 
 pub returns : goal.returns

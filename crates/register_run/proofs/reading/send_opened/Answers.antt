@@ -1,8 +1,7 @@
-use Rattle.std.proofs.Common.{◌∙◌, ◌∷◌, [], ap, arith, length, length-append, refl, subst, sym, rules, length-set}
-use Rattle.register_run.proofs.Common.{AreNumberedFrom, given_of, sender_lane}
-use Rattle.register_run.proofs.DealtLemmas.{dealt_none, dealt_send, dealt_unsent}
-use Rattle.register_run.proofs.MoveLemmas.{set_same}
+use Rattle.register_run.proofs.Common.{◌∙◌, ◌∷◌, [], ap, arith, length, length-append, refl, subst, sym, rules}
+use Rattle.register_run.proofs.Common.{length-set, AreNumberedFrom, given_of, sender_lane}
 use Rattle.register_records.proofs.TableLemmas.{numbered_more}
+use Rattle.register_run.proofs.StripeLemmas.{dealt_none, dealt_send, dealt_unsent, set_same}
 use Rattle.register_run.proofs.GivenLemmas.{sends_all, sends_gone, sends_stopped}
 use Rattle.register_run.proofs.reading.send_opened.Goals as goal
 

@@ -1,4 +1,4 @@
-use Rattle.std.proofs.Common.{rules, arith}
+use Rattle.register_run.proofs.Common.{rules, arith}
 use Rattle.register_run.proofs.StripeLemmas.{end_passed}
 use Rattle.register_run.proofs.running_sources.join_stripes.Goals as goal
 

@@ -1,7 +1,7 @@
-use Rattle.std.proofs.Common.{◌≡◌, [], IfErr, ap, arith, subst, sym}
-use Rattle.register_run.proofs.Common.{popped}
-use Rattle.register_run.proofs.running_sources.RunningSource.start.Goals as goal
+use Rattle.std.proofs.Common.{IfErr}
+use Rattle.register_run.proofs.Common.{◌≡◌, [], ap, arith, subst, sym, popped}
 use Rattle.register_run.proofs.running_sources.RunningSource.start.Goals.{in-Err, in-Ok}
+use Rattle.register_run.proofs.running_sources.RunningSource.start.Goals as goal
 
 pub invariant_of-result-clause-reads : goal.invariant_of-result-clause-reads
 invariant_of-result-clause-reads g c = elim c.match-start_threads.branch [

@@ -1,6 +1,5 @@
-use Rattle.std.proofs.Common.{arith, length-set, rules}
-use Rattle.register_run.proofs.PoppedLemmas.{in_turn_looked, looked_at}
-use Rattle.register_run.proofs.RunningSourceLemmas.{wrote_same}
+use Rattle.register_run.proofs.Common.{arith, length-set, rules}
+use Rattle.register_run.proofs.RunningSourceLemmas.{in_turn_looked, looked_at, wrote_same}
 use Rattle.register_run.proofs.StripeLemmas.{same_stripes}
 use Rattle.register_run.proofs.running_sources.RunningSource.step.Goals as goal
 

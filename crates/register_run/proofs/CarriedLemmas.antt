@@ -30,9 +30,7 @@ module _ {T : Type 0} where
 
   -- what is next was seen
   pub seen_next : (old seen : List (Item T)) (y : Item T) → IsPrefix (y ∷ []) seen → Contains (old ++ seen) y
-  seen_next old seen y (rest, all) =
-      Contains-append_right old seen y
-      (subst (λ l. Contains l y) all (Contains-append_left (y ∷ []) rest y (0, lit< tt, refl)))
+  seen_next old seen y (rest, all) = grind (arith, Contains-append_right, Contains-append_left, lit<)
 
   -- after a wait that took nothing, the item that was next is the one that was taken
   pub took_next : (old waited seen new rest : List (Item T)) (y : Item T) → waited ≡ old → IsPrefix (y ∷ []) seen
@@ -161,10 +159,7 @@ module _ (from into : Lane) (stripe : Stripe) (fed : Closed Entry) (converting :
   all_passed ends = grind (arith, second.equal, first.equal, keeps.all second.confirmed (rw second.equal ends))
 
   first_passed : IsPrefix (rows_carried (taken stripe.rows)) (carried (all_sent fed))
-  first_passed =
-      rw (← second.equal, first.equal)
-      (map_prefix entry_seen (row_entries (all_sent converting.closed)) (entries_in (taken converting.entries))
-      (keeps.rows second.confirmed))
+  first_passed = grind (arith, map_prefix)
 
   ends_so : (items : List (Item Row)) (ended : Option ℕ) (count : ℕ) → items ≡ taken stripe.rows
       → MatchOption ended (last_mark items ≡ Some Stopped) (λ n. last_mark items ≡ Some (Counted n))
@@ -192,8 +187,7 @@ first_still old new (x ∷ seen) rest rows next one (more, before) =
 pub all_still : (old new seen rest : List (Item Entry)) (rows : List (Item Row)) (mark : Item Entry)
     → entries_in (mark ∷ []) ≡ [] → IsPrefix (mark ∷ []) seen → new ++ rest ≡ old ++ seen
     → length new ≡ length old + 1 → AreOfAllTaken old rows → AreOfAllTaken new rows
-all_still old new seen rest rows mark none here next one all =
-    all ∙ sym (no_more old new mark none (took_next old old seen new rest mark refl here next one))
+all_still old new seen rest rows mark none here next one all = grind (arith, no_more, took_next)
 
 -- it ended the lane of its rows, with an end or with a stop
 module _ (from : Lane) (entries : Receiver Entry) (rows : Sender Row) (closed : Closed Row)
@@ -205,12 +199,7 @@ module _ (from : Lane) (entries : Receiver Entry) (rows : Sender Row) (closed : 
 
   pub ends : (n : ℕ) → AreOfAllTaken (taken entries) (sent rows)
       → (HasConfirmation closed → all_sent closed ≡ sent rows ++ item.End n ∷ []) → Ends
-  ends n of_all all = record {
-    handed = handed;
-    closed = lane;
-    rows = λ sure. first_ended (taken entries) (taken entries) (sent rows) _ (item.End n) refl refl (all sure) first;
-    all = λ sure _. all_ended (taken entries) (taken entries) (sent rows) _ (item.End n) refl refl (all sure) of_all;
-  }
+  ends n of_all all = grind (arith, first_ended, all_ended)
 
   pub stops : (HasConfirmation closed → all_sent closed ≡ sent rows ++ item.Stop ∷ []) → Ends
   stops all = record {

@@ -86,8 +86,7 @@ thread_outcome met of_table e lowest is = search (rules, met_by_threads, met)
 pub met_none : {W : Type 0} (e : SourceEnd) (met : Findings) (table : Table W) → met.sent.outcome ≡ Ok met.rows
     → met.fault ≡ None → met.headed ≡ true → met.rows ≡ table.rows
     → IfWhole e (HasEnded table) → IfWhole e (HasMetNone met table.journal.items)
-met_none (end.Whole count refused journal) met table outcome fault headed rows is =
-    (outcome ∙ ap Ok (rows ∙ sym is.1), fault, headed, is.1 ∙ sym rows, is.2, is.3)
+met_none (end.Whole count refused journal) met table outcome fault headed rows is = grind arith
 met_none (end.Broken c) met table outcome fault headed rows is = tt
 
 pub never_broken : (e : SourceEnd) (f : Option Cause) (P : Cause → Type 0) → f ≡ None → IfBroken e (λ c. f ≡ Some c)

@@ -1,7 +1,7 @@
 -- What a reader gave of a text, by how it ended, and of what was given the rows are that were taken.
 use Rattle.register_run.proofs.Common.{rules, ◌≡◌, refl, ℕ, List, [], length, Option, map, Err, IfSome, Ok, ◌∙◌, ap}
 use Rattle.register_run.proofs.Common.{sym, zero, suc, ◌+◌, ◌≤◌, ◌∷◌, ◌++◌, arith, append_assoc, length-append}
-use Rattle.register_run.proofs.Common.{append-nil, HasNoHeader, HasTooMany, IsNotSealed, IsOfThreads, MaySend, Sends}
+use Rattle.register_run.proofs.Common.{inl, inr, ◌⊎◌, append-nil, HasNoHeader, HasTooMany, IsNotSealed, IsOfThreads, MaySend, Sends}
 use Rattle.register_run.proofs.Common.{∥∥₁_elim, ∥∥₁_map, ∥∥₁_prop, AreNumberedFrom, Reading, HasAllEntries, HasEntries}
 use Rattle.register_run.proofs.Common.{HasFirstEntries, Numbered, record_limit, Cause, Lane, Sender, sender_lane, Entry}
 use Rattle.register_run.proofs.Common.{Row, AreDealt, World, HasPassed, IsGiven, Sent, Contains, entry_seen, IsOfGiven}
@@ -13,80 +13,35 @@ use Rattle.register_records.specs.TablesWritten.{entries_seen}
 use Rattle.register_records.specs.declared.reading.EntryFault.TheVariants as fault
 use Rattle.register_records.specs.declared.ends.Cause.TheVariants as cause
 
--- the faults of reading that these causes are
+-- a fault of reading is the one that its cause names; it is none of the output, and no thread that did not start
 fault_of_cause : (f : EntryFault) (c : Cause) → c ≡ entry_fault_cause f
     → (c ≡ cause.BadHeader → f ≡ fault.BadHeader) × (c ≡ cause.TooManyRecords → f ≡ fault.TooManyRecords)
-    × (c ≡ cause.NotSealed → f ≡ fault.NotSealed)
-fault_of_cause fault.OutOfMemory c is = (λ e. cc, λ e. cc, λ e. cc)
-fault_of_cause f c is = (λ e. cc, λ e. cc, λ e. cc)
-
--- a fault of reading is none of the output, and no thread that did not start
-not_others : (f : EntryFault) (c : Cause) → c ≡ entry_fault_cause f
-    → (c ≡ cause.SinkFault → ⊥) × (c ≡ cause.NoThread → ⊥)
-not_others fault.OutOfMemory c is = (λ e. cc, λ e. cc)
-not_others f c is = (λ e. cc, λ e. cc)
+    × (c ≡ cause.NotSealed → f ≡ fault.NotSealed) × (c ≡ cause.SinkFault → ⊥) × (c ≡ cause.NoThread → ⊥)
+fault_of_cause fault.OutOfMemory c is = (λ e. cc, λ e. cc, λ e. cc, λ e. cc, λ e. cc)
+fault_of_cause f c is = (λ e. cc, λ e. cc, λ e. cc, λ e. cc, λ e. cc)
 
 module _ (text : Option (List ℕ)) (reading : Reading) where
-  -- the text was not opened
-  given_none : (f : EntryFault) (c : Cause) → c ≡ entry_fault_cause f
-      → (f ≡ fault.BadHeader → IfSome text (λ t. HasNoHeader reading t)) → (f ≡ fault.TooManyRecords → ⊥)
-      → (f ≡ fault.NotSealed → ⊥) → (sent : Sent) → (sent.count ≡ 0) × (sent.outcome ≡ Err c)
-      → IsGiven text reading sent []
-  given_none f c is bad many unsealed sent (none, why) = search (rules, fault_of_cause)
-
-  pub sends_none : (f : EntryFault) (c : Cause) → c ≡ entry_fault_cause f
-      → (f ≡ fault.BadHeader → IfSome text (λ t. HasNoHeader reading t)) → (f ≡ fault.TooManyRecords → ⊥)
-      → (f ≡ fault.NotSealed → ⊥) → (sent : Sent) → (sent.count ≡ 0) × (sent.outcome ≡ Err c)
-      → (senders : List (Sender Entry)) → ((w : World) → AreDealt w 0 [] senders)
-      → MaySend text reading (map sender_lane senders) sent senders
-  sends_none f c is bad many unsealed sent why senders deals =
-      let others = not_others f c is in
-      let sends : ∥ Sends text reading sent senders ∥₁
-      = ∣ ([], given_none f c is bad many unsealed sent why, λ w _. deals w) ∣₁ in search (rules, others, sends)
-
+  -- the reading stopped after these entries
   stopped_so : (f : EntryFault) (c : Cause) (given : List Numbered) → c ≡ entry_fault_cause f
-      → (f ≡ fault.BadHeader → ⊥)
-      → AreNumberedFrom 1 given
-      → HasFirstEntries reading text given
+      → (f ≡ fault.BadHeader → (given ≡ []) × IfSome text (λ t. HasNoHeader reading t)) → AreNumberedFrom 1 given
+      → (given ≡ []) ⊎ HasFirstEntries reading text given
       → (f ≡ fault.TooManyRecords → (length given ≡ record_limit) × IfSome text (λ t. HasTooMany reading t))
       → (f ≡ fault.NotSealed → (reading.form ≡ Sealed) × IfSome text (λ t. IsNotSealed reading t)
       × HasAllEntries reading text given)
       → (sent : Sent) → sent.count ≡ length given → sent.outcome ≡ Err c → IsGiven text reading sent given
   stopped_so f c given is bad numbered first many unsealed sent counted why = search (rules, fault_of_cause)
 
-  -- the reading stopped after these entries
-  pub given_stopped : (f : EntryFault) (c : Cause) (given : List Numbered) → c ≡ entry_fault_cause f
-      → (f ≡ fault.BadHeader → ⊥)
-      → (f ≡ fault.TooManyRecords → (length given ≡ record_limit) × ∥ IfSome text (λ t. HasTooMany reading t) ∥₁)
-      → (f ≡ fault.NotSealed → (reading.form ≡ Sealed) × ∥ IfSome text (λ t. IsNotSealed reading t) ∥₁)
-      → (f ≡ fault.NotSealed → ∥ HasAllEntries reading text given ∥₁)
-      → AreNumberedFrom 1 given
-      → ∥ HasFirstEntries reading text given ∥₁
-      → (sent : Sent) → sent.count ≡ length given → sent.outcome ≡ Err c → ∥ IsGiven text reading sent given ∥₁
-  given_stopped fault.TooManyRecords c given is bad many unsealed above numbered first sent counted why =
-      ∥∥₁_elim first ∥∥₁_prop (λ s.
-      ∥∥₁_map (many refl).1 (λ m.
-      stopped_so fault.TooManyRecords c given is bad numbered s (λ e. ((many refl).0, m)) (λ e. cc) sent counted why))
-  given_stopped fault.NotSealed c given is bad many unsealed above numbered first sent counted why =
-      ∥∥₁_elim first ∥∥₁_prop (λ s. ∥∥₁_elim (above refl) ∥∥₁_prop (λ a.
-      ∥∥₁_map (unsealed refl).1 (λ u.
-      stopped_so fault.NotSealed c given is bad numbered s (λ e. cc) (λ e. ((unsealed refl).0, u, a)) sent counted
-      why)))
-  given_stopped f c given is bad many unsealed above numbered first sent counted why =
-      ∥∥₁_map first (λ s. stopped_so f c given is bad numbered s (λ e. cc) (λ e. cc) sent counted why)
-
-  -- a converter was gone after these entries
-  pub given_gone : (given : List Numbered) → AreNumberedFrom 1 given
-      → ∥ HasFirstEntries reading text given ∥₁ → (sent : Sent) → sent.outcome ≡ Err cause.Unconfirmed
-      → ∥ IsGiven text reading sent given ∥₁
-  given_gone given numbered first sent why = ∥∥₁_map first (λ f. search rules)
-
-  -- these are all
-  pub given_all : (given : List Numbered) → AreNumberedFrom 1 given
-      → ∥ HasFirstEntries reading text given ∥₁ → ∥ HasEntries reading text given ∥₁ → (sent : Sent) (n : ℕ)
-      → n ≡ length given → sent.count ≡ n → sent.outcome ≡ Ok n → ∥ IsGiven text reading sent given ∥₁
-  given_all given numbered first all sent n count counted is =
-      ∥∥₁_elim first ∥∥₁_prop (λ f. ∥∥₁_map all (λ a. search rules))
+  -- the text was not opened
+  pub sends_none : (f : EntryFault) (c : Cause) → c ≡ entry_fault_cause f
+      → (f ≡ fault.BadHeader → IfSome text (λ t. HasNoHeader reading t)) → (f ≡ fault.TooManyRecords → ⊥)
+      → (f ≡ fault.NotSealed → ⊥) → (sent : Sent) → (sent.count ≡ 0) × (sent.outcome ≡ Err c)
+      → (senders : List (Sender Entry)) → ((w : World) → AreDealt w 0 [] senders)
+      → MaySend text reading (map sender_lane senders) sent senders
+  sends_none f c is bad many unsealed sent why senders deals =
+      let others = fault_of_cause f c is in
+      let none = stopped_so f c [] is (λ e. (refl, bad e)) tt (inl refl) (λ e. absurd (many e)) (λ e. absurd (unsealed e))
+      sent why.0 why.1 in
+      let sends : ∥ Sends text reading sent senders ∥₁ = ∣ ([], none, λ w _. deals w) ∣₁ in search (rules, others, sends)
 
 module _ (text text' : Option (List ℕ)) (d d' : Reading) (same : text' ≡ text) (by : d' ≡ d) (given old : List Numbered)
     (kept : given ≡ old) (numbered : AreNumberedFrom 1 old)
@@ -96,12 +51,31 @@ module _ (text text' : Option (List ℕ)) (d d' : Reading) (same : text' ≡ tex
   first' : ∥ HasFirstEntries d text old ∥₁
   first' = rw (same, by, kept) at first
 
+  -- these are all
   pub sends_all : ∥ HasEntries d' text' given ∥₁ → (sent : Sent) (n : ℕ) → n ≡ length old → sent.count ≡ n
       → sent.outcome ≡ Ok n → MaySend text d given_lanes sent senders
   sends_all all sent n count counted is =
       let sends : ∥ Sends text d sent senders ∥₁
-      = ∥∥₁_map (given_all text d old numbered first' (rw (same, by, kept) at all) sent n count counted is)
-      (λ is'. (old, is', deals)) in search (rules, sends)
+      = ∥∥₁_elim first' ∥∥₁_prop (λ f. ∥∥₁_map (rw (same, by, kept) at all) (λ a.
+      let is' : IsGiven text d sent old = search rules in (old, is', deals))) in search (rules, sends)
+
+  -- the reading stopped after these
+  given_stopped : (f : EntryFault) (c : Cause) → c ≡ entry_fault_cause f → (f ≡ fault.BadHeader → ⊥)
+      → (f ≡ fault.TooManyRecords → (length old ≡ record_limit) × ∥ IfSome text (λ t. HasTooMany d t) ∥₁)
+      → (f ≡ fault.NotSealed → (d.form ≡ Sealed) × ∥ IfSome text (λ t. IsNotSealed d t) ∥₁)
+      → (f ≡ fault.NotSealed → ∥ HasAllEntries d text old ∥₁) → (sent : Sent) → sent.count ≡ length old
+      → sent.outcome ≡ Err c → ∥ IsGiven text d sent old ∥₁
+  given_stopped fault.TooManyRecords c is bad many unsealed above sent counted why =
+      ∥∥₁_elim first' ∥∥₁_prop (λ s. ∥∥₁_map (many refl).1 (λ m.
+      stopped_so text d fault.TooManyRecords c old is (λ e. cc) numbered (inr s) (λ e. ((many refl).0, m)) (λ e. cc) sent
+      counted why))
+  given_stopped fault.NotSealed c is bad many unsealed above sent counted why =
+      ∥∥₁_elim first' ∥∥₁_prop (λ s. ∥∥₁_elim (above refl) ∥∥₁_prop (λ a. ∥∥₁_map (unsealed refl).1 (λ u.
+      stopped_so text d fault.NotSealed c old is (λ e. cc) numbered (inr s) (λ e. cc) (λ e. ((unsealed refl).0, u, a))
+      sent counted why)))
+  given_stopped f c is bad many unsealed above sent counted why =
+      ∥∥₁_map first' (λ s. stopped_so text d f c old is (λ e. absurd (bad e)) numbered (inr s) (λ e. cc) (λ e. cc) sent
+      counted why)
 
   pub sends_stopped : (f : EntryFault) (c : Cause) → c ≡ entry_fault_cause f → (f ≡ fault.BadHeader → ⊥)
       → (f ≡ fault.TooManyRecords → (length old ≡ record_limit) × ∥ IfSome text' (λ t. HasTooMany d' t) ∥₁)
@@ -109,16 +83,17 @@ module _ (text text' : Option (List ℕ)) (d d' : Reading) (same : text' ≡ tex
       → (f ≡ fault.NotSealed → ∥ HasAllEntries d' text' given ∥₁) → (sent : Sent)
       → sent.count ≡ length old → sent.outcome ≡ Err c → MaySend text d given_lanes sent senders
   sends_stopped f c is bad many unsealed above sent counted why =
-      let others = not_others f c is in
+      let others = fault_of_cause f c is in
       let sends : ∥ Sends text d sent senders ∥₁
-      = ∥∥₁_map (given_stopped text d f c old is bad (rw (same, by) at many) (rw (same, by) at unsealed)
-      (rw (same, by, kept) at above) numbered first' sent counted why) (λ is'. (old, is', deals)) in
-      search (rules, others, sends)
+      = ∥∥₁_map (given_stopped f c is bad (rw (same, by) at many) (rw (same, by) at unsealed)
+      (rw (same, by, kept) at above) sent counted why) (λ is'. (old, is', deals)) in search (rules, others, sends)
 
+  -- a converter was gone after these
   pub sends_gone : (sent : Sent) → sent.outcome ≡ Err cause.Unconfirmed → MaySend text d given_lanes sent senders
   sends_gone sent why =
       let sends : ∥ Sends text d sent senders ∥₁
-      = ∥∥₁_map (given_gone text d old numbered first' sent why) (λ is. (old, is, deals)) in search (rules, sends)
+      = ∥∥₁_map first' (λ f. let is : IsGiven text d sent old = search rules in (old, is, deals)) in
+      search (rules, sends)
 
 -- an outcome that does not speak of the text says nothing
 pub passed_not : (text : Option (List ℕ)) (d : Reading) (sent : Sent) (c : Cause) (took : Row → Type 0)

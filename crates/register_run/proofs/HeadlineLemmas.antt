@@ -127,10 +127,7 @@ module _ {R W : Type 0} {r : reads.Ghosts R} {o : outputs.Ghosts W} (setup : Set
 -- ---- what is known of the threads of a source, by how it ended
 
 some_stripe : (setup : Setup) → 0 < setup.stripes
-some_stripe setup =
-    let least = leb-true 1 setup.stripes
-    (and_parts (nat_le 1 setup.stripes) (nat_le setup.stripes most_stripes) setup.striped).0 in
-    omega (arith, least)
+some_stripe setup = grind (arith, leb-true, and_parts)
 
 -- stripes that were started by a setup have its ring
 rings_of : (setup : Setup) (stripes : List Stripe) (n : ℕ) → map stripe_setup stripes ≡ replicate n setup
@@ -155,12 +152,7 @@ module _ (setup : Setup) (met : Findings) (journal : List Note) (of_table : IfSo
         → IfWhole e (HasMetNone met journal) → IfBroken e (IsLowest (IsMet met))
         → (e ≡ end.Broken cause.NoMemory) ⊎ (e ≡ end.Broken cause.NoThread)
     low_end (end.Whole count refused notes) c low outcome whole lowest = absurd (let ok = whole.0 in cc)
-    low_end (end.Broken b) c low outcome whole lowest =
-        let below = lowest.1 c (inl outcome) in
-        elim (lowest_two b (omega (arith, below, low))) [
-          | inl e ↦ inl (ap (λ x. end.Broken x) e)
-          | inr e ↦ inr (ap (λ x. end.Broken x) e)
-        ]
+    low_end (end.Broken b) c low outcome whole lowest = grind (arith, lowest_two)
 
     pub threads_of : (ran : Ran) (e : SourceEnd) → ran.findings.value ≡ met
         → AreStaffed setup met.sent.outcome ran.stripes.value.items

@@ -34,12 +34,7 @@ have_histories : (w : World) (schedule : List Actor) (given : List Numbered) (i 
     → ((j : ℕ) → rows_over w j schedule start ≡ map w.row_of (dealt w j given))
     → HavePassedOn true stripes closed → WereDealt w i given closed → HaveHistories w schedule i stripes closed
 have_histories w schedule given i (stripe ∷ stripes) (c ∷ closed) es rs on deals =
-    let sure = on.0.confirmed in (
-      sure,
-      deals.0 sure ∙ sym (es i),
-      ap (λ (l : List Numbered). map w.row_of l) (on.0.all refl ∙ deals.0 sure) ∙ sym (rs i),
-      have_histories w schedule given (i + 1) stripes closed es rs on.1 deals.1,
-    )
+    grind (arith, have_histories w schedule given (i + 1) stripes closed es rs on.1 deals.1)
 have_histories w schedule given i stripes closed es rs on deals = on
 
 -- the lanes of stripes that passed all on have the histories of the machine's lanes in a schedule

@@ -56,9 +56,7 @@ module _ (stripes : List Stripe) (at : ℕ) (new old : Stripe) (within : at < le
 
   -- which leaves the turn where it is
   pub in_turn_looked : (found : Look) → HasLooked old new found → IsInTurn stripes at → IsInTurn (set stripes at new) at
-  in_turn_looked found looked turns all w many =
-      let is = looked_at found looked in
-      turns (is.still all) w (many ∙ length-set stripes at new) ∙ ap (turn w) (sym is.none)
+  in_turn_looked found looked turns all w many = grind (arith, looked_at, length-set)
 
   -- the stripe gave a row
   pub popped_at : new.«open» ≡ old.«open» → popped_from new ≡ popped_from old + 1

@@ -70,16 +70,14 @@ module _ (w : World) (given more : List Numbered) (e : Numbered) (is : more ≡ 
   later : (i : ℕ) (senders : List (Sender Entry)) → turn w (e.number - 1) < i → AreDealt w i given senders
       → AreDealt w i more senders
   later i [] past all = tt
-  later i (s ∷ rest) past all =
-      (all.0 ∙ sym (dealt_other i (λ same. omega (arith, past, same))), later (i + 1) rest (omega (arith, past)) all.1)
+  later i (s ∷ rest) past all = grind (arith, dealt_other, later (i + 1) rest (omega (arith, past)) all.1)
 
   -- and is sent there
   pub dealt_set : (i at : ℕ) (senders : List (Sender Entry)) (new d : Sender Entry) → turn w (e.number - 1) ≡ i + at
       → carried (sent new) ≡ carried (sent (get_or senders at d)) ++ e ∷ [] → AreDealt w i given senders
       → AreDealt w i more (set senders at new)
   dealt_set i at [] new d on gains all = tt
-  dealt_set i zero (s ∷ rest) new d on gains all =
-      grind (arith, all.0, sym (dealt_own i (omega (arith, on))), later (i + 1) rest (omega (arith, on)) all.1)
+  dealt_set i zero (s ∷ rest) new d on gains all = grind (arith, dealt_own, later)
   dealt_set i (suc at) (s ∷ rest) new d on gains all = (
     all.0 ∙ sym (dealt_other i (λ same. omega (arith, on, same))),
     dealt_set (i + 1) at rest new d (omega (arith, on)) gains all.1,

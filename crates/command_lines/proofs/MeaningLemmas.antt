@@ -112,16 +112,13 @@ module _ {T F : Type 0} (line : CommandLine T F) (arguments : List Text) where
         let same : DisplayHelp ≡ DisplayVersion = clear.kinds arguments DisplayHelp DisplayVersion asks other in cc
 
     work_no_fault : (task : T) (fault : F) → Mean line arguments (work task) → ¬ IsFaultOf line arguments fault
-    work_no_fault task fault asks =
-        no_fault (usage_check line arguments ∷ line.checks (matches_of line.command arguments)) all_sound
-        (asks.0, clear.passes (matches_of line.command arguments) task asks.1) fault
+    work_no_fault task fault asks = grind (arith, no_fault, all_sound)
 
     one_meaning : (meaning other : Meaning T F) → Mean line arguments meaning → Mean line arguments other
         → other ≡ meaning
     one_meaning help help x y = refl
     one_meaning version version x y = refl
-    one_meaning (work task) (work other) x y =
-        ap (λ t. work t) (clear.one (matches_of line.command arguments) other task y.1 x.1)
+    one_meaning (work task) (work other) x y = grind arith
     one_meaning (wrong fault) (wrong other) x y =
         ap (λ f. wrong f)
         (first_fault (usage_check line arguments ∷ line.checks (matches_of line.command arguments)) all_sound other fault y x)
@@ -130,8 +127,7 @@ module _ {T F : Type 0} (line : CommandLine T F) (arguments : List Text) where
 
     -- what the arguments mean is all that they mean
     pub mean_just : (meaning : Meaning T F) → Mean line arguments meaning → MeanJust line arguments meaning
-    mean_just meaning means other =
-        (λ e. subst (Mean line arguments) (sym e) means, λ m. one_meaning meaning other means m)
+    mean_just meaning means other = grind (arith, one_meaning)
 
     -- a fault that a check finds is all that the arguments mean
     pub found_just : (found : Option F) (fails : F → Type 0) → IfSome found fails

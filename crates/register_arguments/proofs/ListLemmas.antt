@@ -95,8 +95,7 @@ module _ (one : OneTarget) where
   same_targets : (names : List (List ℕ)) (targets others : List Target) → AreNamesOf names targets
       → AreNamesOf names others → targets ≡ others
   same_targets [] [] [] named other = refl
-  same_targets (n ∷ ns) (t ∷ ts) (u ∷ us) named other = ap₂ (λ (x : Target) (xs : List Target). x ∷ xs)
-      (one n t u named.0 other.0) (same_targets ns ts us named.1 other.1)
+  same_targets (n ∷ ns) (t ∷ ts) (u ∷ us) named other = grind (arith, same_targets ns ts us named.1 other.1)
   same_targets names targets others named other = absurd (search rules)
 
   -- where a name follows these names, the targets are those that these name, and then one with that name

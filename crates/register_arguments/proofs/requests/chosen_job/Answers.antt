@@ -32,8 +32,7 @@ pub returns-in_err-stripes-clause-fault : goal.returns-in_err-stripes-clause-fau
 returns-in_err-stripes-clause-fault c = search (rules, passes_found)
 
 pub returns-in_err-check_files-clause-fault : goal.returns-in_err-check_files-clause-fault
-returns-in_err-check_files-clause-fault c =
-    grind (arith, c.as_slice.ensures.value, c.in_err-check_files.ensures.fault, passed_up)
+returns-in_err-check_files-clause-fault c = grind (arith, passed_up)
 
 pub returns-clause-asked : goal.returns-clause-asked
 returns-clause-asked c =

@@ -72,19 +72,9 @@ module _ {E R : Type 0} (w : World E R) (some_converters : 0 < w.converters) (s 
   stripe_steps i u some k e =
       let c = w.converters in
       let d = length v.done in
-      record {
-        kept = record {
-          done = v.done;
-          between = v.between;
-          left = v.left;
-          entries = v.entries;
-          pushed = v.pushed;
-          popped = v.popped;
-          stripes = put_holds w (λ j. part c j d v.between) s.stripes i u k (λ j n. v.stripes j);
-        };
-        further =
-            omega (arith, e, put_further w s.stripes i u (part_within c i d v.between some_converters some));
-      }
+      let stripes = put_holds w (λ j. part c j d v.between) s.stripes i u k (λ j n. v.stripes j) in
+      let further = put_further w s.stripes i u (part_within c i d v.between some_converters some) in
+      search (rules, stripes, further)
 
   pop_entry_steps : (i : ℕ) (x : E) (lane : List E) → (s.stripes i).entry_lane ≡ x ∷ lane
       → (s.stripes i).hand ≡ None

@@ -1,4 +1,4 @@
--- What every act keeps, and how far the entries have come.
+-- What every act keeps, and how far the entries have come. What follows from it for a state.
 use Rattle.std.proofs.Common.{rules, ◌≡◌, ◌<◌, ◌≤◌, ◌+◌, ◌*◌, ◌++◌, ℕ, List, [], ◌∷◌, length, Some, Bool, true, false}
 use Rattle.std.proofs.Common.{inl, inr, refl, ap, arith, ◌⊎◌, ◌≢◌, map, option_to_list, if◌then◌else◌, slice_get}
 use Rattle.std.proofs.Common.{eq-eqb, ne_eqb, Option, None, ◌∙◌, length-append, take_at}

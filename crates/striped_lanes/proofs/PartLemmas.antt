@@ -1,4 +1,4 @@
--- Sums over stripes, and values that change at one number.
+-- Sums over stripes, values that change at one number, and items that are dealt to stripes by turns.
 use Rattle.std.proofs.Common.{inl, inr, ◌≡◌, ◌<◌, ◌≤◌, ◌+◌, ◌*◌, ℕ, zero, suc, refl, sym, ap, arith, rules, ◌++◌, List}
 use Rattle.std.proofs.Common.{[], ◌∷◌, length, ◌∙◌, ◌%◌, ◌==◌, if◌then◌else◌, eq-eqb, ne_eqb}
 use Rattle.std.proofs.lemmas.Bool.{cases_eq, eq-eqb, ne_eqb}

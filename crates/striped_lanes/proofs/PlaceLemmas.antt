@@ -1,4 +1,5 @@
--- How often a number stands among entries that are numbered in order, and among the parts that they are dealt into.
+-- Where entries stand, by their numbers: how often a number stands among entries and among the parts that they are dealt
+-- into, that each entry stands in one place, and that the actor that has to move the next one can.
 use Rattle.std.proofs.Common.{rules, ◌≡◌, ◌<◌, ◌≤◌, ◌+◌, ◌-◌, ◌++◌, ℕ, List, [], ◌∷◌, length, inl, inr, refl, sym, ap}
 use Rattle.std.proofs.Common.{◌∙◌, arith, ◌%◌, ◌==◌, cond, count_by, map, eq-eqb, ne_eqb, ◌≢◌, append_assoc}
 use Rattle.std.proofs.Common.{length-append, ◌⊎◌, option_to_list, Option, Some, None, slice_get}
@@ -195,23 +196,31 @@ not_empty (x ∷ xs) h = (x, xs, refl)
 module _ {E R : Type 0} (numbers : Numbers E R) (w : World E R) (some_converters : 0 < w.converters)
     (some_room : 0 < w.ring) (s : State E R) (v : Kept w s) (numbered : HaveNumbersFrom numbers 1 w.entries)
     (same_numbers : KeepNumbers numbers w w.entries) where
-  -- the entry of the next row goes through the stripe whose turn it is
-  next_stripe : stripe_of w (length s.popped + 1) ≡ turn w (length s.popped)
+  -- the entry of the next row, which goes through the stripe whose turn it is
+  abbrev next : ℕ
+  next = length s.popped + 1
+
+  abbrev its_stripe : ℕ
+  its_stripe = turn w (length s.popped)
+
+  next_stripe : stripe_of w next ≡ its_stripe
   next_stripe = ap (turn w) (omega arith)
 
-  go_on : (a : Actor) → HasToMove numbers w s (length s.popped + 1) a → Steps w s (act w a s)
-      → (actor : Actor) × HasToMove numbers w s (length s.popped + 1) actor × Changes w actor s
+  -- there is an actor that has to move it, and can
+  abbrev OneCan : Type 0
+  OneCan = (actor : Actor) × HasToMove numbers w s next actor × Changes w actor s
+
+  go_on : (a : Actor) → HasToMove numbers w s next a → Steps w s (act w a s) → OneCan
   go_on a move steps = (a, move, steps_change w s (act w a s) steps)
 
   -- it is not yet pushed: then no entry stands between the ends, and its lane has room
-  reader_goes_on : (x : E) → slice_get w.entries (length s.popped) ≡ Some x → length v.between ≡ 0
-      → (actor : Actor) × HasToMove numbers w s (length s.popped + 1) actor × Changes w actor s
-  reader_goes_on x next none =
+  reader_goes_on : (x : E) → slice_get w.entries (length s.popped) ≡ Some x → length v.between ≡ 0 → OneCan
+  reader_goes_on x next_is none =
       let c = w.converters in
       let i = turn w s.pushed in
       let here : s.pushed ≡ length s.popped =
       omega (arith, v.pushed, none, popped_count w some_converters s v) in
-      let at : slice_get w.entries s.pushed ≡ Some x = ap (slice_get w.entries) here ∙ next in
+      let at : slice_get w.entries s.pushed ≡ Some x = ap (slice_get w.entries) here ∙ next_is in
       let empty : length (part c i (length v.done) v.between) ≡ 0 =
       ap (λ (l : List E). length (part c i (length v.done) l)) (nil_from_length v.between none) in
       let room : length (s.stripes i).entry_lane < w.ring =
@@ -219,42 +228,35 @@ module _ {E R : Type 0} (numbers : Numbers E R) (w : World E R) (some_converters
       go_on Reader (not_pushed (omega (arith, here))) (reader_steps w some_converters s v x at room)
 
   -- it is the first of its stripe
-  first_goes_on : (x : E) (rest converted : List E) (hand : Option E) (lane : List E)
-      → numbers.of_entry x ≡ length s.popped + 1 → StandsIn numbers s (length s.popped + 1) (turn w (length s.popped))
-      → (v.stripes (turn w (length s.popped))).converted ≡ converted
-      → (s.stripes (turn w (length s.popped))).hand ≡ hand
-      → (s.stripes (turn w (length s.popped))).entry_lane ≡ lane → converted ++ (option_to_list hand ++ lane) ≡ x ∷ rest
-      → (actor : Actor) × HasToMove numbers w s (length s.popped + 1) actor × Changes w actor s
+  first_goes_on : (x : E) (rest converted : List E) (hand : Option E) (lane : List E) → numbers.of_entry x ≡ next
+      → StandsIn numbers s next its_stripe → (v.stripes its_stripe).converted ≡ converted
+      → (s.stripes its_stripe).hand ≡ hand → (s.stripes its_stripe).entry_lane ≡ lane
+      → converted ++ (option_to_list hand ++ lane) ≡ x ∷ rest → OneCan
   first_goes_on x rest (y ∷ converted) hand lane number stands converted_is hand_is lane_is e =
-      let k = length s.popped + 1 in
-      let i = turn w (length s.popped) in
-      let own : numbers.of_entry y ≡ k = cc in
-      let some : 0 < times_at numbers s k (RowLane i) =
-      rw (row_lane_times numbers w s v numbered same_numbers k i, converted_is)
-      (omega (arith, times_cons_own numbers k y converted own)) in
-      go_on Writer (in_row_lane (rw next_stripe (search (rules, only_at numbers s k i stands))))
+      let own : numbers.of_entry y ≡ next = cc in
+      let some : 0 < times_at numbers s next (RowLane its_stripe) =
+      rw (row_lane_times numbers w s v numbered same_numbers next its_stripe, converted_is)
+      (omega (arith, times_cons_own numbers next y converted own)) in
+      go_on Writer (in_row_lane (rw next_stripe (search (rules, only_at numbers s next its_stripe stands))))
       (writer_steps w some_converters s v (w.row_of y) (map w.row_of converted)
-      (rw converted_is at (v.stripes i).rows))
+      (rw converted_is at (v.stripes its_stripe).rows))
   first_goes_on x rest [] (Some y) lane number stands converted_is hand_is lane_is e =
-      let k = length s.popped + 1 in
-      let i = turn w (length s.popped) in
-      let own : numbers.of_entry y ≡ k = cc in
-      let some : 0 < times_at numbers s k (InConverter i) =
-      rw hand_is (omega (arith, times_cons_own numbers k y [] own)) in
-      let none : length (s.stripes i).row_lane ≡ 0 = ap length (rw converted_is at (v.stripes i).rows) in
-      go_on (Converter i)
-      (rw (← next_stripe) (in_converter (rw next_stripe (search (rules, only_at numbers s k i stands)))))
-      (pushing_converter_steps w some_converters s v i y hand_is (omega (arith, some_room, none)))
+      let own : numbers.of_entry y ≡ next = cc in
+      let some : 0 < times_at numbers s next (InConverter its_stripe) =
+      rw hand_is (omega (arith, times_cons_own numbers next y [] own)) in
+      let none : length (s.stripes its_stripe).row_lane ≡ 0 =
+      ap length (rw converted_is at (v.stripes its_stripe).rows) in
+      go_on (Converter its_stripe)
+      (rw (← next_stripe) (in_converter (rw next_stripe (search (rules, only_at numbers s next its_stripe stands)))))
+      (pushing_converter_steps w some_converters s v its_stripe y hand_is (omega (arith, some_room, none)))
   first_goes_on x rest [] None [] number stands converted_is hand_is lane_is e = cc e
   first_goes_on x rest [] None (y ∷ lane) number stands converted_is hand_is lane_is e =
-      let k = length s.popped + 1 in
-      let i = turn w (length s.popped) in
-      let own : numbers.of_entry y ≡ k = cc in
-      let some : 0 < times_at numbers s k (EntryLane i) =
-      rw lane_is (omega (arith, times_cons_own numbers k y lane own)) in
-      go_on (Converter i)
-      (rw (← next_stripe) (in_entry_lane (rw next_stripe (search (rules, only_at numbers s k i stands)))))
-      (popping_converter_steps w some_converters s v i y lane lane_is hand_is)
+      let own : numbers.of_entry y ≡ next = cc in
+      let some : 0 < times_at numbers s next (EntryLane its_stripe) =
+      rw lane_is (omega (arith, times_cons_own numbers next y lane own)) in
+      go_on (Converter its_stripe)
+      (rw (← next_stripe) (in_entry_lane (rw next_stripe (search (rules, only_at numbers s next its_stripe stands)))))
+      (popping_converter_steps w some_converters s v its_stripe y lane lane_is hand_is)
 
   next_is : slice_get w.entries (length s.popped) ≡ slice_get (v.between ++ v.left) 0
   next_is = grind (arith, v.entries, popped_count w some_converters s v, slice_get_rest v.done (v.between ++ v.left))
@@ -267,22 +269,18 @@ module _ {E R : Type 0} (numbers : Numbers E R) (w : World E R) (some_converters
       reader_goes_on x (next_is ∙ simp (e, left_is)) none
   by_between (x ∷ more) e more_rows =
       let c = w.converters in
-      let k = length s.popped + 1 in
-      let i = turn w (length s.popped) in
       let d = length v.done in
       let popped = popped_count w some_converters s v in
-      let first : part c i d v.between ≡ x ∷ part c i (d + 1) more =
-      ap (part c i d) e ∙ part_own c i d x more (ap (λ (n : ℕ). n % c) (sym popped)) in
+      let first : part c its_stripe d v.between ≡ x ∷ part c its_stripe (d + 1) more =
+      ap (part c its_stripe d) e ∙ part_own c its_stripe d x more (ap (λ (n : ℕ). n % c) (sym popped)) in
       let from_one : HaveNumbersFrom numbers 1 (v.done ++ (x ∷ (more ++ v.left))) =
       rw e at (rw v.entries at numbered) in
-      let number : numbers.of_entry x ≡ k =
+      let number : numbers.of_entry x ≡ next =
       omega (arith, popped, (numbered_rest numbers 1 v.done (x ∷ (more ++ v.left)) from_one).0) in
-      let pushed : k ≤ s.pushed = omega (arith, v.pushed, popped, ap length e) in
-      let stands : StandsIn numbers s k i =
-      rw next_stripe at (stands_in numbers w s v numbered same_numbers k (omega arith) pushed) in
-      let h = v.stripes i in
-      first_goes_on x (part c i (d + 1) more) h.converted (s.stripes i).hand (s.stripes i).entry_lane number stands
-      refl refl refl (h.all ∙ first)
+      let pushed : next ≤ s.pushed = omega (arith, v.pushed, popped, ap length e) in
+      let stands : StandsIn numbers s next its_stripe =
+      rw next_stripe at (stands_in numbers w s v numbered same_numbers next (omega arith) pushed) in
+      first_goes_on x _ _ _ _ number stands refl refl refl ((v.stripes its_stripe).all ∙ first)
 
   pub goes_on : GoesOn numbers w s
   goes_on = by_between v.between refl

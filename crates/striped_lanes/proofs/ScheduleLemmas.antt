@@ -1,4 +1,4 @@
--- The law, from what every act keeps.
+-- The law, from what every act keeps, and that enough rounds pop all rows.
 use Rattle.std.proofs.Common.{rules, ◌≡◌, ◌<◌, ◌≤◌, ◌+◌, ◌*◌, ℕ, List, [], ◌∷◌, length, inl, inr, refl, sym, subst, ap}
 use Rattle.std.proofs.Common.{arith, ◌++◌, ◌∙◌, zero, suc, Contains, take_all}
 use Rattle.std.proofs.lemmas.Bool.{cases_lt}

@@ -1,5 +1,5 @@
--- What the arguments ask for fits a setup: numbers within their limits, and each target once, the default ones too, since
--- their names differ.
+-- What the arguments ask for fits a setup: numbers within their limits, and each target once, the default ones too,
+-- since their names differ.
 use Rattle.std.proofs.Common.{◌≡◌, ◌&&◌, ℕ, true, nat_le, le-leb, refl, rules, ◌∙◌, ◌<◌, false, List, [], length, map}
 use Rattle.std.proofs.Common.{sym, ap, arith, Some, None, Option, Result, Err, inl, inr, true≢false, get_or, Bool}
 use Rattle.std.specs.Prelude.{if◌then◌else◌}

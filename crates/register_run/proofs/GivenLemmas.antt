@@ -1,10 +1,11 @@
--- What a reader gave of a text, by how it ended, and of what was given the rows are that were taken.
+-- What a reader gave of a text, by how it ended, and that the rows that were taken are of what it gave.
 use Rattle.register_run.proofs.Common.{rules, ◌≡◌, refl, ℕ, List, [], length, Option, map, Err, IfSome, Ok, ◌∙◌, ap}
-use Rattle.register_run.proofs.Common.{sym, zero, suc, ◌+◌, ◌≤◌, ◌∷◌, ◌++◌, arith, append_assoc, length-append}
-use Rattle.register_run.proofs.Common.{inl, inr, ◌⊎◌, append-nil, HasNoHeader, HasTooMany, IsNotSealed, IsOfThreads, MaySend, Sends}
-use Rattle.register_run.proofs.Common.{∥∥₁_elim, ∥∥₁_map, ∥∥₁_prop, AreNumberedFrom, Reading, HasAllEntries, HasEntries}
-use Rattle.register_run.proofs.Common.{HasFirstEntries, Numbered, record_limit, Cause, Lane, Sender, sender_lane, Entry}
-use Rattle.register_run.proofs.Common.{Row, AreDealt, World, HasPassed, IsGiven, Sent, Contains, entry_seen, IsOfGiven}
+use Rattle.register_run.proofs.Common.{sym, zero, suc, ◌+◌, ◌≤◌, ◌∷◌, ◌++◌, arith, append_assoc, length-append, inl}
+use Rattle.register_run.proofs.Common.{inr, ◌⊎◌, append-nil, HasNoHeader, HasTooMany, IsNotSealed, IsOfThreads, MaySend}
+use Rattle.register_run.proofs.Common.{Sends, ∥∥₁_elim, ∥∥₁_map, ∥∥₁_prop, AreNumberedFrom, Reading, HasAllEntries}
+use Rattle.register_run.proofs.Common.{HasEntries, HasFirstEntries, Numbered, record_limit, Cause, Lane, Sender}
+use Rattle.register_run.proofs.Common.{sender_lane, Entry, Row, AreDealt, World, HasPassed, IsGiven, Sent, Contains}
+use Rattle.register_run.proofs.Common.{entry_seen, IsOfGiven}
 use Rattle.std.proofs.lemmas.List.Elements.{All-map, All-weaker, All-contains, All-contains_itself}
 use Rattle.register_records.specs.Causes.{entry_fault_cause}
 use Rattle.register_records.specs.declared.reading.EntryFault.{EntryFault}
@@ -39,9 +40,11 @@ module _ (text : Option (List ℕ)) (reading : Reading) where
       → MaySend text reading (map sender_lane senders) sent senders
   sends_none f c is bad many unsealed sent why senders deals =
       let others = fault_of_cause f c is in
-      let none = stopped_so f c [] is (λ e. (refl, bad e)) tt (inl refl) (λ e. absurd (many e)) (λ e. absurd (unsealed e))
-      sent why.0 why.1 in
-      let sends : ∥ Sends text reading sent senders ∥₁ = ∣ ([], none, λ w _. deals w) ∣₁ in search (rules, others, sends)
+      let none =
+      stopped_so f c [] is (λ e. (refl, bad e)) tt (inl refl) (λ e. absurd (many e)) (λ e. absurd (unsealed e)) sent
+      why.0 why.1 in
+      let sends : ∥ Sends text reading sent senders ∥₁ = ∣ ([], none, λ w _. deals w) ∣₁ in
+      search (rules, others, sends)
 
 module _ (text text' : Option (List ℕ)) (d d' : Reading) (same : text' ≡ text) (by : d' ≡ d) (given old : List Numbered)
     (kept : given ≡ old) (numbered : AreNumberedFrom 1 old)
@@ -67,8 +70,8 @@ module _ (text text' : Option (List ℕ)) (d d' : Reading) (same : text' ≡ tex
       → sent.outcome ≡ Err c → ∥ IsGiven text d sent old ∥₁
   given_stopped fault.TooManyRecords c is bad many unsealed above sent counted why =
       ∥∥₁_elim first' ∥∥₁_prop (λ s. ∥∥₁_map (many refl).1 (λ m.
-      stopped_so text d fault.TooManyRecords c old is (λ e. cc) numbered (inr s) (λ e. ((many refl).0, m)) (λ e. cc) sent
-      counted why))
+      stopped_so text d fault.TooManyRecords c old is (λ e. cc) numbered (inr s) (λ e. ((many refl).0, m)) (λ e. cc)
+      sent counted why))
   given_stopped fault.NotSealed c is bad many unsealed above sent counted why =
       ∥∥₁_elim first' ∥∥₁_prop (λ s. ∥∥₁_elim (above refl) ∥∥₁_prop (λ a. ∥∥₁_map (unsealed refl).1 (λ u.
       stopped_so text d fault.NotSealed c old is (λ e. cc) numbered (inr s) (λ e. cc) (λ e. ((unsealed refl).0, u, a))

@@ -146,26 +146,26 @@ lowest_two cause.NoMemory low = inl refl
 lowest_two cause.NoThread low = inr refl
 lowest_two c low = absurd (omega (arith, low))
 
-module _ (setup : Setup) (met : Findings) (journal : List Note) (of_table : IfSome met.fault (λ f. is_of_table f ≡ true))
-  where
-    low_end : (e : SourceEnd) (c : Cause) → cause_number c ≤ 2 → met.sent.outcome ≡ Err c
-        → IfWhole e (HasMetNone met journal) → IfBroken e (IsLowest (IsMet met))
-        → (e ≡ end.Broken cause.NoMemory) ⊎ (e ≡ end.Broken cause.NoThread)
-    low_end (end.Whole count refused notes) c low outcome whole lowest = absurd (let ok = whole.0 in cc)
-    low_end (end.Broken b) c low outcome whole lowest = grind (arith, lowest_two)
+module _ (setup : Setup) (met : Findings) (journal : List Note)
+    (of_table : IfSome met.fault (λ f. is_of_table f ≡ true)) where
+  low_end : (e : SourceEnd) (c : Cause) → cause_number c ≤ 2 → met.sent.outcome ≡ Err c
+      → IfWhole e (HasMetNone met journal) → IfBroken e (IsLowest (IsMet met))
+      → (e ≡ end.Broken cause.NoMemory) ⊎ (e ≡ end.Broken cause.NoThread)
+  low_end (end.Whole count refused notes) c low outcome whole lowest = absurd (let ok = whole.0 in cc)
+  low_end (end.Broken b) c low outcome whole lowest = grind (arith, lowest_two)
 
-    pub threads_of : (ran : Ran) (e : SourceEnd) → ran.findings.value ≡ met
-        → AreStaffed setup met.sent.outcome ran.stripes.value.items
-        → IfWhole e (HasMetNone met journal) → IfBroken e (IsLowest (IsMet met)) → AreThreadsOf setup e ran
-    threads_of ran e is_met (inl (staffed, started)) whole lowest =
-        search (rules, staff, rings_of, some_stripe, thread_outcome)
-    threads_of ran e is_met (inr (none, why)) whole lowest = record {
-      stripes = λ some. absurd (some none);
-      rings = subst (All (HasRing setup.ring)) (sym none) (λ k d below. absurd (omega (arith, below)));
-      none = λ is. elim why [
-        | inl outcome ↦ low_end e cause.NoMemory (omega arith) outcome whole lowest
-        | inr outcome ↦ low_end e cause.NoThread (omega arith) outcome whole lowest
-      ];
-      unstarted = λ is. none;
-      lowest = subst (λ m. IfBroken e (IsLowest (IsMet m))) (sym is_met) lowest;
-    }
+  pub threads_of : (ran : Ran) (e : SourceEnd) → ran.findings.value ≡ met
+      → AreStaffed setup met.sent.outcome ran.stripes.value.items
+      → IfWhole e (HasMetNone met journal) → IfBroken e (IsLowest (IsMet met)) → AreThreadsOf setup e ran
+  threads_of ran e is_met (inl (staffed, started)) whole lowest =
+      search (rules, staff, rings_of, some_stripe, thread_outcome)
+  threads_of ran e is_met (inr (none, why)) whole lowest = record {
+    stripes = λ some. absurd (some none);
+    rings = subst (All (HasRing setup.ring)) (sym none) (λ k d below. absurd (omega (arith, below)));
+    none = λ is. elim why [
+      | inl outcome ↦ low_end e cause.NoMemory (omega arith) outcome whole lowest
+      | inr outcome ↦ low_end e cause.NoThread (omega arith) outcome whole lowest
+    ];
+    unstarted = λ is. none;
+    lowest = subst (λ m. IfBroken e (IsLowest (IsMet m))) (sym is_met) lowest;
+  }

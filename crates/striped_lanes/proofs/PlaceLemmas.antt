@@ -1,5 +1,5 @@
--- Where entries stand, by their numbers: how often a number stands among entries and among the parts that they are dealt
--- into, that each entry stands in one place, and that the actor that has to move the next one can.
+-- Where entries stand, by their numbers: how often a number stands among entries and among the parts that they are
+-- dealt into, that each entry stands in one place, and that the actor that has to move the next one can.
 use Rattle.std.proofs.Common.{rules, ◌≡◌, ◌<◌, ◌≤◌, ◌+◌, ◌-◌, ◌++◌, ℕ, List, [], ◌∷◌, length, inl, inr, refl, sym, ap}
 use Rattle.std.proofs.Common.{◌∙◌, arith, ◌%◌, ◌==◌, cond, count_by, map, eq-eqb, ne_eqb, ◌≢◌, append_assoc}
 use Rattle.std.proofs.Common.{length-append, ◌⊎◌, option_to_list, Option, Some, None, slice_get}

@@ -24,7 +24,8 @@ pub returns-clause-values : goal.returns-clause-values
 returns-clause-values c =
     let is = c.in_ok-command.ensures in
     let found = (c.in_ok-matches.ensures.matches (ap is_simple is ∙ simple)).0 in
-    c.in_ok-options.ensures ∙ ap values_of (found ∙ ap (λ (a : App). matches_of a (map string_bytes c.args.arguments.now)) is)
+    c.in_ok-options.ensures
+    ∙ ap values_of (found ∙ ap (λ (a : App). matches_of a (map string_bytes c.args.arguments.now)) is)
 
 pub returns-in_err-matches : goal.returns-in_err-matches
 returns-in_err-matches c = search (rules, simple_and_free)

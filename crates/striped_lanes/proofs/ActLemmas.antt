@@ -1,6 +1,6 @@
 -- Each act changes nothing, or takes one entry one place forward and keeps the invariant.
 use Rattle.std.proofs.Common.{rules, ◌≡◌, ◌<◌, ◌+◌, ◌++◌, ℕ, suc, List, [], ◌∷◌, length, Option, Some, None, refl, sym}
-use Rattle.std.proofs.Common.{ap, ◌∙◌, inl, inr, arith, append_assoc, map, option_to_list, ◌%◌, slice_get, ltb-true}
+use Rattle.std.proofs.Common.{ap, ◌∙◌, arith, append_assoc, map, option_to_list, ◌%◌, slice_get, ltb-true}
 use Rattle.std.proofs.Common.{lt-ltb, append-nil, length-append}
 use Rattle.std.proofs.lemmas.List.{length-map, length_push, map-append}
 use Rattle.std.proofs.lemmas.Nat.{mod_below}
@@ -159,28 +159,22 @@ module _ {E R : Type 0} (w : World E R) (some_converters : 0 < w.converters) (s 
   -- any actor
   reader_stays_or_steps : (o : Option E) → slice_get w.entries s.pushed ≡ o
       → StaysOrSteps w s (push_entry w s (turn w s.pushed) o)
-  reader_stays_or_steps None e = inl refl
-  reader_stays_or_steps (Some x) e = search (rules, if_room, push_steps, ltb-true)
+  reader_stays_or_steps o e = grind (arith, if_room, push_steps, ltb-true)
 
   pop_stays_or_steps : (i : ℕ) (lane : List E) → (s.stripes i).entry_lane ≡ lane → (s.stripes i).hand ≡ None
       → StaysOrSteps w s (pop_entry s i lane)
-  pop_stays_or_steps i [] lane_is hand_is = inl refl
-  pop_stays_or_steps i (x ∷ lane) lane_is hand_is = inr (pop_entry_steps i x lane lane_is hand_is)
+  pop_stays_or_steps i lane lane_is hand_is = grind (arith, pop_entry_steps)
 
   converter_stays_or_steps : (i : ℕ) (hand : Option E) → (s.stripes i).hand ≡ hand
       → StaysOrSteps w s (convert w s i hand)
-  converter_stays_or_steps i None e = pop_stays_or_steps i (s.stripes i).entry_lane refl e
-  converter_stays_or_steps i (Some x) e = search (rules, if_room, push_row_steps, ltb-true)
+  converter_stays_or_steps i hand e = grind (arith, pop_stays_or_steps, if_room, push_row_steps, ltb-true)
 
   writer_stays_or_steps : (i : ℕ) (rows : List R) → i ≡ turn w (length s.popped) → (s.stripes i).row_lane ≡ rows
       → StaysOrSteps w s (pop_row s i rows)
-  writer_stays_or_steps i [] on_turn e = inl refl
-  writer_stays_or_steps i (row ∷ lane) on_turn e = inr (pop_row_steps i row lane on_turn e)
+  writer_stays_or_steps i rows on_turn e = grind (arith, pop_row_steps)
 
   pub act_stays_or_steps : (a : Actor) → StaysOrSteps w s (act w a s)
-  act_stays_or_steps Reader = reader_stays_or_steps (slice_get w.entries s.pushed) refl
-  act_stays_or_steps (Converter i) = converter_stays_or_steps i (s.stripes i).hand refl
-  act_stays_or_steps Writer = search (rules, writer_stays_or_steps)
+  act_stays_or_steps a = grind (arith, reader_stays_or_steps, converter_stays_or_steps, writer_stays_or_steps)
 
   -- each act takes a step where it can
   pub reader_steps : (x : E) → slice_get w.entries s.pushed ≡ Some x

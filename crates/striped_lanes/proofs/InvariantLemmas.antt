@@ -1,7 +1,7 @@
 -- What every act keeps, and how far the entries have come. What follows from it for a state.
-use Rattle.std.proofs.Common.{rules, ◌≡◌, ◌<◌, ◌≤◌, ◌+◌, ◌*◌, ◌++◌, ℕ, List, [], ◌∷◌, length, Some, Bool, true, false}
-use Rattle.std.proofs.Common.{inl, inr, refl, ap, arith, ◌⊎◌, ◌≢◌, map, option_to_list, if◌then◌else◌, slice_get}
-use Rattle.std.proofs.Common.{eq-eqb, ne_eqb, Option, None, ◌∙◌, length-append, take_at}
+use Rattle.std.proofs.Common.{rules, ◌≡◌, ◌<◌, ◌≤◌, ◌+◌, ◌*◌, ◌++◌, ℕ, List, [], ◌∷◌, length, Some, Bool, true}
+use Rattle.std.proofs.Common.{refl, ap, arith, ◌⊎◌, ◌≢◌, map, option_to_list, if◌then◌else◌, slice_get}
+use Rattle.std.proofs.Common.{eq-eqb, ne_eqb, Option, ◌∙◌, length-append, take_at}
 use Rattle.std.proofs.lemmas.Bool.{cases_eq}
 use Rattle.std.proofs.lemmas.List.{length-map, map-append}
 use Rattle.striped_lanes.specs.Machine.{World, Stripe, State, put}
@@ -50,8 +50,7 @@ StaysOrSteps w s t = (t ≡ s) ⊎ Steps w s t
 
 pub if_room : {E R : Type 0} (w : World E R) (s t : State E R) (b : Bool) → (b ≡ true → Steps w s t)
     → StaysOrSteps w s (if b then t else s)
-if_room w s t true h = inr (h refl)
-if_room w s t false h = inl refl
+if_room w s t b h = grind arith
 
 pub put_holds : {E R : Type 0} (w : World E R) (entries : ℕ → List E) (old : ℕ → Stripe E R) (i : ℕ)
     (t : Stripe E R)
@@ -103,8 +102,7 @@ module _ {E R : Type 0} (w : World E R) (some_converters : 0 < w.converters) (s 
       ∙ part_lengths c d v.between some_converters
 
   hand_bound : (o : Option E) → length (option_to_list o) ≤ 1
-  hand_bound None = omega arith
-  hand_bound (Some x) = omega arith
+  hand_bound o = grind arith
 
   pub few_standing : standing w s ≤ w.converters * (2 * w.ring + 1)
   few_standing = search (rules, total_bound, hand_bound)

@@ -5,7 +5,7 @@ use Rattle.std.proofs.Common.{lt-ltb, append-nil, length-append}
 use Rattle.std.proofs.lemmas.List.{length-map, length_push, map-append}
 use Rattle.std.proofs.lemmas.Nat.{mod_below}
 use Rattle.striped_lanes.specs.Machine.{World, Stripe, State, Actor, Reader, Converter, Writer}
-use Rattle.striped_lanes.specs.Machine.{act, convert, pop_entry, pop_row, push_entry, turn, with_stripe}
+use Rattle.striped_lanes.specs.Machine.{act, turn, with_stripe}
 use Rattle.striped_lanes.proofs.InvariantLemmas.{Holds, Kept, Steps, StaysOrSteps, weight, put_holds, put_further}
 use Rattle.striped_lanes.proofs.InvariantLemmas.{if_room, slice_get_rest, first_is, map_first}
 use Rattle.striped_lanes.proofs.PartLemmas.{part, part_append, part_head, part_other, part_own, part_within}
@@ -157,24 +157,10 @@ module _ {E R : Type 0} (w : World E R) (some_converters : 0 < w.converters) (s 
       }
 
   -- any actor
-  reader_stays_or_steps : (o : Option E) → slice_get w.entries s.pushed ≡ o
-      → StaysOrSteps w s (push_entry w s (turn w s.pushed) o)
-  reader_stays_or_steps o e = grind (arith, if_room, push_steps, ltb-true)
-
-  pop_stays_or_steps : (i : ℕ) (lane : List E) → (s.stripes i).entry_lane ≡ lane → (s.stripes i).hand ≡ None
-      → StaysOrSteps w s (pop_entry s i lane)
-  pop_stays_or_steps i lane lane_is hand_is = grind (arith, pop_entry_steps)
-
-  converter_stays_or_steps : (i : ℕ) (hand : Option E) → (s.stripes i).hand ≡ hand
-      → StaysOrSteps w s (convert w s i hand)
-  converter_stays_or_steps i hand e = grind (arith, pop_stays_or_steps, if_room, push_row_steps, ltb-true)
-
-  writer_stays_or_steps : (i : ℕ) (rows : List R) → i ≡ turn w (length s.popped) → (s.stripes i).row_lane ≡ rows
-      → StaysOrSteps w s (pop_row s i rows)
-  writer_stays_or_steps i rows on_turn e = grind (arith, pop_row_steps)
-
   pub act_stays_or_steps : (a : Actor) → StaysOrSteps w s (act w a s)
-  act_stays_or_steps a = grind (arith, reader_stays_or_steps, converter_stays_or_steps, writer_stays_or_steps)
+  act_stays_or_steps Reader = grind (arith, if_room, push_steps, ltb-true)
+  act_stays_or_steps (Converter i) = grind (arith, if_room, pop_entry_steps, push_row_steps, ltb-true)
+  act_stays_or_steps Writer = grind (arith, pop_row_steps)
 
   -- each act takes a step where it can
   pub reader_steps : (x : E) → slice_get w.entries s.pushed ≡ Some x

@@ -7,7 +7,7 @@ use Rattle.std.proofs.lemmas.Nat.{mod_below}
 use Rattle.striped_lanes.specs.Machine.{World, Stripe, State, Actor, Reader, Converter, Writer}
 use Rattle.striped_lanes.specs.Machine.{act, turn, with_stripe}
 use Rattle.striped_lanes.proofs.InvariantLemmas.{Holds, Kept, Steps, StaysOrSteps, weight, put_holds, put_further}
-use Rattle.striped_lanes.proofs.InvariantLemmas.{if_room, slice_get_rest, first_is, map_first}
+use Rattle.striped_lanes.proofs.InvariantLemmas.{slice_get_rest, first_is, map_first}
 use Rattle.striped_lanes.proofs.PartLemmas.{part, part_append, part_head, part_other, part_own, part_within}
 
 -- the state that each act gives where it changes something
@@ -158,8 +158,8 @@ module _ {E R : Type 0} (w : World E R) (some_converters : 0 < w.converters) (s 
 
   -- any actor
   pub act_stays_or_steps : (a : Actor) → StaysOrSteps w s (act w a s)
-  act_stays_or_steps Reader = grind (arith, if_room, push_steps, ltb-true)
-  act_stays_or_steps (Converter i) = grind (arith, if_room, pop_entry_steps, push_row_steps, ltb-true)
+  act_stays_or_steps Reader = grind (arith, push_steps, ltb-true)
+  act_stays_or_steps (Converter i) = grind (arith, pop_entry_steps, push_row_steps, ltb-true)
   act_stays_or_steps Writer = grind (arith, pop_row_steps)
 
   -- each act takes a step where it can

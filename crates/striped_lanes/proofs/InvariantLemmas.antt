@@ -1,7 +1,7 @@
 -- What every act keeps, and how far the entries have come. What follows from it for a state.
-use Rattle.std.proofs.Common.{rules, ◌≡◌, ◌<◌, ◌≤◌, ◌+◌, ◌*◌, ◌++◌, ℕ, List, [], ◌∷◌, length, Some, Bool, true}
-use Rattle.std.proofs.Common.{refl, ap, arith, ◌⊎◌, ◌≢◌, map, option_to_list, if◌then◌else◌, slice_get}
-use Rattle.std.proofs.Common.{eq-eqb, ne_eqb, Option, ◌∙◌, length-append, take_at}
+use Rattle.std.proofs.Common.{rules, ◌≡◌, ◌<◌, ◌≤◌, ◌+◌, ◌*◌, ◌++◌, ℕ, List, [], ◌∷◌, length, Some}
+use Rattle.std.proofs.Common.{refl, ap, arith, ◌⊎◌, ◌≢◌, map, option_to_list, slice_get}
+use Rattle.std.proofs.Common.{eq-eqb, ne_eqb, ◌∙◌, length-append, take_at}
 use Rattle.std.proofs.lemmas.Bool.{cases_eq}
 use Rattle.std.proofs.lemmas.List.{length-map, map-append}
 use Rattle.striped_lanes.specs.Machine.{World, Stripe, State, put}
@@ -47,10 +47,6 @@ steps_change w s t h e = let same = ap (progress w) e in omega (arith, h.further
 -- an act changes nothing, or takes an entry one place forward
 abbrev pub StaysOrSteps : {E R : Type 0} → World E R → State E R → State E R → Type 0
 StaysOrSteps w s t = (t ≡ s) ⊎ Steps w s t
-
-pub if_room : {E R : Type 0} (w : World E R) (s t : State E R) (b : Bool) → (b ≡ true → Steps w s t)
-    → StaysOrSteps w s (if b then t else s)
-if_room w s t b h = grind arith
 
 pub put_holds : {E R : Type 0} (w : World E R) (entries : ℕ → List E) (old : ℕ → Stripe E R) (i : ℕ)
     (t : Stripe E R)
@@ -101,11 +97,8 @@ module _ {E R : Type 0} (w : World E R) (some_converters : 0 < w.converters) (s 
       total_same c (λ i. standing_in (s.stripes i)) (λ i. length (part c i d v.between)) (λ i l. stripe_count i)
       ∙ part_lengths c d v.between some_converters
 
-  hand_bound : (o : Option E) → length (option_to_list o) ≤ 1
-  hand_bound o = grind arith
-
   pub few_standing : standing w s ≤ w.converters * (2 * w.ring + 1)
-  few_standing = search (rules, total_bound, hand_bound)
+  few_standing = total_bound w.converters (2 * w.ring + 1) _ (λ i. grind (arith, (v.stripes i).room, (v.stripes i).row_room))
 
   -- how far the entries can come
   pub progress_bound : progress w s ≤ 4 * length w.entries

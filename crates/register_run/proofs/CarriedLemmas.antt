@@ -2,10 +2,10 @@
 use Rattle.std.proofs.Common.{lit<, take, take_at, MatchOption, eqb}
 use Rattle.register_run.proofs.Common.{◌≡◌, ◌∙◌, ap, sym, subst, refl, List, [], ◌∷◌, ◌++◌, append_assoc, arith, ◌+◌}
 use Rattle.register_run.proofs.Common.{length, length-append, rules, zero, suc, append-nil, ℕ, map, false, true, Option}
-use Rattle.register_run.proofs.Common.{None, Some, Bool, Err, Ok, OnErr, OnOk, Result, is_err, get_or-map, length_push}
+use Rattle.register_run.proofs.Common.{Some, Bool, Err, Ok, OnErr, OnOk, Result, is_err, get_or-map, length_push}
 use Rattle.register_run.proofs.Common.{IsWhole, waiting, StartWithRow, HasEnd, Contains, Item, length-map, map-append}
 use Rattle.register_run.proofs.Common.{HasConfirmation, Lane, all_sent, closed_lane, sender_lane, sent, taken, Closed}
-use Rattle.register_run.proofs.Common.{Sender, entry_seen, Entry, Row, HasPassedOn, AreOfAllTaken, AreOfTaken, HasEnded}
+use Rattle.register_run.proofs.Common.{Sender, Entry, Row, HasPassedOn, AreOfAllTaken, AreOfTaken, HasEnded}
 use Rattle.register_run.proofs.Common.{carried, row_entries, rows_carried, IsConverting, Stripe, receiver_lane}
 use Rattle.std.proofs.lemmas.List.Elements.{Contains-append_right, Contains-append_left}
 use Rattle.std.specs.Option.{option_eq}
@@ -164,8 +164,7 @@ module _ (from into : Lane) (stripe : Stripe) (fed : Closed Entry) (converting :
   ends_so : (items : List (Item Row)) (ended : Option ℕ) (count : ℕ) → items ≡ taken stripe.rows
       → MatchOption ended (last_mark items ≡ Some Stopped) (λ n. last_mark items ≡ Some (Counted n))
       → option_eq eqb ended (Some count) ≡ true → HasEnd (taken stripe.rows)
-  ends_so items None count same mark is = cc
-  ends_so items (Some n) count same mark is = (n, ap (λ (l : List (Item Row)). last_mark l) (sym same) ∙ mark)
+  ends_so items ended count same mark is = grind arith
 
   pub passed_on : (items : List (Item Row)) (ended : Option ℕ) (count : ℕ) (b : Bool) → items ≡ taken stripe.rows
       → MatchOption ended (last_mark items ≡ Some Stopped) (λ n. last_mark items ≡ Some (Counted n))

@@ -26,11 +26,9 @@ listed c h = search rules
 
 -- the causes of reading are higher than those of a table
 high : (c : Cause) → is_of_reading c ≡ true → 5 ≤ cause_number c
-high cause.NoMemory e = grind arith
 high c e = grind arith
 
 low : (c : Cause) → is_of_table c ≡ true → cause_number c ≤ 4
-low cause.NoMemory e = grind arith
 low c e = grind arith
 
 -- the threads gave up for this cause of reading; the table has the rows of all entries that were read, and no heading
@@ -43,22 +41,17 @@ IsReadingMet met c =
 module _ (met : Findings) (c : Cause) (of_table : IfSome met.fault (λ f. is_of_table f ≡ true)) where
   -- a cause that no table gives is the outcome of the threads
   met_by_threads : is_of_table c ≡ false → IsMet met c → met.sent.outcome ≡ Err c
-  met_by_threads other (inl speaks) = speaks
-  met_by_threads other (inr (inl broke)) = search rules
-  met_by_threads other (inr (inr differs)) = absurd (let k = ap is_of_table differs.0 in cc)
+  met_by_threads other is = grind arith
 
   sink_met : IsNotOfOutput met.sent.outcome → IsMet met c → c ≡ cause.SinkFault → met.fault ≡ Some cause.SinkFault
-  sink_met good (inl speaks) e = absurd (subst IsNotOfOutput speaks good e)
-  sink_met good (inr (inl broke)) e = broke ∙ ap Some e
-  sink_met good (inr (inr differs)) e = absurd (let k = differs.0 in cc)
+  sink_met good is e = grind arith
 
   module _ (lowest : IsLowest (IsMet met) c) (reading : is_of_reading c ≡ true) where
     not_of_table : (d : Cause) → is_of_table d ≡ true → cause_number c ≤ cause_number d → ⊥
     not_of_table d of below = let a = high c reading in let b = low d of in omega (arith, a, b, below)
 
     none_broke : (f : Option Cause) → met.fault ≡ f → f ≡ None
-    none_broke None e = refl
-    none_broke (Some d) e = search (rules, not_of_table)
+    none_broke f e = grind (arith, not_of_table)
 
     read_outcome : met.sent.outcome ≡ Err c
     read_outcome = met_by_threads (false_from_ne_true (is_of_table c) (λ of. not_of_table c of (omega arith))) lowest.0
@@ -86,13 +79,11 @@ thread_outcome met of_table e lowest is = search (rules, met_by_threads, met)
 pub met_none : {W : Type 0} (e : SourceEnd) (met : Findings) (table : Table W) → met.sent.outcome ≡ Ok met.rows
     → met.fault ≡ None → met.headed ≡ true → met.rows ≡ table.rows
     → IfWhole e (HasEnded table) → IfWhole e (HasMetNone met table.journal.items)
-met_none (end.Whole count refused journal) met table outcome fault headed rows is = grind arith
-met_none (end.Broken c) met table outcome fault headed rows is = tt
+met_none e met table outcome fault headed rows is = grind arith
 
 pub never_broken : (e : SourceEnd) (f : Option Cause) (P : Cause → Type 0) → f ≡ None → IfBroken e (λ c. f ≡ Some c)
     → IfBroken e P
-never_broken (end.Whole count refused journal) f P none is = tt
-never_broken (end.Broken c) f P none is = absurd (let e = sym none ∙ is in cc)
+never_broken e f P none is = grind arith
 
 module _ {W : Type 0} (o : outputs.Ghosts W) (text : Option (List ℕ)) (table : Table W) (output : W)
     (rows : List Row) (passed : Sent) (holds : Holds o table output rows) (sent : waiting_of table ≡ [])
@@ -208,8 +199,7 @@ module _ {W : Type 0} (o : outputs.Ghosts W) (text : Option (List ℕ)) (table :
 
   broken_so : (b : Bool) (c : Cause) → is_of_reading c ≡ b → (is_of_reading c ≡ true → IsReadingMet met c)
       → (c ≡ cause.SinkFault → table_fault table ≡ Some cause.SinkFault) → EndsSo (end.Broken c)
-  broken_so true c b reading sink = reading_so c b (reading b)
-  broken_so false c b reading sink = threads_so c b sink
+  broken_so b c of reading sink = grind (arith, reading_so, threads_so)
 
   -- a source with another header has no table
   pub headless : (e : SourceEnd) → IfBroken e (IsLowest (IsMet met))

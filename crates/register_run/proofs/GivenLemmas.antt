@@ -18,8 +18,7 @@ use Rattle.register_records.specs.declared.ends.Cause.TheVariants as cause
 fault_of_cause : (f : EntryFault) (c : Cause) → c ≡ entry_fault_cause f
     → (c ≡ cause.BadHeader → f ≡ fault.BadHeader) × (c ≡ cause.TooManyRecords → f ≡ fault.TooManyRecords)
     × (c ≡ cause.NotSealed → f ≡ fault.NotSealed) × (c ≡ cause.SinkFault → ⊥) × (c ≡ cause.NoThread → ⊥)
-fault_of_cause fault.OutOfMemory c is = (λ e. cc, λ e. cc, λ e. cc, λ e. cc, λ e. cc)
-fault_of_cause f c is = (λ e. cc, λ e. cc, λ e. cc, λ e. cc, λ e. cc)
+fault_of_cause f c is = grind arith
 
 module _ (text : Option (List ℕ)) (reading : Reading) where
   -- the reading stopped after these entries
@@ -112,8 +111,7 @@ later k (y ∷ ys) z h (suc i, below, is) = let m = later (k + 1) ys z h.1 (i, o
 
 in_rest : (k : ℕ) (y : Numbered) (ys : List Numbered) (z : Numbered) → y.number ≡ k → k + 1 ≤ z.number
     → Contains (y ∷ ys) z → Contains ys z
-in_rest k y ys z e f (zero, below, is) = search rules
-in_rest k y ys z e f (suc i, below, is) = (i, omega arith, is)
+in_rest k y ys z e f c = grind arith
 
 is_first : (k : ℕ) (y : Numbered) (ys : List Numbered) (z : Numbered) → AreNumberedFrom (k + 1) ys → z.number ≡ k
     → Contains (y ∷ ys) z → y ≡ z

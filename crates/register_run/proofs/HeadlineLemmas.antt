@@ -1,5 +1,5 @@
 -- From the sources that have ended, each by itself, to the lists of a report. What is known of their threads.
-use Rattle.std.proofs.Common.{◌↔◌, nat_le}
+use Rattle.std.proofs.Common.{◌↔◌}
 use Rattle.register_run.proofs.Common.{rules, ◌≡◌, ◌∙◌, ap, refl, sym, subst, List, [], ◌∷◌, ◌++◌, map, length}
 use Rattle.register_run.proofs.Common.{append_assoc, append-nil, arith, true, All, ◌⊎◌, ◌≤◌, ◌<◌, ℕ, zero, suc, inl}
 use Rattle.register_run.proofs.Common.{inr, replicate, Err, IfSome, leb-true, Case, case, AreOfMachine, map-append}
@@ -9,7 +9,6 @@ use Rattle.register_run.proofs.Common.{stripe_setup, is_of_table, AreStaffed, Fi
 use Rattle.std.proofs.lemmas.List.Elements.{All-cons}
 use Rattle.std.specs.declared.io.traits.Read as reads
 use Rattle.register_records.specs.Sources.{is_whole_end, IfWhole, IfBroken, cause_number}
-use Rattle.register_records.specs.SetupRules.{most_stripes}
 use Rattle.register_records.specs.declared.ends.Note.{Note}
 use Rattle.register_records.specs.declared.outputs.Output as outputs
 use Rattle.register_records.specs.declared.ends.Cause.TheVariants as cause
@@ -142,17 +141,14 @@ rings_of setup (stripe ∷ stripes) (suc n) is =
 
 -- the lowest of causes of which one is 1 or 2
 lowest_two : (c : Cause) → cause_number c ≤ 2 → (c ≡ cause.NoMemory) ⊎ (c ≡ cause.NoThread)
-lowest_two cause.NoMemory low = inl refl
-lowest_two cause.NoThread low = inr refl
-lowest_two c low = absurd (omega (arith, low))
+lowest_two c low = grind arith
 
 module _ (setup : Setup) (met : Findings) (journal : List Note)
     (of_table : IfSome met.fault (λ f. is_of_table f ≡ true)) where
   low_end : (e : SourceEnd) (c : Cause) → cause_number c ≤ 2 → met.sent.outcome ≡ Err c
       → IfWhole e (HasMetNone met journal) → IfBroken e (IsLowest (IsMet met))
       → (e ≡ end.Broken cause.NoMemory) ⊎ (e ≡ end.Broken cause.NoThread)
-  low_end (end.Whole count refused notes) c low outcome whole lowest = absurd (let ok = whole.0 in cc)
-  low_end (end.Broken b) c low outcome whole lowest = grind (arith, lowest_two)
+  low_end e c low outcome whole lowest = grind (arith, lowest_two)
 
   pub threads_of : (ran : Ran) (e : SourceEnd) → ran.findings.value ≡ met
       → AreStaffed setup met.sent.outcome ran.stripes.value.items

@@ -92,8 +92,7 @@ joined_of_machine text setup stripes closed n (Ok count) false complete same is 
 
 numbered_if : (b : Bool) (k : ℕ) (x : Numbered) (entries : List Numbered) → x.number ≡ k
     → HaveNumbersFrom numbers (k + 1) entries → HaveNumbersFrom numbers k (if b then x ∷ entries else [])
-numbered_if true k x entries first rest = (first, rest)
-numbered_if false k x entries first rest = tt
+numbered_if b k x entries first rest = grind arith
 
 -- the entries of a text are numbered from 1, and their rows have their numbers
 entries_numbered : (form : Form) (k : ℕ) (records : List Fields)

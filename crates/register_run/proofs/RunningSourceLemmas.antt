@@ -18,7 +18,6 @@ use Rattle.register_run.specs.declared.stripes.Look.{Look}
 use Rattle.register_run.specs.declared.stripes.StartFault.{StartFault}
 use Rattle.register_run.specs.Written.{Concludes, Wrote}
 use Rattle.register_run.proofs.GivenLemmas.{passed_not}
-use Rattle.register_run.specs.declared.stripes.StartFault.TheVariants as fault
 
 abbrev IsOpen : Stripe → Type 0
 IsOpen stripe = stripe.«open» ≡ true
@@ -102,14 +101,12 @@ if_ok (Err c) P Q f h = tt
 -- threads that did not start have passed nothing on
 pub not_started : (text : Option (List ℕ)) (reading : Reading) (took : Row → Type 0) (f : StartFault) (sent : Sent)
     → sent.outcome ≡ Err (start_fault_cause f) → HasPassed text reading sent took
-not_started text reading took fault.NoMemory sent why = search (rules, passed_not)
-not_started text reading took fault.NoThread sent why = search (rules, passed_not)
+not_started text reading took f sent why = grind (arith, passed_not)
 
 -- which is cause 1 or 2
 pub why_unstarted : (f : StartFault) (outcome : Result ℕ Cause) → outcome ≡ Err (start_fault_cause f)
     → (outcome ≡ Err cause.NoMemory) ⊎ (outcome ≡ Err cause.NoThread)
-why_unstarted fault.NoMemory outcome why = inl why
-why_unstarted fault.NoThread outcome why = inr why
+why_unstarted f outcome why = grind arith
 
 module _ {W : Type 0} (o : outputs.Ghosts W) where
   -- more was taken, and the same rows are written

@@ -119,8 +119,7 @@ pub dealt_unsent : (w : World) (at : ℕ) (given : List Numbered) (senders : Lis
     (r : Result (Unit {0}) (Gone (Unit {0}))) → old ≡ get_or senders at old → is_err r ≡ true
     → OnErr r (sent new ≡ sent old) → AreDealt w 0 given senders
     → AreDealt w 0 given (set senders at new)
-dealt_unsent w at given senders new old (Ok u) is sure gone all = cc
-dealt_unsent w at given senders new old (Err g) is sure gone all = search (rules, dealt_same)
+dealt_unsent w at given senders new old r is sure gone all = grind (arith, dealt_same)
 
 -- the lanes were ended
 pub dealt_ended : (w : World) (i : ℕ) (given : List Numbered) (senders : List (Sender Entry))

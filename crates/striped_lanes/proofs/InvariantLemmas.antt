@@ -98,7 +98,8 @@ module _ {E R : Type 0} (w : World E R) (some_converters : 0 < w.converters) (s 
       ∙ part_lengths c d v.between some_converters
 
   pub few_standing : standing w s ≤ w.converters * (2 * w.ring + 1)
-  few_standing = total_bound w.converters (2 * w.ring + 1) _ (λ i. grind (arith, (v.stripes i).room, (v.stripes i).row_room))
+  few_standing =
+      total_bound w.converters (2 * w.ring + 1) _ (λ i. grind (arith, (v.stripes i).room, (v.stripes i).row_room))
 
   -- how far the entries can come
   pub progress_bound : progress w s ≤ 4 * length w.entries

@@ -1,5 +1,5 @@
-use Rattle.register_run.proofs.Common.{◌∙◌, ◌∷◌, [], ap, arith, length, length-append, refl, subst, sym, rules}
-use Rattle.register_run.proofs.Common.{length-set, AreNumberedFrom, given_of, sender_lane}
+use Rattle.register_run.proofs.Common.{◌∙◌, arith, length-append, refl, sym, rules}
+use Rattle.register_run.proofs.Common.{length-set, given_of, sender_lane}
 use Rattle.register_records.proofs.TableLemmas.{numbered_more}
 use Rattle.register_run.proofs.StripeLemmas.{dealt_none, dealt_send, dealt_unsent, set_same}
 use Rattle.register_run.proofs.GivenLemmas.{sends_all, sends_gone, sends_stopped}

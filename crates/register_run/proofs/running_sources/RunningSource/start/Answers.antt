@@ -1,5 +1,4 @@
-use Rattle.std.proofs.Common.{IfErr}
-use Rattle.register_run.proofs.Common.{◌≡◌, [], ap, arith, subst, sym, popped}
+use Rattle.register_run.proofs.Common.{◌≡◌, ap, arith, subst, sym, popped}
 use Rattle.register_run.proofs.running_sources.RunningSource.start.Goals.{in-Err, in-Ok}
 use Rattle.register_run.proofs.running_sources.RunningSource.start.Goals as goal
 

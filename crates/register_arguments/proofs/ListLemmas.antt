@@ -139,8 +139,7 @@ module _ (one : OneTarget) (list : List ℕ) where
 
   -- and none in a list that asks for targets
   none_at : (targets : List Target) (name : List ℕ) → AsksForTargets list targets → IsAtFault list name → ⊥
-  none_at targets name (inl none) (earlier, x, bars) = x.names_some none.0
-  none_at targets name (inr asks) (earlier, x, bars) = asks.2 (bars x.after targets (rw x.cut at asks.1))
+  none_at targets name asks at = grind arith
 
   pub asks_no_fault : (targets : List Target) (fault : Fault) → AsksForTargets list targets → IsListFault list fault → ⊥
   asks_no_fault targets fault asks (inl unknown) = none_at targets unknown.0 asks (unknown_at unknown.0 unknown.2)
@@ -149,10 +148,7 @@ module _ (one : OneTarget) (list : List ℕ) where
   -- it asks for one list of targets
   pub asks_one : (targets others : List Target) → AsksForTargets list targets → AsksForTargets list others
       → targets ≡ others
-  asks_one targets others (inl none) (inl same) = none.1 ∙ sym same.1
-  asks_one targets others (inl none) (inr some) = absurd (some.0 none.0)
-  asks_one targets others (inr some) (inl none) = absurd (some.0 none.0)
-  asks_one targets others (inr some) (inr same) = same_targets one (names_in list) targets others some.1 same.1
+  asks_one targets others asks same = grind (arith, same_targets)
 
   unknown_and_twice : (name : List ℕ) (target : Target) → IsFirstUnknown list name → IsFirstTargetTwice list target → ⊥
   unknown_and_twice name target x y = x.2 target (subst (λ n. IsNamed n (target_name target))

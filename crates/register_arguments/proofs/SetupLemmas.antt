@@ -21,7 +21,6 @@ use Rattle.register_records.specs.declared.setups.Setup.{Setup}
 use Rattle.register_records.specs.declared.setups.SetupFault.{SetupFault}
 use Rattle.register_records.specs.declared.setups.SetupFault.TheVariants.{TargetTwice, RingSize, Delimiter, Stripes}
 use Rattle.command_lines.specs.declared.values.Delimiter.{Delimiter as DelimiterWord}
-use Rattle.command_lines.specs.declared.values.Delimiter.TheVariants as delimiter
 use Rattle.register_arguments.specs.Requests.{AreTargetsOf}
 use Rattle.register_arguments.proofs.ListLemmas.{never_twice}
 
@@ -31,8 +30,7 @@ named_within most word n is = rw (le-leb 1 n is.some, le-leb n most is.no_more) 
 
 -- a table has notes where its register has seals
 pub notes_by : (sealed : Bool) → has_notes (if sealed then Sealed else Plain) ≡ sealed
-notes_by true = refl
-notes_by false = refl
+notes_by sealed = grind arith
 
 names_distinct : IsDistinct bytes_eq (map target_name default_targets)
 unfolding IsDistinct
@@ -55,9 +53,7 @@ asked_once (Some list) targets (inr named) = named.2
 
 -- the byte of a delimiter separates fields
 pub separates : (word : DelimiterWord) → is_delimiter (byte_of word) ≡ true
-separates delimiter.Comma = refl
-separates delimiter.Semicolon = refl
-separates delimiter.Tab = refl
+separates word = grind arith
 
 -- so there is such a setup
 pub no_fault : (made : Result Setup SetupFault) (fault : SetupFault) (targets : List Target) (ring byte stripes : ℕ)

@@ -56,8 +56,7 @@ module _ {F : Type 0} (too_many : F) (file_twice : Text → F) (files : List Tex
   one_file_fault fault other (inl many) (inl same) = many.0 ∙ sym same.0
   one_file_fault fault other (inl many) (inr twice) = absurd (omega (arith, many.1, twice.2))
   one_file_fault fault other (inr twice) (inl many) = absurd (omega (arith, many.1, twice.2))
-  one_file_fault fault other (inr twice) (inr same) = twice.1 ∙ ap file_twice
-      (one_first files twice.0 same.0 twice.3 same.3) ∙ sym same.1
+  one_file_fault fault other (inr twice) (inr same) = grind (arith, one_first files twice.0 same.0 twice.3 same.3)
 
 -- one more file that was not named before
 pub one_more : (files : List Text) (file : Text) → ((other : Text) → ¬ IsNamedTwice files other)
@@ -74,12 +73,7 @@ one_more files file once new other twice =
 
 any_named : (files : List (Bor Text)) (file : Text) → list_any (λ f. bytes_eq f.now file) files ≡ true
     → Contains (map (λ f. f.now) files) file
-any_named files file e =
-    let (k, f, low, at, is) = Any-from_list_any (λ f. bytes_eq f.now file) files e in (
-      k,
-      omega (arith, low, length-map files (λ f. f.now)),
-      get_or-map (λ f. f.now) files k f file low ∙ ap (λ f. f.now) at ∙ (bytes_eq-Decides f.now file).0 is,
-    )
+any_named files file e = grind (arith, Any-from_list_any, length-map, get_or-map, bytes_eq-Decides)
 
 named_at : (files : List (Bor Text)) (file : Text) → Bor Text → Contains (map (λ f. f.now) files) file
     → list_any (λ f. bytes_eq f.now file) files ≡ true

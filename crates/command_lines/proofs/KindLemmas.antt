@@ -2,8 +2,7 @@
 use Rattle.std.proofs.Common.{rules, ◌≡◌, ◌∙◌, inl, inr, ℕ, zero, suc, List, [], ◌∷◌, Bool, true, false, Option, Some}
 use Rattle.std.proofs.Common.{None, refl, sym, if◌then◌else◌}
 use Rattle.std.specs.Option.{option_map_or}
-use Rattle.std.specs.Prelude.{⊤, length, drop, encode_utf8, slice_get}
-use Rattle.std.specs.Str.{chars}
+use Rattle.std.specs.Prelude.{⊤, length, drop, encode_utf8}
 use Rattle.clap.specs.Words.{IsAmong, Kinds, Rule, Row, Shape, Text}
 use Rattle.clap.specs.Kinds.{or_else, request_kinds, values_kinds}
 use Rattle.clap.specs.Walk.{Held, Step, Waiting, Walk, arg_by_id, arg_by_long, idle, value}
@@ -84,8 +83,7 @@ module _ (c : List Rule) (again : Bool) where
   lone_flags : (k : ℕ) (flags : Text) (skip : ℕ) (h : Held) → IsLone (flags_fault c again k flags skip h)
   unfolding flags_fault
   lone_flags zero flags skip h = tt
-  lone_flags (suc k) flags skip h = lone_bundle_step (slice_get (chars flags) 0) flags skip h (flags_fault c again k)
-      (lone_flags k)
+  lone_flags (suc k) flags skip h = search (rules, lone_bundle_step, lone_flags k)
 
   lone_flag_word : (split : Option (Text × Option Text)) (word : Text) (h : Held)
       → IsLone (flag_word_fault c again split word h)

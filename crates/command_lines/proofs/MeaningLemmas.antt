@@ -26,8 +26,7 @@ NamesOne option = (word : Text) (n other : ℕ) → option.names word n → opti
 
 pub one_asked : (option : ValueOption) → NamesOne option → (value : Option Text) (n other : ℕ) → IsValueOf option value n
     → IsValueOf option value other → n ≡ other
-one_asked option one None n other is same = is ∙ sym same
-one_asked option one (Some word) n other is same = one word n other is same
+one_asked option one value n other is same = grind arith
 
 module _ {F : Type 0} where
   -- a check finds one fault at most, and none where it passes
@@ -68,12 +67,10 @@ module _ {F : Type 0} where
   -- a fault that a check finds is one that the checks find
   pub found_first : (found : Option F) (fails : F → Type 0) (checks : List (Check F)) → IfSome found fails
       → ((fault : F) → fails fault → FailFirst checks fault) → IfSome found (FailFirst checks)
-  found_first None fails checks is first = tt
-  found_first (Some fault) fails checks is first = first fault is
+  found_first found fails checks is first = grind arith
 
   pub if_some : (found : Option F) (fails : F → Type 0) → IsSomeAnd found fails → IfSome found fails
-  if_some None fails is = tt
-  if_some (Some fault) fails is = is
+  if_some found fails is = grind arith
 
 -- what a command line has to show: arguments have one kind of fault at most, the checks are sound, and what is asked for
 -- passes them and is one thing
@@ -112,16 +109,13 @@ module _ {T F : Type 0} (line : CommandLine T F) (arguments : List Text) where
         let same : DisplayHelp ≡ DisplayVersion = clear.kinds arguments DisplayHelp DisplayVersion asks other in cc
 
     work_no_fault : (task : T) (fault : F) → Mean line arguments (work task) → ¬ IsFaultOf line arguments fault
-    work_no_fault task fault asks =
-        no_fault (usage_check line arguments ∷ line.checks (matches_of line.command arguments)) all_sound
-        (asks.0, clear.passes (matches_of line.command arguments) task asks.1) fault
+    work_no_fault task fault asks = grind (arith, no_fault, all_sound)
 
     one_meaning : (meaning other : Meaning T F) → Mean line arguments meaning → Mean line arguments other
         → other ≡ meaning
     one_meaning help help x y = refl
     one_meaning version version x y = refl
-    one_meaning (work task) (work other) x y =
-        ap (λ t. work t) (clear.one (matches_of line.command arguments) other task y.1 x.1)
+    one_meaning (work task) (work other) x y = grind arith
     one_meaning (wrong fault) (wrong other) x y =
         ap (λ f. wrong f)
         (first_fault (usage_check line arguments ∷ line.checks (matches_of line.command arguments)) all_sound other fault y x)
@@ -130,8 +124,7 @@ module _ {T F : Type 0} (line : CommandLine T F) (arguments : List Text) where
 
     -- what the arguments mean is all that they mean
     pub mean_just : (meaning : Meaning T F) → Mean line arguments meaning → MeanJust line arguments meaning
-    mean_just meaning means other =
-        (λ e. subst (Mean line arguments) (sym e) means, λ m. one_meaning meaning other means m)
+    mean_just meaning means other = grind (arith, one_meaning)
 
     -- a fault that a check finds is all that the arguments mean
     pub found_just : (found : Option F) (fails : F → Type 0) → IfSome found fails
@@ -143,11 +136,9 @@ module _ {T F : Type 0} (line : CommandLine T F) (arguments : List Text) where
   -- the kind of an error, unless memory ran out, is one that the arguments have
   pub is_among : (error : Error) (kind : ErrorKind) → HasKind (fault_of line.command arguments) error
       → kind_of error ≡ kind → kind ≢ OutOfMemory → IsAmong kind (fault_of line.command arguments)
-  is_among error kind (inl memory) is other = absurd (other (sym is ∙ memory))
-  is_among error kind (inr among) is other = rw is at among
+  is_among error kind has is other = grind arith
 
   pub misuses : (error : Error) → HasKind (fault_of line.command arguments) error → kind_of error ≢ OutOfMemory
       → kind_of error ≢ DisplayHelp → kind_of error ≢ DisplayVersion
       → IsFaultOf line arguments (line.usage (kind_of error))
-  misuses error (inl memory) has helps versions = absurd (has memory)
-  misuses error (inr among) has helps versions = inl (kind_of error, refl, among, helps, versions)
+  misuses error has memory helps versions = grind arith

@@ -1,8 +1,11 @@
 //! How items are taken from a lane, and how it is confirmed that all were.
 
-ghost use Rattle.std.specs.Prelude.{◌≡◌, Some};
+ghost use Rattle.std.specs.Prelude.{◌≡◌, ◌<◌, ◌+◌, ◌↔◌, [], ◌∷◌, ◌++◌, length, Some};
+ghost use Rattle.std.specs.Prelude.{IfOk, IsOk, IsSome, IsTrue, OnErr, OnOk, MatchOption};
+ghost use mathlib.Core.List.{IsPrefix};
 ghost use Rattle.rtrb.specs.Ring.{received};
 ghost use Rattle.lane_rings.specs.Items.{last_mark};
+ghost use Rattle.lane_rings.specs.declared.item.Mark.TheVariants.{Counted, Stopped};
 
 use crate::item::{Gone, Item, Mark};
 use crate::sender::Closed;
@@ -44,9 +47,6 @@ fn mark_of<T>(item: &Item<T>) -> Option<Mark>
 }
 
 impl<T> Receiver<T> {
-    ghost use Rattle.std.specs.Prelude.{◌≡◌, ◌<◌, [], ◌∷◌, ◌++◌, length};
-    ghost use Rattle.std.specs.Prelude.{IfOk, IsSome, IsTrue, OnErr, OnOk, MatchOption};
-    ghost use mathlib.Core.List.{IsPrefix};
     ghost use Rattle.lane_rings.specs.Lane.{receiver_lane, taken, waiting};
 
     /// Takes the next item, if one is there now, and never waits.
@@ -146,7 +146,6 @@ impl<T> Receiver<T> {
 }
 
 impl<T: Drop> Receiver<T> {
-    ghost use Rattle.std.specs.Prelude.{◌≡◌, ◌<◌, ◌+◌, [], ◌++◌, ◌↔◌, length, IfOk, IsOk};
     ghost use Rattle.lane_rings.specs.Lane.{receiver_lane, taken, waiting, IsClosedOf, IsWhole, items};
 
     /// Takes the next item, which a look has shown, and drops it.
@@ -185,10 +184,7 @@ impl<T: Drop> Receiver<T> {
 }
 
 impl<T> Confirmed<T> {
-    ghost use Rattle.std.specs.Prelude.{◌≡◌, Some, MatchOption};
-    ghost use Rattle.lane_rings.specs.Items.{last_mark};
     ghost use Rattle.lane_rings.specs.Lane.{items};
-    ghost use Rattle.lane_rings.specs.declared.item.Mark.TheVariants.{Counted, Stopped};
 
     /// The count of the lane's `End`, or `None` where it ended with `Stop`.
     pub fn ended(&self) -> Option<u64>

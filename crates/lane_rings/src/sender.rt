@@ -1,5 +1,10 @@
 //! How items are sent through a lane, and how a lane is closed or stopped.
 
+ghost use Rattle.std.specs.Prelude.{◌≡◌, ◌<◌, [], ◌∷◌, ◌++◌, IsTrue, OnErr, OnOk, IfErr, Some};
+ghost use Rattle.rtrb.specs.Ring.{known_free};
+ghost use Rattle.lane_rings.specs.Lane.{sender_lane, sent, HasConfirmation, closed_lane, all_sent};
+ghost use Rattle.lane_rings.specs.declared.item.Item.TheVariants.{Entry, End, Stop};
+
 use crate::item::{Gone, Item};
 use crate::wait::Patience;
 use rtrb::{Finished, Producer};
@@ -21,11 +26,6 @@ pub struct Closed<T> {
 }
 
 impl<T> Sender<T> {
-    ghost use Rattle.std.specs.Prelude.{◌≡◌, ◌<◌, [], ◌∷◌, ◌++◌, IsTrue, OnOk, IfErr};
-    ghost use Rattle.rtrb.specs.Ring.{known_free};
-    ghost use Rattle.lane_rings.specs.Lane.{sender_lane, sent};
-    ghost use Rattle.lane_rings.specs.declared.item.Item.TheVariants.{Entry};
-
     /// Waits for room and sends an entry.
     ///
     /// While the ring is full it waits as [`Patience`] does. Where the receiver was dropped it returns `Gone` with the
@@ -63,10 +63,6 @@ impl<T> Sender<T> {
 }
 
 impl<T: Copy> Sender<T> {
-    ghost use Rattle.std.specs.Prelude.{◌≡◌, [], ◌∷◌, ◌++◌, OnErr, OnOk};
-    ghost use Rattle.lane_rings.specs.Lane.{sender_lane, sent};
-    ghost use Rattle.lane_rings.specs.declared.item.Item.TheVariants.{Entry};
-
     /// Waits for room and sends a copy of an entry, which is made once, where it goes to: an entry may be large.
     ///
     /// It waits as `send` does. Where the receiver was dropped it returns `Gone`, also where the ring has room.
@@ -88,10 +84,6 @@ impl<T: Copy> Sender<T> {
 }
 
 impl<T: Drop> Sender<T> {
-    ghost use Rattle.std.specs.Prelude.{◌≡◌, [], ◌∷◌, ◌++◌, Some};
-    ghost use Rattle.lane_rings.specs.Lane.{sender_lane, sent, HasConfirmation, closed_lane, all_sent};
-    ghost use Rattle.lane_rings.specs.declared.item.Item.TheVariants.{End, Stop};
-
     /// Waits for room and ends the lane: `count` goes with the end, and nothing follows it.
     ///
     /// It waits as `send` does. Where the receiver was dropped the `Closed` has no confirmation.

@@ -1,17 +1,77 @@
--- A list means one thing at most.
-use Rattle.std.proofs.Common.{rules, ◌≡◌, ◌∙◌, ℕ, List, [], ◌∷◌, ◌++◌, length, sym, ap, ap₂, refl, subst, arith}
-use Rattle.std.proofs.Common.{inl, inr, Option, Some, None, length-append, Result, Ok, Err, Contains, IfSome, slice_get}
-use Rattle.std.proofs.lemmas.Option.{slice_get_read}
-use Rattle.std.proofs.lemmas.List.{get_or_append_left}
+-- Names and their targets, one more at a time.
+use Rattle.std.proofs.Common.{◌≡◌, ◌≢◌, ◌∙◌, ◌<◌, ℕ, List, [], ◌∷◌, ◌++◌, length, get_or, take, drop, suc, sym, ap, ap₂}
+use Rattle.std.proofs.Common.{arith, lit<, take-append-drop, Contains, true, rules, refl, subst, inl, inr, Option, Some}
+use Rattle.std.proofs.Common.{None, length-append, Result, Ok, Err, IfSome, slice_get}
+use Rattle.std.proofs.lemmas.List.{get_or_default, get_or_append_left}
+use Rattle.std.proofs.lemmas.List.Quantifiers.{all_pairs_push}
+use Rattle.std.proofs.lemmas.Option.{slice_get-get_or, slice_get_read}
+use Rattle.std.proofs.Math.Seq.{drop-cons}
+use Rattle.std.specs.Str.Iter.{split_has_more, split_pattern, split_steps, split_text}
+use Rattle.std.specs.Str.Pattern.{FindsChar}
+use Rattle.std.specs.declared.str.Split.{Split}
+use Rattle.std.proofs.lemmas.Iterator.{YieldsList}
+use Rattle.std.proofs.lemmas.Iterator.Consumers.{YieldsList-at}
+use Rattle.std.proofs.lemmas.Iterator.Splits.{YieldsList-from_str_split}
 use Rattle.date_texts.specs.Calendars.{target_name}
-use Rattle.date_texts.specs.Laws.{OneTarget}
 use Rattle.date_texts.specs.Names.{IsNamed}
 use Rattle.date_texts.specs.declared.target.Target.{Target}
 use Rattle.register_records.specs.SetupRules.{NamesTwice}
+use Rattle.date_texts.specs.Laws.{OneTarget}
 use Rattle.command_lines.proofs.FileLemmas.{meet}
+use Rattle.register_arguments.specs.OptionValues.{AreNamesOf, StandsBehind, names_in, no_target, AsksForTargets}
+use Rattle.register_arguments.specs.OptionValues.{IsFirstTargetTwice, IsFirstUnknown, IsListFault, ListMeans}
+use Rattle.register_arguments.specs.OptionValues.{ListMeansJust}
 use Rattle.register_arguments.specs.Faults.{Fault}
-use Rattle.register_arguments.specs.OptionValues.{AreNamesOf, AsksForTargets, IsFirstTargetTwice, IsFirstUnknown}
-use Rattle.register_arguments.specs.OptionValues.{IsListFault, ListMeans, ListMeansJust, StandsBehind, names_in}
+
+-- one more name and its target
+pub named_more : (names : List (List ℕ)) (targets : List Target) (name : List ℕ) (target : Target)
+    → AreNamesOf names targets → IsNamed name (target_name target)
+    → AreNamesOf (names ++ name ∷ []) (targets ++ target ∷ [])
+named_more [] [] name target named is = (is, tt)
+named_more (n ∷ ns) (u ∷ us) name target named is = (named.0, named_more ns us name target named.1 is)
+named_more names targets name target named is = absurd named
+
+-- the name at place i of a list stands behind those before it
+pub stands_at : (list : List ℕ) (earlier : List Target) (before : List (List ℕ)) (i : ℕ) (name : List ℕ)
+    → list ≢ no_target
+    → (i < length (names_in list)) × (name ≡ get_or (names_in list) i name) → before ≡ take i (names_in list)
+    → AreNamesOf before earlier → (¬ NamesTwice earlier)
+    → StandsBehind list earlier name
+stands_at list earlier before i name some place front named once = record {
+  names_some = some;
+  before = before;
+  after = drop (suc i) (names_in list);
+  cut = sym (take-append-drop i (names_in list)) ∙ ap (λ rest. take i (names_in list) ++ rest)
+      (drop-cons (names_in list) i name place.0)
+      ∙ ap₂ (λ (xs : List (List ℕ)) (x : List ℕ). xs ++ x ∷ drop (suc i) (names_in list)) (sym front) (sym place.1);
+  named = named;
+  once = once;
+}
+
+-- the split at commas gives the names of the list
+pub names_of_split : (list : List ℕ) (s t : Split ℕ) → t ≡ s → split_text s ≡ list → split_has_more s ≡ true
+    → split_pattern s ≡ 44
+    → YieldsList (split_steps FindsChar (λ a b. b ≡ a)) (λ name. name.now) t (names_in list)
+names_of_split list s t same text more pattern = YieldsList-at same
+    (YieldsList-from_str_split 44 list (lit< tt) text more pattern)
+
+-- none of no targets is named twice
+pub never_twice : ¬ NamesTwice []
+never_twice twice = absurd (omega (arith, twice.3))
+
+-- one more target that is not among them
+pub once_more : (targets : List Target) (target : Target) → (¬ NamesTwice targets) → (¬ Contains targets target)
+    → ¬ NamesTwice (targets ++ target ∷ [])
+once_more targets target once new (i, j, lt, high, same) =
+    let all = targets ++ target ∷ [] in
+    let low : i < length all = omega arith in
+    all_pairs_push (λ x y. x ≢ y) targets target
+    (λ k l d lt high is. let low : k < length targets = omega arith in
+    once (k, l, lt, high, cc (slice_get-get_or targets k d low, slice_get-get_or targets l d high, is)))
+    (λ k d low is. new (k, low, cc (get_or_default targets k d target low, is)))
+    i j target lt high (cc (slice_get-get_or all i target low, slice_get-get_or all j target high, same))
+
+-- ---- a list means one thing at most
 
 get_end : (earlier : List Target) (target : Target) (rest : List Target)
     → slice_get (earlier ++ target ∷ rest) (length earlier) ≡ Some target
@@ -35,8 +95,7 @@ module _ (one : OneTarget) where
   same_targets : (names : List (List ℕ)) (targets others : List Target) → AreNamesOf names targets
       → AreNamesOf names others → targets ≡ others
   same_targets [] [] [] named other = refl
-  same_targets (n ∷ ns) (t ∷ ts) (u ∷ us) named other = ap₂ (λ (x : Target) (xs : List Target). x ∷ xs)
-      (one n t u named.0 other.0) (same_targets ns ts us named.1 other.1)
+  same_targets (n ∷ ns) (t ∷ ts) (u ∷ us) named other = grind (arith, same_targets ns ts us named.1 other.1)
   same_targets names targets others named other = absurd (search rules)
 
   -- where a name follows these names, the targets are those that these name, and then one with that name
@@ -80,8 +139,7 @@ module _ (one : OneTarget) (list : List ℕ) where
 
   -- and none in a list that asks for targets
   none_at : (targets : List Target) (name : List ℕ) → AsksForTargets list targets → IsAtFault list name → ⊥
-  none_at targets name (inl none) (earlier, x, bars) = x.names_some none.0
-  none_at targets name (inr asks) (earlier, x, bars) = asks.2 (bars x.after targets (rw x.cut at asks.1))
+  none_at targets name asks at = grind arith
 
   pub asks_no_fault : (targets : List Target) (fault : Fault) → AsksForTargets list targets → IsListFault list fault → ⊥
   asks_no_fault targets fault asks (inl unknown) = none_at targets unknown.0 asks (unknown_at unknown.0 unknown.2)
@@ -90,10 +148,7 @@ module _ (one : OneTarget) (list : List ℕ) where
   -- it asks for one list of targets
   pub asks_one : (targets others : List Target) → AsksForTargets list targets → AsksForTargets list others
       → targets ≡ others
-  asks_one targets others (inl none) (inl same) = none.1 ∙ sym same.1
-  asks_one targets others (inl none) (inr some) = absurd (some.0 none.0)
-  asks_one targets others (inr some) (inl none) = absurd (some.0 none.0)
-  asks_one targets others (inr some) (inr same) = same_targets one (names_in list) targets others some.1 same.1
+  asks_one targets others asks same = grind (arith, same_targets)
 
   unknown_and_twice : (name : List ℕ) (target : Target) → IsFirstUnknown list name → IsFirstTargetTwice list target → ⊥
   unknown_and_twice name target x y = x.2 target (subst (λ n. IsNamed n (target_name target))

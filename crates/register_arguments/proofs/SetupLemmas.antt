@@ -1,7 +1,7 @@
--- What the arguments ask for fits a setup: each target once, the default ones too, since their names differ.
-use Rattle.std.proofs.Common.{rules, ◌≡◌, ◌∙◌, ◌<◌, ℕ, true, false, List, [], length, map, sym, ap, refl, arith, Some, None}
-use Rattle.std.proofs.Common.{Option, Result, Err, inl, inr, true≢false, get_or}
-use Rattle.std.proofs.Common.{Bool, refl}
+-- What the arguments ask for fits a setup: numbers within their limits, and each target once, the default ones too,
+-- since their names differ.
+use Rattle.std.proofs.Common.{◌≡◌, ◌&&◌, ℕ, true, nat_le, le-leb, refl, rules, ◌∙◌, ◌<◌, false, List, [], length, map}
+use Rattle.std.proofs.Common.{sym, ap, arith, Some, None, Option, Result, Err, inl, inr, true≢false, get_or, Bool}
 use Rattle.std.specs.Prelude.{if◌then◌else◌}
 use Rattle.std.specs.List.{IsDistinct}
 use Rattle.std.proofs.lemmas.List.{get_or-map}
@@ -9,6 +9,8 @@ use Rattle.std.proofs.lemmas.Map.Made.{AllPairs-from_IsDistinct}
 use Rattle.std.proofs.lemmas.Option.{slice_get-get_or}
 use Rattle.std.specs.Str.{bytes_eq}
 use Rattle.std.proofs.lemmas.Slice.Eq.{bytes_eq-Decides}
+use Rattle.clap.specs.Words.{Text}
+use Rattle.command_lines.specs.Values.{IsNumberWord, byte_of}
 use Rattle.date_texts.specs.declared.target.Target.TheVariants.{Haab}
 use Rattle.date_texts.specs.Calendars.{default_targets, target_name}
 use Rattle.date_texts.specs.declared.target.Target.{Target}
@@ -18,16 +20,17 @@ use Rattle.register_records.specs.SetupRules.{NamesTwice, is_delimiter, is_ring_
 use Rattle.register_records.specs.declared.setups.Setup.{Setup}
 use Rattle.register_records.specs.declared.setups.SetupFault.{SetupFault}
 use Rattle.register_records.specs.declared.setups.SetupFault.TheVariants.{TargetTwice, RingSize, Delimiter, Stripes}
-use Rattle.command_lines.specs.Values.{byte_of}
 use Rattle.command_lines.specs.declared.values.Delimiter.{Delimiter as DelimiterWord}
-use Rattle.command_lines.specs.declared.values.Delimiter.TheVariants as delimiter
-use Rattle.register_arguments.proofs.NameLemmas.{never_twice}
 use Rattle.register_arguments.specs.Requests.{AreTargetsOf}
+use Rattle.register_arguments.proofs.ListLemmas.{never_twice}
+
+-- a number that a word names is from 1 to the most
+pub named_within : (most : ℕ) (word : Text) (n : ℕ) → IsNumberWord most word n → (nat_le 1 n && nat_le n most) ≡ true
+named_within most word n is = rw (le-leb 1 n is.some, le-leb n most is.no_more) refl
 
 -- a table has notes where its register has seals
 pub notes_by : (sealed : Bool) → has_notes (if sealed then Sealed else Plain) ≡ sealed
-notes_by true = refl
-notes_by false = refl
+notes_by sealed = grind arith
 
 names_distinct : IsDistinct bytes_eq (map target_name default_targets)
 unfolding IsDistinct
@@ -50,9 +53,7 @@ asked_once (Some list) targets (inr named) = named.2
 
 -- the byte of a delimiter separates fields
 pub separates : (word : DelimiterWord) → is_delimiter (byte_of word) ≡ true
-separates delimiter.Comma = refl
-separates delimiter.Semicolon = refl
-separates delimiter.Tab = refl
+separates word = grind arith
 
 -- so there is such a setup
 pub no_fault : (made : Result Setup SetupFault) (fault : SetupFault) (targets : List Target) (ring byte stripes : ℕ)

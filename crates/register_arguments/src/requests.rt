@@ -79,19 +79,6 @@ pub fn command<'a>(alloc: Global) -> Result<Command<'a>, AllocError>
     command_with(alloc, "register", VERSION, &ARGUMENTS)
 }
 
-/// What clap finds in the arguments.
-///
-/// # Errors
-///
-/// What clap refuses, a request for help or for the version, and running out of memory.
-fn read_arguments<'a>(alloc: Global, arguments: &'a [String]) -> Result<ArgMatches<'a>, clap::Error>
-    ensures found { IfOk result (λ m. rows_of (found_of m)
-        ≡ matches_of command_line (map string_bytes arguments.entry.now)) }
-    ensures fails { FailsBy (fault_of command_line (map string_bytes arguments.entry.now)) result }
-{
-    command(alloc)?.try_get_matches_from(arguments)
-}
-
 /// The values of the options that clap found, and the files.
 fn options_found<'a>(alloc: Global, matches: &ArgMatches<'a>) -> Result<Options<'a>, AllocError>
     ensures { IfOk result (λ options. values_by options ≡ values_of (rows_of (found_of matches.now))) }
@@ -119,7 +106,7 @@ fn read_options<'a>(alloc: Global, arguments: &'a [String]) -> Result<Options<'a
         ≡ values_of (matches_of command_line (map string_bytes arguments.entry.now))) }
     ensures kinds { IfErr result (HasKind (fault_of command_line (map string_bytes arguments.entry.now))) }
 {
-    let matches = read_arguments(alloc, arguments)?;
+    let matches = command(alloc)?.try_get_matches_from(arguments)?;
     let options = options_found(alloc, &matches)?;
     Ok(options)
 }
@@ -149,25 +136,12 @@ fn chosen_form(sealed: bool) -> Form
     if sealed { Form::Sealed } else { Form::Plain }
 }
 
-/// Finds what is wrong with the files.
-///
-/// # Errors
-///
-/// `TooManyFiles` where there are more than 32, and else `FileTwice` for the first that was named before.
-fn files_fit<'a>(files: &[&'a str]) -> Result<(), RequestFault<'a>>
-    ensures fine { OnOk result (AreFilesToConvert (map (λ f. f.now) files.now)) }
-    ensures fault { IfErr result (λ error. IsSomeAnd (fault_of_error error)
-        (IsFileFault too_many_files file_twice (map (λ f. f.now) files.now))) }
-{
-    Ok(check_files(files)?)
-}
-
 /// The conversion that the options ask for.
 ///
 /// # Errors
 ///
 /// The first that applies: the faults of the list of targets as [`read_targets`] has them, `BadRing`,
-/// `UnknownDelimiter`, `BadStripes`, and the faults of the files as [`files_fit`] has them; and `OutOfMemory` where
+/// `UnknownDelimiter`, `BadStripes`, and the faults of the files as [`check_files`] has them; and `OutOfMemory` where
 /// memory runs out on the way.
 fn chosen_job<'a>(alloc: Global, options: Options<'a>) -> Result<Job<'a>, RequestFault<'a>>
     ensures asked { IfOk result (λ job. Ask (values_by options.entry) (task_of job)) }
@@ -178,7 +152,7 @@ fn chosen_job<'a>(alloc: Global, options: Options<'a>) -> Result<Job<'a>, Reques
     let ring = chosen_ring(options.ring)?;
     let delimiter = chosen_delimiter(options.delimiter)?;
     let stripes = chosen_stripes(options.stripes)?;
-    files_fit(options.files.as_slice())?;
+    check_files(options.files.as_slice())?;
     let form = chosen_form(options.sealed);
     let byte = delimiter.byte();
     match Setup::new(targets.as_slice(), ring.size, byte, stripes.count, form) {

@@ -1,6 +1,6 @@
 -- Bytes that are gained one after the other.
-use Rattle.std.proofs.Common.{◌∙◌, ℕ, List, [], ◌++◌, Option, None, Some, ap, append_assoc, append-nil, sym}
-use Rattle.std.specs.Io.KnownBytes.{Appends, Keeps}
+use Rattle.std.proofs.Common.{Option, append_assoc, append-nil}
+use Rattle.register_files.proofs.Common.{◌∙◌, ℕ, List, [], ◌++◌, None, Some, ap, sym, Appends, Keeps}
 
 -- what stays as it is has gained nothing
 pub appends_none : (bytes : Option (List ℕ)) → Appends bytes bytes []

@@ -1,6 +1,6 @@
 -- Which file serves which public clause:
---   MatchLemmas, ApartLemmas: `opened`, `made`, `kept` and `apart` of `open_files`.
+--   MatchLemmas: `opened`, `made`, `kept` and `apart` of `open_files`.
 --   AppendsLemmas: the contract of `write` of `LoggedWriter`.
-mod MatchLemmas
+mod Common
 pub mod AppendsLemmas
-mod ApartLemmas
+mod MatchLemmas

@@ -1,23 +1,48 @@
--- What lanes carry: the rows of a converter by the entries that it took.
-use Rattle.std.proofs.Common.{rules, ◌≡◌, ◌∙◌, ap, sym, subst, refl, zero, suc, List, [], ◌∷◌, ◌++◌, append_assoc}
-use Rattle.std.proofs.Common.{append-nil, ℕ, ◌+◌, length, map, false, true, Option, None, Some, arith, Bool, Err}
-use Rattle.std.proofs.Common.{MatchOption, Ok, OnErr, OnOk, Result, eqb, is_err}
-use Rattle.register_run.proofs.Common.{Contains, length-map, map-append, Contains-append_left, IsPrefix, entries_in}
-use Rattle.register_run.proofs.Common.{HasConfirmation, Lane, all_sent, closed_lane, sender_lane, sent, taken, Gone}
-use Rattle.register_run.proofs.Common.{Item, Closed, Sender, entry_seen, Entry, Row, HasPassedOn, AreOfAllTaken}
-use Rattle.register_run.proofs.Common.{AreOfTaken, HasEnded, carried, row_entries, rows_carried, IsConverting, Stripe}
-use Rattle.register_run.proofs.Common.{entries_in_append}
+-- What lanes carry: items, as they are seen and taken, and the rows of a converter.
+use Rattle.std.proofs.Common.{lit<, take, take_at, MatchOption, eqb}
+use Rattle.register_run.proofs.Common.{◌≡◌, ◌∙◌, ap, sym, subst, refl, List, [], ◌∷◌, ◌++◌, append_assoc, arith, ◌+◌}
+use Rattle.register_run.proofs.Common.{length, length-append, rules, zero, suc, append-nil, ℕ, map, false, true, Option}
+use Rattle.register_run.proofs.Common.{Some, Bool, Err, Ok, OnErr, OnOk, Result, is_err, get_or-map, length_push}
+use Rattle.register_run.proofs.Common.{IsWhole, waiting, StartWithRow, HasEnd, Contains, Item, length-map, map-append}
+use Rattle.register_run.proofs.Common.{HasConfirmation, Lane, all_sent, closed_lane, sender_lane, sent, taken, Closed}
+use Rattle.register_run.proofs.Common.{Sender, Entry, Row, HasPassedOn, AreOfAllTaken, AreOfTaken, HasEnded}
+use Rattle.register_run.proofs.Common.{carried, row_entries, rows_carried, IsConverting, Stripe, receiver_lane}
+use Rattle.std.proofs.lemmas.List.Elements.{Contains-append_right, Contains-append_left}
 use Rattle.std.specs.Option.{option_eq}
-use Rattle.std.proofs.lemmas.List.{get_or-map, length_push}
-use Rattle.lane_rings.proofs.EndLemmas.{last_mark_append}
-use Rattle.lane_rings.specs.Items.{last_mark}
-use Rattle.lane_rings.specs.Lane.{IsWhole, waiting}
-use Rattle.lane_rings.specs.declared.item.Item.TheVariants as item
+use Rattle.lane_rings.proofs.EndLemmas.{last_mark_append, entries_in_append}
+use Rattle.lane_rings.specs.Items.{last_mark, entries_in}
 use Rattle.lane_rings.specs.declared.item.Mark.TheVariants.{Counted, Stopped}
-use Rattle.register_run.specs.Stripes.{StartWithRow}
-use Rattle.register_run.specs.Carried.{HasEnd}
+use Rattle.lane_rings.specs.declared.receiver.Receiver.{Receiver}
+use mathlib.Core.List.{IsPrefix}
+use Rattle.lane_rings.specs.declared.item.Gone.{Gone}
+use Rattle.lane_rings.specs.declared.item.Item.TheVariants as item
 use Rattle.register_run.specs.declared.converting.ConverterResult.{ConverterResult}
-use Rattle.register_run.proofs.ItemLemmas.{same_seen, took_next}
+
+module _ {T : Type 0} where
+  -- a look takes nothing, and what it saw before it sees still
+  pub seen_kept : (old new seen more : List (Item T)) → new ≡ old → IsPrefix seen more → (y : Item T)
+      → Contains (old ++ seen) y → Contains (new ++ more) y
+  seen_kept old new seen more is (rest, all) y h =
+      grind (arith, append_assoc old seen rest, Contains-append_left (old ++ seen) rest y h)
+
+  pub same_seen : (old new : List (Item T)) → new ≡ old → (y : Item T) → Contains old y → Contains new y
+  same_seen old new is y h = subst (λ l. Contains l y) (sym is) h
+
+  -- what is next was seen
+  pub seen_next : (old seen : List (Item T)) (y : Item T) → IsPrefix (y ∷ []) seen → Contains (old ++ seen) y
+  seen_next old seen y (rest, all) = grind (arith, Contains-append_right, Contains-append_left, lit<)
+
+  -- after a wait that took nothing, the item that was next is the one that was taken
+  pub took_next : (old waited seen new rest : List (Item T)) (y : Item T) → waited ≡ old → IsPrefix (y ∷ []) seen
+      → new ++ rest ≡ waited ++ seen → length new ≡ length waited + 1 → new ≡ old ++ y ∷ []
+  took_next old waited seen new rest y same (more, all) is one =
+      let parts : new ++ rest ≡ (waited ++ y ∷ []) ++ more =
+      is ∙ ap (λ (l : List (Item T)). waited ++ l) (sym all) ∙ sym (append_assoc waited (y ∷ []) more) in
+      let long : length (waited ++ y ∷ []) ≡ length new = omega (arith, length-append waited (y ∷ []), one) in
+      sym (take_at new rest (length new) refl) ∙ ap (λ (l : List (Item T)). take (length new) l) parts
+      ∙ take_at (waited ++ y ∷ []) more (length new) long ∙ ap (λ (l : List (Item T)). l ++ y ∷ []) same
+
+-- ---- what lanes carry: the rows of a converter by the entries that it took
 
 module _ {T : Type 0} where
   -- one more item is an entry
@@ -134,18 +159,51 @@ module _ (from into : Lane) (stripe : Stripe) (fed : Closed Entry) (converting :
   all_passed ends = grind (arith, second.equal, first.equal, keeps.all second.confirmed (rw second.equal ends))
 
   first_passed : IsPrefix (rows_carried (taken stripe.rows)) (carried (all_sent fed))
-  first_passed =
-      rw (← second.equal, first.equal)
-      (map_prefix entry_seen (row_entries (all_sent converting.closed)) (entries_in (taken converting.entries))
-      (keeps.rows second.confirmed))
+  first_passed = grind (arith, map_prefix)
 
   ends_so : (items : List (Item Row)) (ended : Option ℕ) (count : ℕ) → items ≡ taken stripe.rows
       → MatchOption ended (last_mark items ≡ Some Stopped) (λ n. last_mark items ≡ Some (Counted n))
       → option_eq eqb ended (Some count) ≡ true → HasEnd (taken stripe.rows)
-  ends_so items None count same mark is = cc
-  ends_so items (Some n) count same mark is = (n, ap (λ (l : List (Item Row)). last_mark l) (sym same) ∙ mark)
+  ends_so items ended count same mark is = grind arith
 
   pub passed_on : (items : List (Item Row)) (ended : Option ℕ) (count : ℕ) (b : Bool) → items ≡ taken stripe.rows
       → MatchOption ended (last_mark items ≡ Some Stopped) (λ n. last_mark items ≡ Some (Counted n))
       → b ≡ option_eq eqb ended (Some count) → HasPassedOn b stripe fed
   passed_on items ended count b same mark is = search (rules, first_passed, all_passed, ends_so)
+
+-- ---- how a converter ends the lane of its rows
+
+-- one more item was passed: the rows that were sent are still those of the first entries that were taken
+pub first_still : (old new seen rest : List (Item Entry)) (rows : List (Item Row)) → new ++ rest ≡ old ++ seen
+    → length new ≡ length old + 1 → AreOfTaken old rows → AreOfTaken new rows
+first_still old new [] rest rows next one first =
+    absurd (grind (arith, length-append new rest, length-append old [], next, one))
+first_still old new (x ∷ seen) rest rows next one (more, before) =
+    let is = took_next old old (x ∷ seen) new rest x refl (seen, refl) next one in
+    (more ++ entries_in (x ∷ []), rw (is, entries_in_append, ← before, append_assoc))
+
+-- and where it is no entry, of all of them
+pub all_still : (old new seen rest : List (Item Entry)) (rows : List (Item Row)) (mark : Item Entry)
+    → entries_in (mark ∷ []) ≡ [] → IsPrefix (mark ∷ []) seen → new ++ rest ≡ old ++ seen
+    → length new ≡ length old + 1 → AreOfAllTaken old rows → AreOfAllTaken new rows
+all_still old new seen rest rows mark none here next one all = grind (arith, no_more, took_next)
+
+-- it ended the lane of its rows, with an end or with a stop
+module _ (from : Lane) (entries : Receiver Entry) (rows : Sender Row) (closed : Closed Row)
+    (handed : receiver_lane entries ≡ from)
+    (lane : HasConfirmation closed → closed_lane closed ≡ Some (sender_lane rows))
+    (first : AreOfTaken (taken entries) (sent rows)) where
+  abbrev Ends : Type 0
+  Ends = IsConverting from (sender_lane rows) (record { entries = entries; closed = closed })
+
+  pub ends : (n : ℕ) → AreOfAllTaken (taken entries) (sent rows)
+      → (HasConfirmation closed → all_sent closed ≡ sent rows ++ item.End n ∷ []) → Ends
+  ends n of_all all = grind (arith, first_ended, all_ended)
+
+  pub stops : (HasConfirmation closed → all_sent closed ≡ sent rows ++ item.Stop ∷ []) → Ends
+  stops all = record {
+    handed = handed;
+    closed = lane;
+    rows = λ sure. first_ended (taken entries) (taken entries) (sent rows) _ item.Stop refl refl (all sure) first;
+    all = λ sure. stop_is_no_end (taken entries) (sent rows) (all_sent closed) (all sure);
+  }

@@ -1,36 +1,34 @@
 -- What is known of a source that has ended.
-use Rattle.std.proofs.Common.{rules, ◌≡◌, ◌≢◌, ◌∙◌, ap, refl, sym, subst, ℕ, List, [], ◌++◌, length, Option, None, Some}
-use Rattle.std.proofs.Common.{◌≤◌, inl, inr, arith, length-append, true, false, Bool, Err, Ok, IfOk, IfSome}
-use Rattle.register_run.proofs.Common.{AllZip, Contains, length-map, props, ∥∥₁_elim, ∥∥₁_map, ∥∥₁_prop, Row, Cause}
-use Rattle.register_run.proofs.Common.{SourceEnd, HasAllEntries, HasEntries, HasFirstEntries, Numbered, record_limit}
-use Rattle.register_run.proofs.Common.{IsRowOf, entry_seen, IfBroken, IfWhole, cause_number, Layout, Reading, layout_of}
-use Rattle.register_run.proofs.Common.{reading_of, Stripe, Sent, Findings, Table, HasMetNone, IsLowest, IsMet}
-use Rattle.register_run.proofs.Common.{is_of_table, IsSourceEnd, Carries, IsMachineWithTable, HasPassed, IsGiven}
-use Rattle.register_run.proofs.Common.{IsOfGiven, Holds, entries_seen, rows_seen, table_fault}
-use Rattle.std.proofs.lemmas.Bool.{cases_eq, false_from_ne_true}
-use Rattle.register_records.specs.Tables.{table_text}
-use Rattle.register_records.specs.TablesWritten.{HasEnded, has_lost_output, is_headed, made_for, waiting_of}
-use Rattle.register_run.specs.JoinedThreads.{IsNotOfOutput, is_of_reading, speaks_of_text}
+use Rattle.register_run.proofs.Common.{rules, ◌≡◌, ◌≢◌, ◌∙◌, ap, refl, sym, subst, ℕ, List, [], ◌++◌, length, Option}
+use Rattle.register_run.proofs.Common.{None, Some, ◌≤◌, inl, inr, arith, length-append, true, false, Bool, Err, Ok}
+use Rattle.register_run.proofs.Common.{IfOk, IfSome, AllZip, Contains, length-map, props, ∥∥₁_elim, ∥∥₁_map, ∥∥₁_prop}
+use Rattle.register_run.proofs.Common.{Row, Cause, SourceEnd, HasAllEntries, HasEntries, HasFirstEntries, Numbered}
+use Rattle.register_run.proofs.Common.{record_limit, entry_seen, Reading, layout_of, reading_of, Stripe, Sent, Findings}
+use Rattle.register_run.proofs.Common.{Table, is_of_table, Carries, IsMachineWithTable, HasPassed, IsGiven, IsOfGiven}
+use Rattle.register_run.proofs.Common.{cases_eq, false_from_ne_true, IsNotOfOutput, is_of_reading, speaks_of_text}
+use Rattle.register_records.specs.Outcomes.{IsRowOf}
+use Rattle.register_records.specs.Sources.{IfBroken, IfWhole, cause_number, ArePartOfTable, Gains, IsFrontOfTable}
+use Rattle.register_records.specs.Sources.{IsTableOf}
+use Rattle.register_records.specs.Tables.{Layout, table_text}
+use Rattle.register_records.specs.TablesWritten.{Holds, entries_seen, rows_seen, table_fault, HasEnded, has_lost_output}
+use Rattle.register_records.specs.TablesWritten.{is_headed, made_for, waiting_of}
+use Rattle.register_records.proofs.SomeRecordsLemmas.{front_of_some}
+use Rattle.register_records.proofs.TableLemmas.{are_rows, faultless, front_so, gained_so, table_is, whole_so, written}
 use Rattle.register_records.specs.declared.outputs.Output as outputs
 use Rattle.register_records.specs.declared.ends.Cause.TheVariants as cause
 use Rattle.register_records.specs.declared.ends.SourceEnd.TheVariants as end
-use Rattle.register_records.specs.Sources.{ArePartOfTable, Gains, IsFrontOfTable, IsTableOf}
-use Rattle.register_records.proofs.SomeRecordsLemmas.{front_of_some}
-use Rattle.register_records.proofs.TableLemmas.{are_rows, faultless, front_so, gained_so, table_is, whole_so, written}
-use Rattle.register_run.specs.MetCauses.{Differs}
-use Rattle.register_run.specs.Headline.{IsAllOfTable, causes_of_reading}
-use Rattle.register_run.proofs.FrontLemmas.{first_of_first, front_all, rows_front}
+use Rattle.register_run.specs.MetCauses.{HasMetNone, IsLowest, IsMet, Differs}
+use Rattle.register_run.specs.Headline.{IsSourceEnd, IsAllOfTable, causes_of_reading}
+use Rattle.register_run.proofs.GivenLemmas.{first_of_first, front_all, rows_front}
 
 listed : (c : Cause) → Contains causes_of_reading c → is_of_reading c ≡ true
 listed c h = search rules
 
 -- the causes of reading are higher than those of a table
 high : (c : Cause) → is_of_reading c ≡ true → 5 ≤ cause_number c
-high cause.NoMemory e = grind arith
 high c e = grind arith
 
 low : (c : Cause) → is_of_table c ≡ true → cause_number c ≤ 4
-low cause.NoMemory e = grind arith
 low c e = grind arith
 
 -- the threads gave up for this cause of reading; the table has the rows of all entries that were read, and no heading
@@ -43,22 +41,17 @@ IsReadingMet met c =
 module _ (met : Findings) (c : Cause) (of_table : IfSome met.fault (λ f. is_of_table f ≡ true)) where
   -- a cause that no table gives is the outcome of the threads
   met_by_threads : is_of_table c ≡ false → IsMet met c → met.sent.outcome ≡ Err c
-  met_by_threads other (inl speaks) = speaks
-  met_by_threads other (inr (inl broke)) = search rules
-  met_by_threads other (inr (inr differs)) = absurd (let k = ap is_of_table differs.0 in cc)
+  met_by_threads other is = grind arith
 
   sink_met : IsNotOfOutput met.sent.outcome → IsMet met c → c ≡ cause.SinkFault → met.fault ≡ Some cause.SinkFault
-  sink_met good (inl speaks) e = absurd (subst IsNotOfOutput speaks good e)
-  sink_met good (inr (inl broke)) e = broke ∙ ap Some e
-  sink_met good (inr (inr differs)) e = absurd (let k = differs.0 in cc)
+  sink_met good is e = grind arith
 
   module _ (lowest : IsLowest (IsMet met) c) (reading : is_of_reading c ≡ true) where
     not_of_table : (d : Cause) → is_of_table d ≡ true → cause_number c ≤ cause_number d → ⊥
     not_of_table d of below = let a = high c reading in let b = low d of in omega (arith, a, b, below)
 
     none_broke : (f : Option Cause) → met.fault ≡ f → f ≡ None
-    none_broke None e = refl
-    none_broke (Some d) e = search (rules, not_of_table)
+    none_broke f e = grind (arith, not_of_table)
 
     read_outcome : met.sent.outcome ≡ Err c
     read_outcome = met_by_threads (false_from_ne_true (is_of_table c) (λ of. not_of_table c of (omega arith))) lowest.0
@@ -86,14 +79,11 @@ thread_outcome met of_table e lowest is = search (rules, met_by_threads, met)
 pub met_none : {W : Type 0} (e : SourceEnd) (met : Findings) (table : Table W) → met.sent.outcome ≡ Ok met.rows
     → met.fault ≡ None → met.headed ≡ true → met.rows ≡ table.rows
     → IfWhole e (HasEnded table) → IfWhole e (HasMetNone met table.journal.items)
-met_none (end.Whole count refused journal) met table outcome fault headed rows is =
-    (outcome ∙ ap Ok (rows ∙ sym is.1), fault, headed, is.1 ∙ sym rows, is.2, is.3)
-met_none (end.Broken c) met table outcome fault headed rows is = tt
+met_none e met table outcome fault headed rows is = grind arith
 
 pub never_broken : (e : SourceEnd) (f : Option Cause) (P : Cause → Type 0) → f ≡ None → IfBroken e (λ c. f ≡ Some c)
     → IfBroken e P
-never_broken (end.Whole count refused journal) f P none is = tt
-never_broken (end.Broken c) f P none is = absurd (let e = sym none ∙ is in cc)
+never_broken e f P none is = grind arith
 
 module _ {W : Type 0} (o : outputs.Ghosts W) (text : Option (List ℕ)) (table : Table W) (output : W)
     (rows : List Row) (passed : Sent) (holds : Holds o table output rows) (sent : waiting_of table ≡ [])
@@ -209,8 +199,7 @@ module _ {W : Type 0} (o : outputs.Ghosts W) (text : Option (List ℕ)) (table :
 
   broken_so : (b : Bool) (c : Cause) → is_of_reading c ≡ b → (is_of_reading c ≡ true → IsReadingMet met c)
       → (c ≡ cause.SinkFault → table_fault table ≡ Some cause.SinkFault) → EndsSo (end.Broken c)
-  broken_so true c b reading sink = reading_so c b (reading b)
-  broken_so false c b reading sink = threads_so c b sink
+  broken_so b c of reading sink = grind (arith, reading_so, threads_so)
 
   -- a source with another header has no table
   pub headless : (e : SourceEnd) → IfBroken e (IsLowest (IsMet met))

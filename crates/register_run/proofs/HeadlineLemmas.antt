@@ -1,23 +1,28 @@
--- From the sources that have ended, each by itself, to the lists of a report.
-use Rattle.std.proofs.Common.{rules, ◌≡◌, ◌∙◌, ap, refl, sym, subst, List, [], ◌∷◌, ◌++◌, map, length, append_assoc}
-use Rattle.std.proofs.Common.{append-nil, arith, true, ◌↔◌, All}
-use Rattle.register_run.proofs.Common.{map-append, Setup, SourceEnd, IfWhole, layout_of, reading_of, Stripe, Ran}
-use Rattle.register_run.proofs.Common.{case_of, end_of, ended_case, output_of, ran_of, IsSourceEnd, IsMachineWithTable}
-use Rattle.register_run.proofs.Common.{AreThreadsOf, cases}
+-- From the sources that have ended, each by itself, to the lists of a report. What is known of their threads.
+use Rattle.std.proofs.Common.{◌↔◌}
+use Rattle.register_run.proofs.Common.{rules, ◌≡◌, ◌∙◌, ap, refl, sym, subst, List, [], ◌∷◌, ◌++◌, map, length}
+use Rattle.register_run.proofs.Common.{append_assoc, append-nil, arith, true, All, ◌⊎◌, ◌≤◌, ◌<◌, ℕ, zero, suc, inl}
+use Rattle.register_run.proofs.Common.{inr, replicate, Err, IfSome, leb-true, Case, case, AreOfMachine, map-append}
+use Rattle.register_run.proofs.Common.{Setup, SourceEnd, layout_of, reading_of, Stripe, Ran, case_of, end_of}
+use Rattle.register_run.proofs.Common.{ended_case, output_of, ran_of, IsMachineWithTable, cases, and_parts, Cause}
+use Rattle.register_run.proofs.Common.{stripe_setup, is_of_table, AreStaffed, Findings}
+use Rattle.std.proofs.lemmas.List.Elements.{All-cons}
 use Rattle.std.specs.declared.io.traits.Read as reads
+use Rattle.register_records.specs.Sources.{is_whole_end, IfWhole, IfBroken, cause_number}
+use Rattle.register_records.specs.declared.ends.Note.{Note}
 use Rattle.register_records.specs.declared.outputs.Output as outputs
 use Rattle.register_records.specs.declared.ends.Cause.TheVariants as cause
 use Rattle.register_records.specs.declared.ends.SourceEnd.TheVariants as end
-use Rattle.register_records.specs.Sources.{is_whole_end}
 use Rattle.register_run.specs.declared.reports.Report.{Report}
 use Rattle.register_run.specs.declared.reports.Verdict.TheVariants.{Complete}
 use Rattle.register_run.specs.declared.ended_sources.EndedSource.{EndedSource}
 use Rattle.register_run.specs.declared.running_sources.RunningSource.{RunningSource}
-use Rattle.register_run.specs.Cases.{Case, case}
-use Rattle.register_run.specs.Headline.{AtEachPlace}
-use Rattle.register_run.specs.Histories.{AreOfMachine}
+use Rattle.register_run.specs.Headline.{AtEachPlace, IsSourceEnd}
 use Rattle.register_run.specs.Reports.{IsReport, IsReportOfMachine, IsReportOfThreads}
-use Rattle.register_run.specs.Threads.{AreThreads}
+use Rattle.register_run.specs.Threads.{AreThreads, HasRing, AreThreadsOf}
+use Rattle.register_run.specs.MetCauses.{HasMetNone, IsLowest, IsMet}
+use Rattle.register_run.proofs.HistoryLemmas.{staff}
+use Rattle.register_run.proofs.EndedSourceLemmas.{thread_outcome}
 
 module _ {R W : Type 0} {o : outputs.Ghosts W} where
   -- one more running source
@@ -117,3 +122,46 @@ module _ {R W : Type 0} {r : reads.Ghosts R} {o : outputs.Ghosts W} (setup : Set
       rw (wrote, ends, by) known.machine,
       rw (ends, by) known.threads,
     )
+
+-- ---- what is known of the threads of a source, by how it ended
+
+some_stripe : (setup : Setup) → 0 < setup.stripes
+some_stripe setup = grind (arith, leb-true, and_parts)
+
+-- stripes that were started by a setup have its ring
+rings_of : (setup : Setup) (stripes : List Stripe) (n : ℕ) → map stripe_setup stripes ≡ replicate n setup
+    → All (HasRing setup.ring) stripes
+rings_of setup [] n is = λ k d below. absurd (omega (arith, below))
+rings_of setup (stripe ∷ stripes) zero is = absurd (cc)
+rings_of setup (stripe ∷ stripes) (suc n) is =
+    let first : stripe_setup stripe ≡ setup = cc in let others : map stripe_setup stripes ≡ replicate n setup = cc in
+    let ring : stripe.setup.value.ring ≡ setup.ring = ap (λ (s : Setup). s.ring) first in
+    All-cons (HasRing setup.ring) stripe stripes (stripe.room ∙ ring, stripe.room_for_rows ∙ ring)
+    (rings_of setup stripes n others)
+
+-- the lowest of causes of which one is 1 or 2
+lowest_two : (c : Cause) → cause_number c ≤ 2 → (c ≡ cause.NoMemory) ⊎ (c ≡ cause.NoThread)
+lowest_two c low = grind arith
+
+module _ (setup : Setup) (met : Findings) (journal : List Note)
+    (of_table : IfSome met.fault (λ f. is_of_table f ≡ true)) where
+  low_end : (e : SourceEnd) (c : Cause) → cause_number c ≤ 2 → met.sent.outcome ≡ Err c
+      → IfWhole e (HasMetNone met journal) → IfBroken e (IsLowest (IsMet met))
+      → (e ≡ end.Broken cause.NoMemory) ⊎ (e ≡ end.Broken cause.NoThread)
+  low_end e c low outcome whole lowest = grind (arith, lowest_two)
+
+  pub threads_of : (ran : Ran) (e : SourceEnd) → ran.findings.value ≡ met
+      → AreStaffed setup met.sent.outcome ran.stripes.value.items
+      → IfWhole e (HasMetNone met journal) → IfBroken e (IsLowest (IsMet met)) → AreThreadsOf setup e ran
+  threads_of ran e is_met (inl (staffed, started)) whole lowest =
+      search (rules, staff, rings_of, some_stripe, thread_outcome)
+  threads_of ran e is_met (inr (none, why)) whole lowest = record {
+    stripes = λ some. absurd (some none);
+    rings = subst (All (HasRing setup.ring)) (sym none) (λ k d below. absurd (omega (arith, below)));
+    none = λ is. elim why [
+      | inl outcome ↦ low_end e cause.NoMemory (omega arith) outcome whole lowest
+      | inr outcome ↦ low_end e cause.NoThread (omega arith) outcome whole lowest
+    ];
+    unstarted = λ is. none;
+    lowest = subst (λ m. IfBroken e (IsLowest (IsMet m))) (sym is_met) lowest;
+  }

@@ -1,18 +1,25 @@
--- Lanes that carried what the machine deals have the histories of the machine's lanes.
-use Rattle.std.proofs.Common.{rules, ◌≡◌, ◌∙◌, ◌+◌, ◌<◌, ℕ, List, [], ◌∷◌, true, false, ap, arith, map, refl, sym, Bool}
-use Rattle.std.proofs.Common.{Err, IfOk, Ok, Option, Result, is_ok, length, nat_lt, replicate, leb-true, lt-ltb}
-use Rattle.register_run.proofs.Common.{∥∥₁_map, and_parts, length-map, AllZip-long, Closed, AreNumberedFrom, Numbered}
-use Rattle.register_run.proofs.Common.{Entry, reading_of, Setup, Cause, Actor, start, run, AnyTook, HasPassedOn}
-use Rattle.register_run.proofs.Common.{HavePassedOn, feeding_lane, stripe_setup, WereDealt, dealt, Carries, AreOfLanes}
-use Rattle.register_run.proofs.Common.{World, Stripe}
-use Rattle.std.proofs.lemmas.List.{length-replicate}
+-- The machine: lanes that carried what it deals have the histories of its lanes, and its law over every schedule.
+use Rattle.std.proofs.Common.{is_ok, nat_lt, lt-ltb, if◌then◌else◌}
+use Rattle.register_run.proofs.Common.{rules, ◌≡◌, ◌∙◌, ◌+◌, ◌<◌, ℕ, List, [], ◌∷◌, true, false, ap, arith, map, refl}
+use Rattle.register_run.proofs.Common.{sym, Bool, Err, IfOk, Ok, Option, Result, length, replicate, leb-true}
+use Rattle.register_run.proofs.Common.{length-replicate, Fields, body_of, HaveHistories, HasSent, ∥∥₁_map, and_parts}
+use Rattle.register_run.proofs.Common.{length-map, AllZip-long, Closed, AreNumberedFrom, Numbered, Entry, reading_of}
+use Rattle.register_run.proofs.Common.{Setup, Cause, Actor, start, AnyTook, HasPassedOn, HavePassedOn, feeding_lane}
+use Rattle.register_run.proofs.Common.{stripe_setup, WereDealt, dealt, Carries, AreOfLanes, World, Stripe, AllZip}
+use Rattle.register_run.proofs.Common.{HasFirstEntries, Reading, record_limit, numbers}
 use mathlib.Core.Bool.{beq}
 use Rattle.striped_lanes.specs.Histories.{entries_over, rows_over}
-use Rattle.striped_lanes.specs.Places.{table_rows}
+use Rattle.striped_lanes.specs.Places.{table_rows, HaveNumbersFrom, KeepNumbers}
 use Rattle.striped_lanes.proofs.OneByOneLemmas.{all_over, one_by_one}
 use Rattle.striped_lanes.proofs.PartLemmas.{part}
-use Rattle.register_run.specs.Histories.{HaveHistories}
-use Rattle.register_run.specs.JoinedThreads.{HasSent}
+use Rattle.striped_lanes.proofs.PlaceLemmas.{numbered_front}
+use Rattle.register_records.specs.Entries.{entries_from}
+use Rattle.register_records.specs.Seals.{entry_records}
+use Rattle.register_records.specs.declared.setups.Form.{Form}
+use Rattle.striped_lanes.specs.Schedules.{run}
+use Rattle.date_texts.specs.declared.target.Target.{Target}
+use Rattle.register_records.specs.Outcomes.{IsRowOf}
+use Rattle.register_run.specs.EveryScheduleLaw.{IsWorldOf}
 use Rattle.register_run.proofs.StripeLemmas.{took_dealt}
 
 -- what is dealt by numbers is what is dealt by places
@@ -27,12 +34,7 @@ have_histories : (w : World) (schedule : List Actor) (given : List Numbered) (i 
     → ((j : ℕ) → rows_over w j schedule start ≡ map w.row_of (dealt w j given))
     → HavePassedOn true stripes closed → WereDealt w i given closed → HaveHistories w schedule i stripes closed
 have_histories w schedule given i (stripe ∷ stripes) (c ∷ closed) es rs on deals =
-    let sure = on.0.confirmed in (
-      sure,
-      deals.0 sure ∙ sym (es i),
-      ap (λ (l : List Numbered). map w.row_of l) (on.0.all refl ∙ deals.0 sure) ∙ sym (rs i),
-      have_histories w schedule given (i + 1) stripes closed es rs on.1 deals.1,
-    )
+    grind (arith, have_histories w schedule given (i + 1) stripes closed es rs on.1 deals.1)
 have_histories w schedule given i stripes closed es rs on deals = on
 
 -- the lanes of stripes that passed all on have the histories of the machine's lanes in a schedule
@@ -85,3 +87,34 @@ joined_of_machine text setup stripes closed n (Ok count) true complete same is s
       took_dealt given true stripes closed deals on,
     ))
 joined_of_machine text setup stripes closed n (Ok count) false complete same is staffed from sent on = cc
+
+-- ---- the law of the machine, for the worlds of texts: their entries are numbered from 1, and so are their rows
+
+numbered_if : (b : Bool) (k : ℕ) (x : Numbered) (entries : List Numbered) → x.number ≡ k
+    → HaveNumbersFrom numbers (k + 1) entries → HaveNumbersFrom numbers k (if b then x ∷ entries else [])
+numbered_if b k x entries first rest = grind arith
+
+-- the entries of a text are numbered from 1, and their rows have their numbers
+entries_numbered : (form : Form) (k : ℕ) (records : List Fields)
+    → HaveNumbersFrom numbers (k + 1) (entries_from form k records)
+unfolding entries_from
+entries_numbered form k [] = tt
+entries_numbered form k (r ∷ records) =
+    numbered_if (nat_lt k record_limit) (k + 1) (record { number = k + 1; body = body_of form r })
+    (entries_from form (k + 1) records) refl (entries_numbered form (k + 1) records)
+
+first_entries_numbered : (reading : Reading) (text : Option (List ℕ)) (entries : List Numbered)
+    → HasFirstEntries reading text entries → HaveNumbersFrom numbers 1 entries
+first_entries_numbered reading text entries (rest, (records, has, are)) =
+    numbered_front numbers 1 entries rest
+    (rw (← are) at (entries_numbered reading.form 0 (entry_records reading.form records)))
+
+rows_keep_numbers : (targets : List Target) (w : World) (entries : List Numbered)
+    → AllZip (IsRowOf targets) entries (map w.row_of entries) → KeepNumbers numbers w entries
+rows_keep_numbers targets w [] h = tt
+rows_keep_numbers targets w (x ∷ entries) h = (h.0.number, rows_keep_numbers targets w entries h.1)
+
+pub numbers_of : {reading : Reading} {targets : List Target} {text : Option (List ℕ)} {w : World}
+    → IsWorldOf reading targets text w → HaveNumbersFrom numbers 1 w.entries × KeepNumbers numbers w w.entries
+numbers_of {w = w} h =
+    (first_entries_numbered _ _ w.entries h.entries, rows_keep_numbers _ w w.entries h.rows)

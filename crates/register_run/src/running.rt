@@ -72,7 +72,7 @@ fn start_all<'s, 'e, T: Host, R: Read + Send + Drop + 'e, W: Output + Drop, G: G
 }
 
 /// Visits each source once. Returns whether there was an item at one of them.
-#[tactic(auto, using(crate::proofs::MoveLemmas::set_same))]
+#[tactic(auto, using(crate::proofs::StripeLemmas::set_same))]
 fn visit_all<R: Read + Drop, W: Output + Drop>(
     running_sources: &mut Vec<RunningSource<R, W>>,
 ) -> bool

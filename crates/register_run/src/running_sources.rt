@@ -115,7 +115,7 @@ impl<R: Read + Drop, W: Output + Drop> RunningSource<R, W> {
     }
 
     /// Looks into the lane that has the turn, and takes one item, where one is there now.
-    #[tactic(auto, using(crate::proofs::PoppedLemmas::looked_at, crate::proofs::StripeLemmas::same_stripes))]
+    #[tactic(auto, using(crate::proofs::RunningSourceLemmas::looked_at, crate::proofs::StripeLemmas::same_stripes))]
     fn step(&mut self) -> bool
         requires { length (waiting_of self.old.table) < MOST_WAITING }
         ensures case { case_of self.new ≡ case_of self.old }
@@ -155,7 +155,7 @@ impl<R: Read + Drop, W: Output + Drop> RunningSource<R, W> {
     }
 
     /// Takes the row that a look found, and gives the turn on.
-    #[tactic(auto, using(crate::proofs::PoppedLemmas::popped_at, crate::proofs::StripeLemmas::same_stripes))]
+    #[tactic(auto, using(crate::proofs::RunningSourceLemmas::popped_at, crate::proofs::StripeLemmas::same_stripes))]
     fn pass(&mut self)
         requires within { self.old.turn < length self.old.stripes.items }
         requires next { IsRowNextAt self.old.stripes.items self.old.turn }

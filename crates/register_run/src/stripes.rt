@@ -196,7 +196,7 @@ impl Stripe {
     }
 
     /// What is next, after a look. An end and a stop are taken.
-    #[tactic(auto, using(crate::proofs::ItemLemmas::same_seen), unfolding(crate::specs::Stripes::StripeTook))]
+    #[tactic(auto, using(crate::proofs::CarriedLemmas::same_seen), unfolding(crate::specs::Stripes::StripeTook))]
     fn take_found(&mut self) -> Look
         ensures same { IsSameStripe self.old self.new }
         ensures looked { HasLooked self.old self.new result }
@@ -218,7 +218,7 @@ impl Stripe {
     }
 
     /// The row that a look found, where it lies.
-    #[tactic(auto, using(crate::proofs::ItemLemmas::seen_next), unfolding(crate::specs::Stripes::StripeTook))]
+    #[tactic(auto, using(crate::proofs::CarriedLemmas::seen_next), unfolding(crate::specs::Stripes::StripeTook))]
     pub(crate) fn row(&self) -> Option<&Row>
         ensures { IfSome result (λ row. StripeTook self.now row.now) }
     {

@@ -1,13 +1,13 @@
 -- Each act changes nothing, or takes one entry one place forward and keeps the invariant.
 use Rattle.std.proofs.Common.{rules, ◌≡◌, ◌<◌, ◌+◌, ◌++◌, ℕ, suc, List, [], ◌∷◌, length, Option, Some, None, refl, sym}
-use Rattle.std.proofs.Common.{ap, ◌∙◌, inl, inr, arith, append_assoc, map, option_to_list, ◌%◌, slice_get, ltb-true}
+use Rattle.std.proofs.Common.{ap, ◌∙◌, arith, append_assoc, map, option_to_list, ◌%◌, slice_get, ltb-true}
 use Rattle.std.proofs.Common.{lt-ltb, append-nil, length-append}
 use Rattle.std.proofs.lemmas.List.{length-map, length_push, map-append}
 use Rattle.std.proofs.lemmas.Nat.{mod_below}
 use Rattle.striped_lanes.specs.Machine.{World, Stripe, State, Actor, Reader, Converter, Writer}
-use Rattle.striped_lanes.specs.Machine.{act, convert, pop_entry, pop_row, push_entry, turn, with_stripe}
+use Rattle.striped_lanes.specs.Machine.{act, turn, with_stripe}
 use Rattle.striped_lanes.proofs.InvariantLemmas.{Holds, Kept, Steps, StaysOrSteps, weight, put_holds, put_further}
-use Rattle.striped_lanes.proofs.InvariantLemmas.{if_room, slice_get_rest, first_is, map_first}
+use Rattle.striped_lanes.proofs.InvariantLemmas.{slice_get_rest, first_is, map_first}
 use Rattle.striped_lanes.proofs.PartLemmas.{part, part_append, part_head, part_other, part_own, part_within}
 
 -- the state that each act gives where it changes something
@@ -72,19 +72,9 @@ module _ {E R : Type 0} (w : World E R) (some_converters : 0 < w.converters) (s 
   stripe_steps i u some k e =
       let c = w.converters in
       let d = length v.done in
-      record {
-        kept = record {
-          done = v.done;
-          between = v.between;
-          left = v.left;
-          entries = v.entries;
-          pushed = v.pushed;
-          popped = v.popped;
-          stripes = put_holds w (λ j. part c j d v.between) s.stripes i u k (λ j n. v.stripes j);
-        };
-        further =
-            omega (arith, e, put_further w s.stripes i u (part_within c i d v.between some_converters some));
-      }
+      let stripes = put_holds w (λ j. part c j d v.between) s.stripes i u k (λ j n. v.stripes j) in
+      let further = put_further w s.stripes i u (part_within c i d v.between some_converters some) in
+      search (rules, stripes, further)
 
   pop_entry_steps : (i : ℕ) (x : E) (lane : List E) → (s.stripes i).entry_lane ≡ x ∷ lane
       → (s.stripes i).hand ≡ None
@@ -167,30 +157,10 @@ module _ {E R : Type 0} (w : World E R) (some_converters : 0 < w.converters) (s 
       }
 
   -- any actor
-  reader_stays_or_steps : (o : Option E) → slice_get w.entries s.pushed ≡ o
-      → StaysOrSteps w s (push_entry w s (turn w s.pushed) o)
-  reader_stays_or_steps None e = inl refl
-  reader_stays_or_steps (Some x) e = search (rules, if_room, push_steps, ltb-true)
-
-  pop_stays_or_steps : (i : ℕ) (lane : List E) → (s.stripes i).entry_lane ≡ lane → (s.stripes i).hand ≡ None
-      → StaysOrSteps w s (pop_entry s i lane)
-  pop_stays_or_steps i [] lane_is hand_is = inl refl
-  pop_stays_or_steps i (x ∷ lane) lane_is hand_is = inr (pop_entry_steps i x lane lane_is hand_is)
-
-  converter_stays_or_steps : (i : ℕ) (hand : Option E) → (s.stripes i).hand ≡ hand
-      → StaysOrSteps w s (convert w s i hand)
-  converter_stays_or_steps i None e = pop_stays_or_steps i (s.stripes i).entry_lane refl e
-  converter_stays_or_steps i (Some x) e = search (rules, if_room, push_row_steps, ltb-true)
-
-  writer_stays_or_steps : (i : ℕ) (rows : List R) → i ≡ turn w (length s.popped) → (s.stripes i).row_lane ≡ rows
-      → StaysOrSteps w s (pop_row s i rows)
-  writer_stays_or_steps i [] on_turn e = inl refl
-  writer_stays_or_steps i (row ∷ lane) on_turn e = inr (pop_row_steps i row lane on_turn e)
-
   pub act_stays_or_steps : (a : Actor) → StaysOrSteps w s (act w a s)
-  act_stays_or_steps Reader = reader_stays_or_steps (slice_get w.entries s.pushed) refl
-  act_stays_or_steps (Converter i) = converter_stays_or_steps i (s.stripes i).hand refl
-  act_stays_or_steps Writer = search (rules, writer_stays_or_steps)
+  act_stays_or_steps Reader = grind (arith, push_steps, ltb-true)
+  act_stays_or_steps (Converter i) = grind (arith, pop_entry_steps, push_row_steps, ltb-true)
+  act_stays_or_steps Writer = grind (arith, pop_row_steps)
 
   -- each act takes a step where it can
   pub reader_steps : (x : E) → slice_get w.entries s.pushed ≡ Some x

@@ -1,12 +1,14 @@
--- What every act keeps, and how far the entries have come.
-use Rattle.std.proofs.Common.{rules, ◌≡◌, ◌<◌, ◌≤◌, ◌+◌, ◌*◌, ◌++◌, ℕ, List, [], ◌∷◌, length, Some, Bool, true, false}
-use Rattle.std.proofs.Common.{inl, inr, refl, ap, arith, ◌⊎◌, ◌≢◌, map, option_to_list, if◌then◌else◌, slice_get}
-use Rattle.std.proofs.Common.{eq-eqb, ne_eqb}
+-- What every act keeps, and how far the entries have come. What follows from it for a state.
+use Rattle.std.proofs.Common.{rules, ◌≡◌, ◌<◌, ◌≤◌, ◌+◌, ◌*◌, ◌++◌, ℕ, List, [], ◌∷◌, length, Some}
+use Rattle.std.proofs.Common.{refl, ap, arith, ◌⊎◌, ◌≢◌, map, option_to_list, slice_get}
+use Rattle.std.proofs.Common.{eq-eqb, ne_eqb, ◌∙◌, length-append, take_at}
 use Rattle.std.proofs.lemmas.Bool.{cases_eq}
+use Rattle.std.proofs.lemmas.List.{length-map, map-append}
 use Rattle.striped_lanes.specs.Machine.{World, Stripe, State, put}
-use Rattle.striped_lanes.specs.Schedules.{total}
-use Rattle.striped_lanes.proofs.PartLemmas.{part}
-use Rattle.striped_lanes.proofs.TotalLemmas.{total_put}
+use Rattle.striped_lanes.specs.Schedules.{total, standing, standing_in}
+use Rattle.striped_lanes.specs.Places.{ArePoppedInOrder}
+use Rattle.striped_lanes.proofs.PartLemmas.{part, total_put, part_lengths, total_bound, total_le, total_same}
+use Rattle.striped_lanes.proofs.PartLemmas.{total_times}
 
 -- a stripe in which just these entries stand: the first of them, which are converted, as their rows
 pub record Holds {E R : Type 0} (w : World E R) (entries : List E) (t : Stripe E R) : Type 0 where
@@ -46,11 +48,6 @@ steps_change w s t h e = let same = ap (progress w) e in omega (arith, h.further
 abbrev pub StaysOrSteps : {E R : Type 0} → World E R → State E R → State E R → Type 0
 StaysOrSteps w s t = (t ≡ s) ⊎ Steps w s t
 
-pub if_room : {E R : Type 0} (w : World E R) (s t : State E R) (b : Bool) → (b ≡ true → Steps w s t)
-    → StaysOrSteps w s (if b then t else s)
-if_room w s t true h = inr (h refl)
-if_room w s t false h = inl refl
-
 pub put_holds : {E R : Type 0} (w : World E R) (entries : ℕ → List E) (old : ℕ → Stripe E R) (i : ℕ)
     (t : Stripe E R)
     → Holds w (entries i) t → ((j : ℕ) → (j ≡ i → ⊥) → Holds w (entries j) (old j))
@@ -75,3 +72,39 @@ pub map_first : {X Y : Type 0} (f : X → Y) (xs : List X) (y : Y) (ys : List Y)
     → (x : X) × (more : List X) × (xs ≡ x ∷ more) × (y ≡ f x) × (ys ≡ map f more)
 map_first f [] y ys e = cc
 map_first f (x ∷ xs) y ys e = let a : y ≡ f x = cc in let b : ys ≡ map f xs = cc in (x, xs, refl, a, b)
+
+-- ---- what the invariant says of the rows that are popped, and of how many entries stand between the ends
+
+module _ {E R : Type 0} (w : World E R) (some_converters : 0 < w.converters) (s : State E R) (v : Kept w s) where
+  pub popped_count : length s.popped ≡ length v.done
+  popped_count = ap length v.popped ∙ length-map v.done w.row_of
+
+  pub all_count : length w.entries ≡ length v.done + (length v.between + length v.left)
+  all_count = grind (arith, v.entries, length-append v.done (v.between ++ v.left), length-append v.between v.left)
+
+  -- the rows that are popped
+  pub popped_in_order : ArePoppedInOrder w s
+  popped_in_order = search (rules, map-append, take_at)
+
+  -- how many entries stand between the ends
+  pub stripe_count : (i : ℕ) → standing_in (s.stripes i) ≡ length (part w.converters i (length v.done) v.between)
+  stripe_count i = search (rules, length-map, length-append)
+
+  all_standing : standing w s ≡ length v.between
+  all_standing =
+      let c = w.converters in
+      let d = length v.done in
+      total_same c (λ i. standing_in (s.stripes i)) (λ i. length (part c i d v.between)) (λ i l. stripe_count i)
+      ∙ part_lengths c d v.between some_converters
+
+  pub few_standing : standing w s ≤ w.converters * (2 * w.ring + 1)
+  few_standing =
+      total_bound w.converters (2 * w.ring + 1) _ (λ i. grind (arith, (v.stripes i).room, (v.stripes i).row_room))
+
+  -- how far the entries can come
+  pub progress_bound : progress w s ≤ 4 * length w.entries
+  progress_bound =
+      let most =
+      total_le w.converters (λ i. weight (s.stripes i)) (λ i. 3 * standing_in (s.stripes i)) (λ i. omega arith) in
+      let thrice = total_times w.converters 3 (λ i. standing_in (s.stripes i)) in
+      omega (arith, most, thrice, all_standing, popped_count, all_count)

@@ -1,5 +1,5 @@
 -- A schedule that takes one entry after the other through the machine, and what goes over its lanes.
-use Rattle.std.proofs.Common.{rules, arith, ◌≡◌, ◌∙◌, ◌+◌, ◌++◌, ℕ, List, [], ◌∷◌, Some, None, true, false, ap}
+use Rattle.std.proofs.Common.{rules, arith, ◌≡◌, ◌∙◌, ◌+◌, ◌++◌, ℕ, List, [], ◌∷◌, Some, None, true, ap}
 use Rattle.std.proofs.Common.{append_assoc, append-nil, length, map, refl, sym, ◌==◌, Bool, if◌then◌else◌, nat_lt}
 use Rattle.std.proofs.Common.{slice_get, eq-eqb, ne_eqb}
 use Rattle.std.proofs.lemmas.Bool.{cases_eq}
@@ -52,13 +52,11 @@ module _ {E R : Type 0} (w : World E R) (k : ℕ) (rows : List R) (e : E) (next 
 
 module _ {E R : Type 0} (w : World E R) (room : nat_lt 0 w.ring ≡ true) where
   join : {X : Type 0} (b : Bool) (x : X) (xs : List X) → (if b then x ∷ [] else []) ++ xs ≡ (if b then x ∷ xs else xs)
-  join true x xs = refl
-  join false x xs = refl
+  join b x xs = grind arith
 
   map_join : (b : Bool) (e : E) (es : List E)
       → (if b then w.row_of e ∷ [] else []) ++ map w.row_of es ≡ map w.row_of (if b then e ∷ es else es)
-  map_join true e es = refl
-  map_join false e es = refl
+  map_join b e es = grind arith
 
   -- what goes over the lanes is what is dealt to the stripe, and all rows are popped
   pub all_over : (left past : List E) (k : ℕ) (rows : List R) → w.entries ≡ past ++ left → length past ≡ k

@@ -1,15 +1,110 @@
--- Each entry that is pushed stands in one place.
-use Rattle.std.proofs.Common.{rules, ◌≡◌, ◌≢◌, ◌<◌, ◌≤◌, ◌+◌, ◌++◌, ℕ, length, inl, inr, refl, sym, ap, ◌∙◌}
-use Rattle.std.proofs.Common.{arith, append_assoc, length-append, ◌⊎◌, option_to_list}
+-- Where entries stand, by their numbers: how often a number stands among entries and among the parts that they are
+-- dealt into, that each entry stands in one place, and that the actor that has to move the next one can.
+use Rattle.std.proofs.Common.{rules, ◌≡◌, ◌<◌, ◌≤◌, ◌+◌, ◌-◌, ◌++◌, ℕ, List, [], ◌∷◌, length, inl, inr, refl, sym, ap}
+use Rattle.std.proofs.Common.{◌∙◌, arith, ◌%◌, ◌==◌, cond, count_by, map, eq-eqb, ne_eqb, ◌≢◌, append_assoc}
+use Rattle.std.proofs.Common.{length-append, ◌⊎◌, option_to_list, Option, Some, None, slice_get}
 use Rattle.std.proofs.lemmas.Bool.{cases_eq}
-use Rattle.striped_lanes.specs.Machine.{World, State}
-use Rattle.striped_lanes.specs.Places.{Place, EntryLane, InConverter, RowLane, Popped, EachStandsOnce, Numbers}
-use Rattle.striped_lanes.specs.Places.{HaveNumbersFrom, KeepNumbers, StandsOnlyAt, stripe_of, times_at}
-use Rattle.striped_lanes.proofs.InvariantLemmas.{Kept}
-use Rattle.striped_lanes.proofs.NumberLemmas.{keep_front, keep_part, keep_rest, numbered_front}
-use Rattle.striped_lanes.proofs.NumberLemmas.{numbered_rest, row_numbers, times, times_append, times_in, times_once}
-use Rattle.striped_lanes.proofs.NumberLemmas.{times_other_part, times_own_part}
-use Rattle.striped_lanes.proofs.PartLemmas.{part}
+use Rattle.std.proofs.lemmas.List.{map-append, nil_from_length}
+use Rattle.std.proofs.lemmas.List.Sums.{sum_by-append, sum_by-cons}
+use Rattle.striped_lanes.specs.Machine.{World, State, Actor, Reader, Converter, Writer, act, turn}
+use Rattle.striped_lanes.specs.Places.{HaveNumbersFrom, KeepNumbers, Numbers, Place, EntryLane, InConverter, RowLane}
+use Rattle.striped_lanes.specs.Places.{Popped, EachStandsOnce, StandsOnlyAt, stripe_of, times_at, GoesOn, HasToMove}
+use Rattle.striped_lanes.specs.Places.{not_pushed, in_entry_lane, in_converter, in_row_lane}
+use Rattle.striped_lanes.specs.Schedules.{Changes}
+use Rattle.striped_lanes.proofs.PartLemmas.{part, part_own, part_other}
+use Rattle.striped_lanes.proofs.InvariantLemmas.{Kept, Steps, slice_get_rest, steps_change, all_count, popped_count}
+use Rattle.striped_lanes.proofs.InvariantLemmas.{stripe_count}
+use Rattle.striped_lanes.proofs.ActLemmas.{reader_steps, popping_converter_steps, pushing_converter_steps, writer_steps}
+
+-- how often a number stands in a list
+abbrev pub times_in : ℕ → List ℕ → ℕ
+times_in k xs = count_by (λ number. number == k) xs
+
+pub times_in_append : (k : ℕ) (xs ys : List ℕ) → times_in k (xs ++ ys) ≡ times_in k xs + times_in k ys
+times_in_append k xs ys = sum_by-append (λ number. cond (number == k) 1 0) xs ys
+
+module _ {E R : Type 0} (numbers : Numbers E R) where
+  abbrev pub entry_numbers : List E → List ℕ
+  entry_numbers entries = map numbers.of_entry entries
+
+  -- how often a number stands among entries
+  abbrev pub times : ℕ → List E → ℕ
+  times k entries = times_in k (entry_numbers entries)
+
+  pub times_append : (k : ℕ) (xs ys : List E) → times k (xs ++ ys) ≡ times k xs + times k ys
+  times_append k xs ys = ap (times_in k) (map-append _ xs ys) ∙ times_in_append k (entry_numbers xs) (entry_numbers ys)
+
+  times_cons : (k : ℕ) (x : E) (xs : List E)
+      → times k (x ∷ xs) ≡ cond (numbers.of_entry x == k) 1 0 + times k xs
+  times_cons k x xs = sum_by-cons (λ number. cond (number == k) 1 0) (numbers.of_entry x) (entry_numbers xs)
+
+  pub times_cons_own : (k : ℕ) (x : E) (xs : List E) → numbers.of_entry x ≡ k → times k (x ∷ xs) ≡ 1 + times k xs
+  times_cons_own k x xs e = rw (eq-eqb (numbers.of_entry x) k e) at (times_cons k x xs)
+
+  times_cons_other : (k : ℕ) (x : E) (xs : List E) → (numbers.of_entry x ≡ k → ⊥) → times k (x ∷ xs) ≡ times k xs
+  times_cons_other k x xs n = let e = rw (ne_eqb (numbers.of_entry x) k n) at (times_cons k x xs) in omega (arith, e)
+
+  -- numbered entries in two pieces
+  pub numbered_front : (k : ℕ) (xs ys : List E) → HaveNumbersFrom numbers k (xs ++ ys) → HaveNumbersFrom numbers k xs
+  numbered_front k [] ys h = tt
+  numbered_front k (x ∷ xs) ys h = (h.0, numbered_front (k + 1) xs ys h.1)
+
+  pub numbered_rest : (k : ℕ) (xs ys : List E) → HaveNumbersFrom numbers k (xs ++ ys)
+      → HaveNumbersFrom numbers (k + length xs) ys
+  numbered_rest k [] ys h = let e : k + 0 ≡ k = omega arith in rw e h
+  numbered_rest k (x ∷ xs) ys h = grind (arith, numbered_rest (k + 1) xs ys h.1)
+
+  -- a number below the first stands nowhere, and each number from the first to the last stands once
+  times_below : (k first : ℕ) (xs : List E) → HaveNumbersFrom numbers first xs → k < first → times k xs ≡ 0
+  times_below k first [] h l = refl
+  times_below k first (x ∷ xs) h l = grind (arith, times_below k (first + 1) xs h.1 (omega arith))
+
+  pub times_once : (k first : ℕ) (xs : List E) → HaveNumbersFrom numbers first xs → first ≤ k → k < first + length xs
+      → times k xs ≡ 1
+  times_once k first [] h low high = absurd (omega arith)
+  times_once k first (x ∷ xs) h low high =
+      elim (cases_eq first k) [
+        | inl e ↦
+            omega (arith, times_cons_own k x xs (h.0 ∙ e), times_below k (first + 1) xs h.1 (omega (arith, e)))
+        | inr n ↦
+            let other : numbers.of_entry x ≡ k → ⊥ = λ e. n (sym h.0 ∙ e) in
+            let more : first < k = grind (arith, n) in
+            times_cons_other k x xs other ∙ times_once k (first + 1) xs h.1 (omega arith) (omega arith)
+      ]
+
+  -- a number stands in its own stripe's part as often as among all
+  pub times_own_part : (c i k d : ℕ) (xs : List E) → HaveNumbersFrom numbers (d + 1) xs → 1 ≤ k → (k - 1) % c ≡ i
+      → times k (part c i d xs) ≡ times k xs
+  times_own_part c i k d [] h some own = refl
+  times_own_part c i k d (x ∷ xs) h some own =
+      let rest = times_own_part c i k (d + 1) xs h.1 some own in
+      search (rules, cases_eq, part_own, times_cons, part_other, times_cons_other, rest)
+
+  -- and in no other part
+  pub times_other_part : (c i k d : ℕ) (xs : List E) → HaveNumbersFrom numbers (d + 1) xs → 1 ≤ k
+      → ((k - 1) % c ≡ i → ⊥) → times k (part c i d xs) ≡ 0
+  times_other_part c i k d [] h some n = refl
+  times_other_part c i k d (x ∷ xs) h some n = grind (arith, times_other_part c i k (d + 1) xs h.1 some n)
+
+  pub keep_front : (w : World E R) (xs ys : List E) → KeepNumbers numbers w (xs ++ ys) → KeepNumbers numbers w xs
+  keep_front w [] ys h = tt
+  keep_front w (x ∷ xs) ys h = (h.0, keep_front w xs ys h.1)
+
+  pub keep_rest : (w : World E R) (xs ys : List E) → KeepNumbers numbers w (xs ++ ys) → KeepNumbers numbers w ys
+  keep_rest w [] ys h = h
+  keep_rest w (x ∷ xs) ys h = keep_rest w xs ys h.1
+
+  pub keep_part : (w : World E R) (c i d : ℕ) (xs : List E) → KeepNumbers numbers w xs
+      → KeepNumbers numbers w (part c i d xs)
+  keep_part w c i d [] h = tt
+  keep_part w c i d (x ∷ xs) h = grind (arith, cases_eq, part_own, part_other, keep_part w c i (d + 1) xs h.1)
+
+  pub row_numbers : (w : World E R) (xs : List E) → KeepNumbers numbers w xs
+      → map numbers.of_row (map w.row_of xs) ≡ entry_numbers xs
+  row_numbers w [] h = refl
+  row_numbers w (x ∷ xs) h = rw (h.0, row_numbers w xs h.1) refl
+
+-- ---- each entry that is pushed stands in one place
 
 -- entry k stands once in stripe i or among those popped, and in no other stripe
 pub record StandsIn {E R : Type 0} (numbers : Numbers E R) (s : State E R) (k i : ℕ) : Type 0 where
@@ -91,3 +186,101 @@ module _ {E R : Type 0} (numbers : Numbers E R) (w : World E R) (s : State E R) 
         | inr (inr (inl c)) ↦ (RowLane i, (2, omega arith, refl), search (rules, only_at numbers s k i h))
         | inr (inr (inr d)) ↦ (Popped, (3, omega arith, refl), search (rules, only_at numbers s k i h))
       ]
+
+-- ---- the actor that has to move the entry of the next row can
+
+not_empty : {X : Type 0} (xs : List X) → 0 < length xs → (x : X) × (more : List X) × (xs ≡ x ∷ more)
+not_empty [] h = absurd (omega arith)
+not_empty (x ∷ xs) h = (x, xs, refl)
+
+module _ {E R : Type 0} (numbers : Numbers E R) (w : World E R) (some_converters : 0 < w.converters)
+    (some_room : 0 < w.ring) (s : State E R) (v : Kept w s) (numbered : HaveNumbersFrom numbers 1 w.entries)
+    (same_numbers : KeepNumbers numbers w w.entries) where
+  -- the entry of the next row, which goes through the stripe whose turn it is
+  abbrev next : ℕ
+  next = length s.popped + 1
+
+  abbrev its_stripe : ℕ
+  its_stripe = turn w (length s.popped)
+
+  next_stripe : stripe_of w next ≡ its_stripe
+  next_stripe = ap (turn w) (omega arith)
+
+  -- there is an actor that has to move it, and can
+  abbrev OneCan : Type 0
+  OneCan = (actor : Actor) × HasToMove numbers w s next actor × Changes w actor s
+
+  go_on : (a : Actor) → HasToMove numbers w s next a → Steps w s (act w a s) → OneCan
+  go_on a move steps = (a, move, steps_change w s (act w a s) steps)
+
+  -- it is not yet pushed: then no entry stands between the ends, and its lane has room
+  reader_goes_on : (x : E) → slice_get w.entries (length s.popped) ≡ Some x → length v.between ≡ 0 → OneCan
+  reader_goes_on x next_is none =
+      let c = w.converters in
+      let i = turn w s.pushed in
+      let here : s.pushed ≡ length s.popped =
+      omega (arith, v.pushed, none, popped_count w some_converters s v) in
+      let at : slice_get w.entries s.pushed ≡ Some x = ap (slice_get w.entries) here ∙ next_is in
+      let empty : length (part c i (length v.done) v.between) ≡ 0 =
+      ap (λ (l : List E). length (part c i (length v.done) l)) (nil_from_length v.between none) in
+      let room : length (s.stripes i).entry_lane < w.ring =
+      omega (arith, some_room, stripe_count w some_converters s v i, empty) in
+      go_on Reader (not_pushed (omega (arith, here))) (reader_steps w some_converters s v x at room)
+
+  -- it is the first of its stripe
+  first_goes_on : (x : E) (rest converted : List E) (hand : Option E) (lane : List E) → numbers.of_entry x ≡ next
+      → StandsIn numbers s next its_stripe → (v.stripes its_stripe).converted ≡ converted
+      → (s.stripes its_stripe).hand ≡ hand → (s.stripes its_stripe).entry_lane ≡ lane
+      → converted ++ (option_to_list hand ++ lane) ≡ x ∷ rest → OneCan
+  first_goes_on x rest (y ∷ converted) hand lane number stands converted_is hand_is lane_is e =
+      let own : numbers.of_entry y ≡ next = cc in
+      let some : 0 < times_at numbers s next (RowLane its_stripe) =
+      rw (row_lane_times numbers w s v numbered same_numbers next its_stripe, converted_is)
+      (omega (arith, times_cons_own numbers next y converted own)) in
+      go_on Writer (in_row_lane (rw next_stripe (search (rules, only_at numbers s next its_stripe stands))))
+      (writer_steps w some_converters s v (w.row_of y) (map w.row_of converted)
+      (rw converted_is at (v.stripes its_stripe).rows))
+  first_goes_on x rest [] (Some y) lane number stands converted_is hand_is lane_is e =
+      let own : numbers.of_entry y ≡ next = cc in
+      let some : 0 < times_at numbers s next (InConverter its_stripe) =
+      rw hand_is (omega (arith, times_cons_own numbers next y [] own)) in
+      let none : length (s.stripes its_stripe).row_lane ≡ 0 =
+      ap length (rw converted_is at (v.stripes its_stripe).rows) in
+      go_on (Converter its_stripe)
+      (rw (← next_stripe) (in_converter (rw next_stripe (search (rules, only_at numbers s next its_stripe stands)))))
+      (pushing_converter_steps w some_converters s v its_stripe y hand_is (omega (arith, some_room, none)))
+  first_goes_on x rest [] None [] number stands converted_is hand_is lane_is e = cc e
+  first_goes_on x rest [] None (y ∷ lane) number stands converted_is hand_is lane_is e =
+      let own : numbers.of_entry y ≡ next = cc in
+      let some : 0 < times_at numbers s next (EntryLane its_stripe) =
+      rw lane_is (omega (arith, times_cons_own numbers next y lane own)) in
+      go_on (Converter its_stripe)
+      (rw (← next_stripe) (in_entry_lane (rw next_stripe (search (rules, only_at numbers s next its_stripe stands)))))
+      (popping_converter_steps w some_converters s v its_stripe y lane lane_is hand_is)
+
+  next_is : slice_get w.entries (length s.popped) ≡ slice_get (v.between ++ v.left) 0
+  next_is = grind (arith, v.entries, popped_count w some_converters s v, slice_get_rest v.done (v.between ++ v.left))
+
+  by_between : (between : List E) → v.between ≡ between → GoesOn numbers w s
+  by_between [] e more_rows =
+      let none : length v.between ≡ 0 = ap length e in
+      let (x, more, left_is) =
+      not_empty v.left (omega (arith, none, popped_count w some_converters s v, all_count w some_converters s v)) in
+      reader_goes_on x (next_is ∙ simp (e, left_is)) none
+  by_between (x ∷ more) e more_rows =
+      let c = w.converters in
+      let d = length v.done in
+      let popped = popped_count w some_converters s v in
+      let first : part c its_stripe d v.between ≡ x ∷ part c its_stripe (d + 1) more =
+      ap (part c its_stripe d) e ∙ part_own c its_stripe d x more (ap (λ (n : ℕ). n % c) (sym popped)) in
+      let from_one : HaveNumbersFrom numbers 1 (v.done ++ (x ∷ (more ++ v.left))) =
+      rw e at (rw v.entries at numbered) in
+      let number : numbers.of_entry x ≡ next =
+      omega (arith, popped, (numbered_rest numbers 1 v.done (x ∷ (more ++ v.left)) from_one).0) in
+      let pushed : next ≤ s.pushed = omega (arith, v.pushed, popped, ap length e) in
+      let stands : StandsIn numbers s next its_stripe =
+      rw next_stripe at (stands_in numbers w s v numbered same_numbers next (omega arith) pushed) in
+      first_goes_on x _ _ _ _ number stands refl refl refl ((v.stripes its_stripe).all ∙ first)
+
+  pub goes_on : GoesOn numbers w s
+  goes_on = by_between v.between refl

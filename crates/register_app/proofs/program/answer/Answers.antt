@@ -15,12 +15,9 @@ returns-in-Ok-Help-clause-answered g c = λ low.
     inl (_, inl (just, refl), c.print_page.ensures.printed, c.print_page.ensures.none)
 
 pub returns-in-Ok-Help-clause-refused : goal.returns-in-Ok-Help-clause-refused
-returns-in-Ok-Help-clause-refused g c =
-    let arguments = map string_bytes c.args.arguments.now in
-    let just : MeanJust arguments help = search (rules, c.in-Ok-Help.ensures.asked) in
-    λ had. never_refused arguments help c.print_page.result.status just (λ fault e. cc)
-    (λ two. elim c.print_page.ensures.statuses
-    [ inl zero ↦ absurd (omega (arith, two)) | inr one ↦ absurd (omega (arith, two, one)) ])
+returns-in-Ok-Help-clause-refused g c = λ had.
+    let just : MeanJust (map string_bytes c.args.arguments.now) help = search (rules, c.in-Ok-Help.ensures.asked) in
+    never_refused _ help _ just (λ fault e. cc) (λ two. grind (arith, c.print_page.ensures.statuses))
 
 pub returns-in-Ok-Version-clause-answered : goal.returns-in-Ok-Version-clause-answered
 returns-in-Ok-Version-clause-answered g c = λ low.
@@ -35,12 +32,10 @@ returns-in-Ok-Version-clause-answered g c = λ low.
     )
 
 pub returns-in-Ok-Version-clause-refused : goal.returns-in-Ok-Version-clause-refused
-returns-in-Ok-Version-clause-refused g c =
-    let arguments = map string_bytes c.args.arguments.now in
-    let just : MeanJust arguments version = search (rules, c.in-Ok-Version.ensures.asked) in
-    λ had. never_refused arguments version c.print_page-in-Ok-Version.result.status just (λ fault e. cc)
-    (λ two. elim c.print_page-in-Ok-Version.ensures.statuses
-    [ inl zero ↦ absurd (omega (arith, two)) | inr one ↦ absurd (omega (arith, two, one)) ])
+returns-in-Ok-Version-clause-refused g c = λ had.
+    let just : MeanJust (map string_bytes c.args.arguments.now) version
+    = search (rules, c.in-Ok-Version.ensures.asked) in
+    never_refused _ version _ just (λ fault e. cc) (λ two. grind (arith, c.print_page-in-Ok-Version.ensures.statuses))
 
 pub convert_files-requires-clause-few : goal.convert_files-requires-clause-few
 convert_files-requires-clause-few g c =
@@ -52,9 +47,6 @@ convert_files-requires-clause-few g c =
 
 at_most_three : (status : ℕ) → 2 ≤ status → (status ≡ 0) ⊎ (status ≡ 1) ⊎ (status ≡ 3) → status ≡ 3
 at_most_three status high among = grind arith
-
-never_two : (status : ℕ) → (status ≡ 0) ⊎ (status ≡ 1) ⊎ (status ≡ 3) → status ≡ 2 → ⊥
-never_two status among two = grind arith
 
 pub returns-then-is_empty-clause-answered : goal.returns-then-is_empty-clause-answered
 returns-then-is_empty-clause-answered g c = λ low.
@@ -75,8 +67,7 @@ pub returns-then-is_empty-clause-refused : goal.returns-then-is_empty-clause-ref
 returns-then-is_empty-clause-refused g c =
     let just : MeanJust (map string_bytes c.args.arguments.now) (work (task_of c.in-Ok-Convert.job))
     = search (rules, c.in-Ok-Convert.ensures.asked) in
-    λ had. never_refused _ _ c.convert_input.result.status just (λ fault e. cc)
-    (never_two c.convert_input.result.status c.convert_input.ensures.statuses)
+    λ had. never_refused _ _ _ just (λ fault e. cc) (λ two. grind (arith, c.convert_input.ensures.statuses))
 
 pub returns-else-is_empty-clause-answered : goal.returns-else-is_empty-clause-answered
 returns-else-is_empty-clause-answered g c = λ low.
@@ -96,8 +87,7 @@ pub returns-else-is_empty-clause-refused : goal.returns-else-is_empty-clause-ref
 returns-else-is_empty-clause-refused g c =
     let just : MeanJust (map string_bytes c.args.arguments.now) (work (task_of c.in-Ok-Convert.job))
     = search (rules, c.in-Ok-Convert.ensures.asked) in
-    λ had. never_refused _ _ c.convert_files.result.status just (λ fault e. cc)
-    (never_two c.convert_files.result.status c.convert_files.ensures.statuses)
+    λ had. never_refused _ _ _ just (λ fault e. cc) (λ two. grind (arith, c.convert_files.ensures.statuses))
 
 pub returns-in-Err-clause-refused : goal.returns-in-Err-clause-refused
 returns-in-Err-clause-refused g c =

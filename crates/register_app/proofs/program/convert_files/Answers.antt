@@ -1,9 +1,19 @@
 -- A run that did not begin hands the outputs back as they were made.
-use Rattle.std.proofs.Common.{rules, map, subst}
-use Rattle.register_arguments.specs.Requests.{task_of}
+use Rattle.std.proofs.Common.{rules, ℕ, List, map, subst}
+use Rattle.command_lines.specs.Meanings.{work}
+use Rattle.register_arguments.specs.Requests.{MeanJust, Task, task_of}
 use Rattle.register_files.specs.Openings.{IsOfFiles}
-use Rattle.register_app.proofs.FileLemmas.{asked_by}
+use Rattle.register_files.specs.declared.opening.FileFault.{FileFault}
+use Rattle.register_files.specs.declared.opening.FileFault.TheVariants.{OutOfMemory}
+use Rattle.register_app.specs.ProgramFaults.{IsOfAsked}
+use Rattle.register_app.specs.declared.program_faults.ProgramFault.TheVariants as program_fault
 use Rattle.register_app.proofs.program.convert_files.Goals as goal
+
+-- a file that cannot be opened or made is one of those that the arguments ask for
+asked_by : (arguments : List (List ℕ)) (task : Task) → MeanJust arguments (work task) → (fault : FileFault)
+    → IsOfFiles task.files fault → IsOfAsked arguments (program_fault.Files fault)
+asked_by arguments task just OutOfMemory is = tt
+asked_by arguments task just fault is = (task, just, is.0, is.1)
 
 pub returns-clause-unwritten : goal.returns-clause-unwritten
 returns-clause-unwritten g c = search rules

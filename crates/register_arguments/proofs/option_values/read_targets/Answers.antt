@@ -3,8 +3,8 @@ use Rattle.std.proofs.Common.{rules, ◌≡◌, sym, refl, inl, inr, is_ok, true
 use Rattle.std.proofs.lemmas.List.{map-append}
 use Rattle.std.proofs.lemmas.Iterator.Consumers.{YieldsList-end, YieldsList-so_far, YieldsList-turn}
 use Rattle.register_arguments.specs.Faults.{unknown_target, target_twice}
-use Rattle.register_arguments.proofs.ListLemmas.{means_just}
-use Rattle.register_arguments.proofs.NameLemmas.{named_more, names_of_split, never_twice, once_more, stands_at}
+use Rattle.register_arguments.proofs.ListLemmas.{means_just, named_more, names_of_split, never_twice, once_more}
+use Rattle.register_arguments.proofs.ListLemmas.{stands_at}
 use Rattle.register_arguments.specs.OptionValues.{StandsBehind}
 use Rattle.register_arguments.proofs.option_values.read_targets.Goals as goal
 use Rattle.register_arguments.proofs.option_values.read_targets.Goals.{In-Some}

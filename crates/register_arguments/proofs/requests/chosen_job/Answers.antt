@@ -31,8 +31,8 @@ returns-in_err-delimiter-clause-fault c = search (rules, passes_found)
 pub returns-in_err-stripes-clause-fault : goal.returns-in_err-stripes-clause-fault
 returns-in_err-stripes-clause-fault c = search (rules, passes_found)
 
-pub returns-in_err-files_fit-clause-fault : goal.returns-in_err-files_fit-clause-fault
-returns-in_err-files_fit-clause-fault c = grind (arith, c.as_slice.ensures.value, c.in_err-files_fit.ensures.fault)
+pub returns-in_err-check_files-clause-fault : goal.returns-in_err-check_files-clause-fault
+returns-in_err-check_files-clause-fault c = grind (arith, passed_up)
 
 pub returns-clause-asked : goal.returns-clause-asked
 returns-clause-asked c =
@@ -47,7 +47,7 @@ returns-clause-asked c =
       notes = ap has_notes (fields.4 ∙ c.chosen_form-form.ensures) ∙ notes_by c.args.options.sealed;
       summary = refl;
       files = refl;
-      files_fit = rw c.as_slice.ensures.value at c.in_ok-files_fit.ensures.fine;
+      files_fit = rw c.as_slice.ensures.value at c.in_ok-check_files.ensures.fine;
     }
 
 pub unreachable-requires : goal.unreachable-requires

@@ -1,6 +1,5 @@
-use Rattle.std.proofs.Common.{rules, ◌++◌, ◌∙◌, arith, codes, map}
-use Rattle.std.proofs.lemmas.List.{length-map}
-use Rattle.register_files.proofs.ApartLemmas.{all_before, apart_by, none_before, one_before, value_at}
+use Rattle.register_files.proofs.Common.{rules, ◌++◌, ◌∙◌, arith, codes, map, length-map}
+use Rattle.register_files.proofs.MatchLemmas.{all_before, apart_by, none_before, one_before, value_at}
 use Rattle.register_files.proofs.opening.check_sources_kept.Goals as goal
 
 pub files-init : goal.files-init

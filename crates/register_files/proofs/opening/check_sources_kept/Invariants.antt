@@ -1,5 +1,5 @@
-use Rattle.std.proofs.Common.{◌++◌, codes, map}
-use Rattle.register_files.proofs.ApartLemmas.{HoldBefore}
+use Rattle.register_files.proofs.Common.{◌++◌, codes, map}
+use Rattle.register_files.proofs.MatchLemmas.{HoldBefore}
 use Rattle.register_files.proofs.opening.check_sources_kept.Given as goal
 
 -- the output of each file so far does not go to the file itself

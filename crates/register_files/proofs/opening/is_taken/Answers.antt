@@ -1,8 +1,6 @@
-use Rattle.std.proofs.Common.{rules, arith, map}
-use Rattle.std.specs.String.{string_bytes}
-use Rattle.std.proofs.lemmas.List.{length-map}
+use Rattle.register_files.proofs.Common.{rules, arith, map, string_bytes, length-map}
 use Rattle.std.proofs.lemmas.Option.{slice_get-map, slice_get_read}
-use Rattle.register_files.proofs.ApartLemmas.{all_before, none_before, one_before}
+use Rattle.register_files.proofs.MatchLemmas.{all_before, none_before, one_before}
 use Rattle.register_files.proofs.opening.is_taken.Goals as goal
 
 pub names-init : goal.names-init

@@ -1,6 +1,5 @@
-use Rattle.std.proofs.Common.{map}
-use Rattle.std.specs.String.{string_bytes}
-use Rattle.register_files.proofs.ApartLemmas.{HoldBefore}
+use Rattle.register_files.proofs.Common.{map, string_bytes}
+use Rattle.register_files.proofs.MatchLemmas.{HoldBefore}
 use Rattle.register_files.proofs.opening.is_taken.Given as goal
 
 -- the name was told apart from the names so far

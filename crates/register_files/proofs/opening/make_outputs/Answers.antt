@@ -1,10 +1,8 @@
 -- Each turn makes the next output, and tells its name apart from those before.
-use Rattle.std.proofs.Common.{◌≡◌, ◌∙◌, ◌+◌, ◌++◌, ap, rules, arith, codes, is_ok, map, true, slice_get}
-use Rattle.std.specs.String.{string_bytes}
-use Rattle.std.proofs.lemmas.List.{length-map}
-use Rattle.register_files.specs.Openings.{IsNewlyMade}
-use Rattle.register_files.proofs.ApartLemmas.{all_pairs, apart_from_earlier, more_pairs, no_pairs, value_at}
-use Rattle.register_files.proofs.MatchLemmas.{made_as, so_far_all, so_far_more, so_far_none}
+use Rattle.register_files.proofs.Common.{◌≡◌, ◌∙◌, ◌+◌, ◌++◌, ap, rules, arith, codes, is_ok, map, true, slice_get}
+use Rattle.register_files.proofs.Common.{string_bytes, length-map, IsNewlyMade}
+use Rattle.register_files.proofs.MatchLemmas.{all_pairs, apart_from_earlier, more_pairs, no_pairs, value_at, made_as}
+use Rattle.register_files.proofs.MatchLemmas.{so_far_all, so_far_more, so_far_none}
 use Rattle.register_files.proofs.opening.make_outputs.Goals as goal
 
 pub files-init : goal.files-init

@@ -1,8 +1,5 @@
-use Rattle.std.proofs.Common.{◌≡◌, ◌+◌, ◌++◌, map, codes}
-use Rattle.register_files.specs.Openings.{IsNewlyMade}
-use Rattle.std.specs.String.{string_bytes}
-use Rattle.register_files.proofs.ApartLemmas.{HoldOfPairs}
-use Rattle.register_files.proofs.MatchLemmas.{AreMatchedSoFar}
+use Rattle.register_files.proofs.Common.{◌≡◌, ◌+◌, ◌++◌, map, codes, IsNewlyMade, string_bytes}
+use Rattle.register_files.proofs.MatchLemmas.{HoldOfPairs, AreMatchedSoFar}
 use Rattle.register_files.proofs.opening.make_outputs.Given as goal
 
 -- the outputs and their names are those of the files so far, the mark is the last one's, and the names were told apart

@@ -1,5 +1,5 @@
 -- Each turn opens the next file.
-use Rattle.std.proofs.Common.{◌≡◌, rules, arith, is_ok, true}
+use Rattle.register_files.proofs.Common.{◌≡◌, rules, arith, is_ok, true}
 use Rattle.register_files.proofs.MatchLemmas.{so_far_all, so_far_more, so_far_none}
 use Rattle.register_files.proofs.opening.open_sources.Goals as goal
 

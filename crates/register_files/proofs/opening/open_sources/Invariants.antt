@@ -1,4 +1,4 @@
-use Rattle.std.proofs.Common.{map}
+use Rattle.register_files.proofs.Common.{map}
 use Rattle.register_files.proofs.MatchLemmas.{AreMatchedSoFar}
 use Rattle.register_files.proofs.opening.open_sources.Given as goal
 

@@ -1,5 +1,5 @@
 -- The suffix follows the name of the file.
-use Rattle.std.proofs.Common.{◌∙◌, ◌++◌, ap}
+use Rattle.register_files.proofs.Common.{◌∙◌, ◌++◌, ap}
 use Rattle.register_files.specs.declared.opening.TheConstants.{SUFFIX}
 use Rattle.register_files.proofs.opening.output_name.Goals as goal
 

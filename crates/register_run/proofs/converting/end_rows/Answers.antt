@@ -1,9 +1,8 @@
-use Rattle.std.proofs.Common.{◌≡◌, refl}
-use Rattle.register_run.proofs.Common.{AreOfTaken, receiver_lane, sent, taken}
+use Rattle.register_run.proofs.Common.{◌≡◌, refl, AreOfTaken, receiver_lane, sent, taken}
 use Rattle.lane_rings.specs.declared.item.Item.TheVariants as item
-use Rattle.register_run.proofs.ConvertingLemmas.{all_still, ends, first_still, stops}
-use Rattle.register_run.proofs.converting.end_rows.Goals as goal
+use Rattle.register_run.proofs.CarriedLemmas.{all_still, ends, first_still, stops}
 use Rattle.register_run.proofs.converting.end_rows.Goals.{else-is_some, in-Some-End, in_default, then-is_some}
+use Rattle.register_run.proofs.converting.end_rows.Goals as goal
 
 pub returns : goal.returns
 returns g c =

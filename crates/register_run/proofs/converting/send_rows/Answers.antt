@@ -1,8 +1,6 @@
-use Rattle.std.proofs.Common.{rules, ◌≡◌, ◌∙◌, false, sym}
-use Rattle.register_run.proofs.Common.{sent}
+use Rattle.register_run.proofs.Common.{rules, ◌≡◌, ◌∙◌, false, sym, sent}
 use Rattle.lane_rings.specs.declared.item.Item.TheVariants as item
-use Rattle.register_run.proofs.CarriedLemmas.{first_of_all, none_taken, row_left, row_sent}
-use Rattle.register_run.proofs.ItemLemmas.{took_next}
+use Rattle.register_run.proofs.CarriedLemmas.{first_of_all, none_taken, row_left, row_sent, took_next}
 use Rattle.register_run.proofs.converting.send_rows.Goals as goal
 
 pub loop-init : goal.loop-init

@@ -1,5 +1,4 @@
-use Rattle.std.proofs.Common.{◌≡◌, false}
-use Rattle.register_run.proofs.Common.{sent, taken, sender_lane, receiver_lane, AreOfAllTaken, AreOfTaken}
+use Rattle.register_run.proofs.Common.{◌≡◌, false, sent, taken, sender_lane, receiver_lane, AreOfAllTaken, AreOfTaken}
 use Rattle.register_run.proofs.converting.send_rows.Given as goal
 
 abbrev pub invariant-loop : goal.invariant-loop

@@ -1,7 +1,8 @@
-use Rattle.std.proofs.Common.{◌∙◌, Option, ap, subst, sym, ℕ}
-use Rattle.register_run.proofs.Common.{props, ∥∥₁_elim, ∥∥₁_prop, table_fault, Cause, AreThreadsOf, Findings, Ran}
+use Rattle.register_run.proofs.Common.{◌∙◌, Option, ap, subst, sym, ℕ, props, ∥∥₁_elim, ∥∥₁_prop, Cause, Findings, Ran}
+use Rattle.register_records.specs.TablesWritten.{table_fault}
+use Rattle.register_run.specs.Threads.{AreThreadsOf}
 use Rattle.register_run.proofs.EndedSourceLemmas.{headless, source_end, with_table}
-use Rattle.register_run.proofs.ThreadLemmas.{threads_of}
+use Rattle.register_run.proofs.HeadlineLemmas.{threads_of}
 use Rattle.register_run.proofs.ended_sources.conclude.Goals as goal
 
 pub invariant_of-result : goal.invariant_of-result

@@ -1,7 +1,6 @@
 use Rattle.register_run.proofs.Common.{numbers}
-use Rattle.striped_lanes.proofs.EndLemmas as ends
 use Rattle.striped_lanes.proofs.ScheduleLemmas as machine
-use Rattle.register_run.proofs.ScheduleLemmas.{numbers_of}
+use Rattle.register_run.proofs.HistoryLemmas.{numbers_of}
 use Rattle.register_run.proofs.laws.every_schedule.Goals as goal
 
 pub returns : goal.returns
@@ -14,5 +13,5 @@ returns c = record {
       let n = numbers_of h in machine.few_stand numbers w h.some_converters h.some_room n.0 n.1 s;
   goes_on = λ _ _ _ w s h.
       let n = numbers_of h in machine.next_goes_on numbers w h.some_converters h.some_room n.0 n.1 s;
-  ends = λ _ _ _ w s h. let n = numbers_of h in ends.ends numbers w h.some_converters h.some_room n.0 n.1 s;
+  ends = λ _ _ _ w s h. let n = numbers_of h in machine.ends numbers w h.some_converters h.some_room n.0 n.1 s;
 }

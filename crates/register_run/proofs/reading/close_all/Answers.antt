@@ -1,4 +1,4 @@
-use Rattle.std.proofs.Common.{append_assoc, rules}
+use Rattle.register_run.proofs.Common.{append_assoc, rules}
 use Rattle.register_run.proofs.StripeLemmas.{zip_end}
 use Rattle.register_run.proofs.reading.close_all.Goals as goal
 

@@ -1,5 +1,5 @@
-use Rattle.std.proofs.Common.{◌+◌, ◌≤◌, ◌++◌, List, vec_len, vec_capacity}
-use Rattle.register_run.proofs.Common.{AllZip, into_iter_items, into_iter_len, Closed, Entry, HasEnded}
+use Rattle.register_run.proofs.Common.{◌+◌, ◌≤◌, ◌++◌, List, vec_len, vec_capacity, AllZip, into_iter_items}
+use Rattle.register_run.proofs.Common.{into_iter_len, Closed, Entry, HasEnded}
 use Rattle.register_run.proofs.reading.close_all.Given as goal
 
 abbrev pub invariant-loop-sender : goal.invariant-loop-sender

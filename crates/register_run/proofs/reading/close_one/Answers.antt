@@ -1,4 +1,4 @@
-use Rattle.std.proofs.Common.{refl}
+use Rattle.register_run.proofs.Common.{refl}
 use Rattle.lane_rings.specs.declared.item.Item.TheVariants as item
 use Rattle.register_run.proofs.CarriedLemmas.{ended_by}
 use Rattle.register_run.proofs.reading.close_one.Goals as goal

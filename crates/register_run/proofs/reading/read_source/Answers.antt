@@ -1,7 +1,5 @@
-use Rattle.std.proofs.Common.{◌∙◌, subst}
-use Rattle.register_run.proofs.Common.{∥∥₁_map, AllZip-long, HasEnded, AreOfLanes}
-use Rattle.register_run.proofs.StripeLemmas.{ended_lanes}
-use Rattle.register_run.proofs.DealtLemmas.{dealt_ended}
+use Rattle.register_run.proofs.Common.{◌∙◌, subst, ∥∥₁_map, AllZip-long, HasEnded, AreOfLanes}
+use Rattle.register_run.proofs.StripeLemmas.{ended_lanes, dealt_ended}
 use Rattle.register_run.proofs.reading.read_source.Goals as goal
 
 pub returns : goal.returns

@@ -1,5 +1,5 @@
 use Rattle.register_run.proofs.Common.{reading_of}
-use Rattle.register_run.proofs.DealtLemmas.{dealt_none}
+use Rattle.register_run.proofs.StripeLemmas.{dealt_none}
 use Rattle.register_run.proofs.GivenLemmas.{sends_none}
 use Rattle.register_run.proofs.reading.send_entries.Goals as goal
 

@@ -1,8 +1,7 @@
-use Rattle.std.proofs.Common.{◌∙◌, ◌∷◌, [], ap, arith, length, length-append, refl, subst, sym, rules, length-set}
-use Rattle.register_run.proofs.Common.{AreNumberedFrom, given_of, sender_lane}
-use Rattle.register_run.proofs.DealtLemmas.{dealt_none, dealt_send, dealt_unsent}
-use Rattle.register_run.proofs.MoveLemmas.{set_same}
+use Rattle.register_run.proofs.Common.{◌∙◌, arith, length-append, refl, sym, rules}
+use Rattle.register_run.proofs.Common.{length-set, given_of, sender_lane}
 use Rattle.register_records.proofs.TableLemmas.{numbered_more}
+use Rattle.register_run.proofs.StripeLemmas.{dealt_none, dealt_send, dealt_unsent, set_same}
 use Rattle.register_run.proofs.GivenLemmas.{sends_all, sends_gone, sends_stopped}
 use Rattle.register_run.proofs.reading.send_opened.Goals as goal
 
@@ -36,29 +35,7 @@ returns-then-is_err g c =
     c.stopped_after-then-is_err.result c.stopped_after-then-is_err.ensures.1
 
 pub loop-preserved : goal.loop-preserved
-loop-preserved g c =
-    let inv = c.loop.invariant in let at = c.turn_after-turn.result in let senders = c.loop.senders.items in
-    let was = c.index_mut-sender.result.now in let new = c.send_copy.new.self in
-    let here = c.index_mut-sender.ensures.value in
-    let reads = rw c.in-Ok-true.field-0-test at c.in-Ok-true.ensures.reads in
-    let gives = reads.gives refl in let number = (reads.number refl).0 in record {
-      len = (let long = length-set senders at new in omega (arith, long));
-      lanes = set_same sender_lane senders at new was c.send_copy.ensures.lane here ∙ inv.lanes;
-      text = reads.text.0 ∙ inv.text;
-      by = reads.text.1 ∙ inv.by;
-      count =
-          c.number-count.ensures.value ∙ number ∙ sym (length-append (given_of c.loop.entries) (_ ∷ []))
-          ∙ sym (ap length gives);
-      numbered =
-          subst (AreNumberedFrom 1) (sym gives)
-          (numbered_more 1 (given_of c.loop.entries) _ inv.numbered (omega (arith, number)));
-      deals = λ w many.
-          dealt_send w at _ _ senders new was _ c.send_copy.result here (sym c.is_err.ensures.value ∙ c.if-is_err.false)
-          gives (rw (← c.number-count.ensures.value)
-          (sym (c.turn_after-turn.ensures.machine w (omega (arith, many, length-set senders at new)))))
-          c.send_copy.ensures.ok
-          (inv.deals w (many ∙ length-set senders at new));
-    }
+loop-preserved g c = grind (arith, length-set, set_same, length-append, numbered_more, dealt_send)
 
 pub loop-init : goal.loop-init
 loop-init g c = search (rules, dealt_none)

@@ -1,6 +1,5 @@
-use Rattle.std.proofs.Common.{◌≡◌, length, map, vec_len}
-use Rattle.register_run.proofs.Common.{sender_lane, AreNumberedFrom, given_of, AreDealt, World}
-use Rattle.register_records.specs.Views.{reads_by, text_of}
+use Rattle.register_run.proofs.Common.{◌≡◌, length, map, vec_len, sender_lane, AreNumberedFrom, given_of, AreDealt}
+use Rattle.register_run.proofs.Common.{World, reads_by, text_of}
 use Rattle.register_run.proofs.reading.send_opened.Given as goal
 
 abbrev pub invariant-loop : goal.invariant-loop

@@ -1,6 +1,5 @@
-use Rattle.std.proofs.Common.{◌≡◌, ◌∙◌, ap, length, map, rules, sym}
-use Rattle.register_run.proofs.Common.{ended_case, into_iter_items, map-append}
-use Rattle.register_run.proofs.MoveLemmas.{all_made, none_made, seen_more}
+use Rattle.register_run.proofs.Common.{◌≡◌, ◌∙◌, ap, length, map, rules, sym, ended_case, into_iter_items, map-append}
+use Rattle.register_run.proofs.StripeLemmas.{all_made, none_made, seen_more}
 use Rattle.register_run.proofs.running.finish_all.Goals as goal
 
 pub loop-running_source-init : goal.loop-running_source-init

@@ -1,6 +1,5 @@
-use Rattle.std.proofs.Common.{◌≡◌, ◌∙◌, length, refl, rules, sym}
-use Rattle.register_run.proofs.Common.{into_iter_items}
-use Rattle.register_run.proofs.MoveLemmas.{all_made, none_made, seen_more}
+use Rattle.register_run.proofs.Common.{◌≡◌, ◌∙◌, length, refl, rules, sym, into_iter_items}
+use Rattle.register_run.proofs.StripeLemmas.{all_made, none_made, seen_more}
 use Rattle.register_run.proofs.running.report.Goals as goal
 
 pub loop-one-init : goal.loop-one-init

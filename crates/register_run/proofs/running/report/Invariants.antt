@@ -1,5 +1,5 @@
-use Rattle.std.proofs.Common.{◌≡◌, ◌+◌, ◌≤◌, ◌++◌, map, vec_len, vec_capacity}
-use Rattle.register_run.proofs.Common.{into_iter_items, into_iter_len, end_of, output_of, ran_of}
+use Rattle.register_run.proofs.Common.{◌≡◌, ◌+◌, ◌≤◌, ◌++◌, map, vec_len, vec_capacity, into_iter_items, into_iter_len}
+use Rattle.register_run.proofs.Common.{end_of, output_of, ran_of}
 use Rattle.register_run.proofs.running.report.Given as goal
 
 abbrev pub invariant-loop-one : goal.invariant-loop-one

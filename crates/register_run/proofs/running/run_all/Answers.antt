@@ -1,4 +1,4 @@
-use Rattle.std.proofs.Common.{◌≡◌, ◌∙◌, arith, length}
+use Rattle.register_run.proofs.Common.{◌≡◌, ◌∙◌, arith, length}
 use Rattle.register_run.proofs.HeadlineLemmas.{reported}
 use Rattle.register_run.proofs.running.run_all.Goals as goal
 

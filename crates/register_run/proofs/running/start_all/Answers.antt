@@ -1,5 +1,4 @@
-use Rattle.std.proofs.Common.{◌≡◌, ◌∙◌, length, rules, sym}
-use Rattle.register_run.proofs.Common.{into_iter_items}
+use Rattle.register_run.proofs.Common.{◌≡◌, ◌∙◌, length, rules, sym, into_iter_items}
 use Rattle.register_run.proofs.HeadlineLemmas.{start_begin, start_end, start_more}
 use Rattle.register_run.proofs.running.start_all.Goals as goal
 

@@ -1,5 +1,5 @@
-use Rattle.std.proofs.Common.{◌≡◌, ◌+◌, ◌≤◌, ◌++◌, map, vec_len, vec_capacity}
-use Rattle.register_run.proofs.Common.{into_iter_items, into_iter_len, case_of, cases}
+use Rattle.register_run.proofs.Common.{◌≡◌, ◌+◌, ◌≤◌, ◌++◌, map, vec_len, vec_capacity, into_iter_items, into_iter_len}
+use Rattle.register_run.proofs.Common.{case_of, cases}
 use Rattle.register_run.proofs.running.start_all.Given as goal
 
 abbrev pub invariant-loop-source : goal.invariant-loop-source

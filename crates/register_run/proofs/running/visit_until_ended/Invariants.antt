@@ -1,5 +1,4 @@
-use Rattle.std.proofs.Common.{◌≡◌, map, vec_len}
-use Rattle.register_run.proofs.Common.{case_of}
+use Rattle.register_run.proofs.Common.{◌≡◌, map, vec_len, case_of}
 use Rattle.register_run.proofs.running.visit_until_ended.Given as goal
 
 abbrev pub invariant-loop : goal.invariant-loop

@@ -1,14 +1,12 @@
-use Rattle.std.proofs.Common.{rules, arith}
+use Rattle.register_run.proofs.Common.{rules, arith}
 use Rattle.register_run.proofs.StripeLemmas.{end_passed}
 use Rattle.register_run.proofs.running_sources.join_stripes.Goals as goal
 
 pub loop-stripe-init : goal.loop-stripe-init
-loop-stripe-init g c =
-    grind (arith, c.into_iter-stripe-iterator.ensures.into_iter_gives.0, c.into_iter-rest.ensures.rest)
+loop-stripe-init g c = grind arith
 
 pub loop-stripe-preserved-in-Ok : goal.loop-stripe-preserved-in-Ok
-loop-stripe-preserved-in-Ok g c =
-    grind (arith, c.loop-stripe.invariant, c.in-Some.ensures.steps.0, c.in-Some-next.ensures.items)
+loop-stripe-preserved-in-Ok g c = grind arith
 
 pub loop-stripe-preserved : goal.loop-stripe-preserved
 loop-stripe-preserved g c = search rules

@@ -1,5 +1,4 @@
-use Rattle.std.proofs.Common.{◌≡◌, map, true, Bool}
-use Rattle.register_run.proofs.Common.{into_iter_items, HavePassedOn, feeding_lane, AreOfLanes}
+use Rattle.register_run.proofs.Common.{◌≡◌, map, true, Bool, into_iter_items, HavePassedOn, feeding_lane, AreOfLanes}
 use Rattle.register_run.proofs.running_sources.join_stripes.Given as goal
 
 abbrev pub invariant-loop-stripe : goal.invariant-loop-stripe

@@ -1,5 +1,4 @@
-use Rattle.std.proofs.Common.{subst, sym}
-use Rattle.register_run.proofs.Common.{∥∥₁_map, AreOfLanes}
+use Rattle.register_run.proofs.Common.{subst, sym, ∥∥₁_map, AreOfLanes}
 use Rattle.register_run.proofs.StripeLemmas.{took_dealt}
 use Rattle.register_run.proofs.HistoryLemmas.{joined_of_machine}
 use Rattle.register_run.proofs.running_sources.join_threads.Goals as goal

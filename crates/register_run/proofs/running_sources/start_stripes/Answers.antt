@@ -1,7 +1,6 @@
-use Rattle.std.proofs.Common.{◌≡◌, [], rules}
-use Rattle.register_run.proofs.Common.{Entry, Sender, sent}
-use Rattle.register_run.proofs.MoveLemmas.{all_more, both_more, each_more}
-use Rattle.register_run.proofs.PoppedLemmas.{unpopped_more}
+use Rattle.register_run.proofs.Common.{◌≡◌, [], rules, Entry, Sender, sent}
+use Rattle.register_run.proofs.StripeLemmas.{all_more, both_more, each_more}
+use Rattle.register_run.proofs.RunningSourceLemmas.{unpopped_more}
 use Rattle.register_run.proofs.running_sources.start_stripes.Goals as goal
 
 pub loop-preserved : goal.loop-preserved

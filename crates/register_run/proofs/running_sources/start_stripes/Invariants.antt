@@ -1,5 +1,5 @@
-use Rattle.std.proofs.Common.{◌≡◌, ◌≤◌, map, replicate, vec_len, vec_capacity, [], All}
-use Rattle.register_run.proofs.Common.{sender_lane, sent, feeding_lane, stripe_setup, popped}
+use Rattle.register_run.proofs.Common.{◌≡◌, ◌≤◌, map, replicate, vec_len, vec_capacity, [], All, sender_lane, sent}
+use Rattle.register_run.proofs.Common.{feeding_lane, stripe_setup, popped}
 use Rattle.register_run.proofs.running_sources.start_stripes.Given as goal
 
 abbrev pub invariant-loop : goal.invariant-loop

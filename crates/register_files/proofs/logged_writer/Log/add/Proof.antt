@@ -1,42 +1,32 @@
 -- An empty body. The borrow is opened and closed at another ghost value.
-use Rattle.std.proofs.Common.{ℕ, List, [], ◌∷◌, ◌++◌, refl, MutBor, ◌<◌, ◌^◌, length}
-use seplogic.Ra.Ura.{Ura}
+use Rattle.std.proofs.Common.{MutBor, ◌^◌}
+use Rattle.register_files.proofs.Common.{ℕ, List, [], ◌∷◌, ◌++◌, refl, ◌<◌, length, Ura, Val, vunit, vptr, Memory}
+use Rattle.register_files.proofs.Common.{Routine, Calls, Loops, WpFn, Tables, Fun, unit_lit, of_opd, returns, enter}
+use Rattle.register_files.proofs.Common.{WpFn-mono, on_entry, Meets, triple_of, entered, Log}
 use mir.Syntax.{named}
-use mir.Val.{Val, vunit, vptr}
 use base.Logic.{SProp, ent, sep, emp, via, fst∗, id⊢}
 use base.Fml.{GName, Lft, Share, ftrue, flft, fobs, fbor}
-use prog.Memory.{Memory}
-use prog.Routine.{Routine}
-use prog.Wp.{Calls, Loops, WpFn, Tables}
 use types.Logic.{Logic}
-use contract.Monad.{Fun}
 use contract.Running.{tables, tables_of}
 use types.Kit.{‵, ◌⊛◌, ◌$◌, ◌∵◌, !, qed, by, move, keep, drop, use1, split, join, fsplit, fsplit3, fjoin, fjoin3, feq_i}
 use types.Kit.{suffices, frame, done}
-use types.Run.{unit_lit, of_opd, returns, enter}
 use types.SemTy.{Body}
 use types.ByLocal.{alloc_all, pass_all, free_all, look_at, sets}
-use sound.WpLaws.{WpFn-mono}
 use denote.RattleType.{owns}
 use denote.Memory.{mem}
-use denote.Ref.{MutRef, mut_vals, mut_Tells}
+use denote.Ref.{MutRef, mut_vals, mut_Tells, Bor}
 use denote.Signature.{plain}
 use denote.Steps.{opens, closes}
-use denote.Triple.Entry.{on_entry}
-use denote.Triple.Spec.{Meets, triple_of}
-use denote.Triple.Table.{entered}
 use denote.Triple.Walked.{says, Stays, stay_ref, walk_of, AllGo, Goes-ref, Walks, ends_at, walked, walk_Meets}
-use Rattle.register_files.specs.declared.logged_writer.Log.{Log}
-use Rattle.register_files.specs.contracts.logged_writer.Log as T
-use Rattle.register_files.specs.contracts.logged_writer.Log.add.Key.{name as #it}
-use Rattle.register_files.specs.contracts.logged_writer.Log.add as it
-use Rattle.register_files.proofs.logged_writer.Log.add.Statement as stated
-use Rattle.register_files.proofs.logged_writer.Log.add.Code as code
-use denote.Ref.{Bor}
+use denote.Triple.Walked.{stay_none_slice, Goes-none_slice}
 use denote.Builtin.{u8}
 use denote.Exit.{yes}
 use denote.Slice.{ShrSlice, slice_val, shr_slice_vals, shr_slice_Tells}
-use denote.Triple.Walked.{stay_none_slice, Goes-none_slice}
+use Rattle.register_files.specs.contracts.logged_writer.Log.add.Key.{name as #it}
+use Rattle.register_files.specs.contracts.logged_writer.Log as T
+use Rattle.register_files.specs.contracts.logged_writer.Log.add as it
+use Rattle.register_files.proofs.logged_writer.Log.add.Code as code
+use Rattle.register_files.proofs.logged_writer.Log.add.Statement as stated
 
 abbrev Arg : Type 0
 Arg = MutBor Log × (Bor (List ℕ) × Unit {0})

@@ -1,32 +1,22 @@
 -- `new` makes a value of no bytes, at the empty list.
+use Rattle.register_files.proofs.Common.{Ura, Val, vstruct, vcons, vnil, Memory, Routine, WpFn, Tables, Fun, WpFn-mono}
+use Rattle.register_files.proofs.Common.{no_more, and_then, returns, enter, on_entry, Meets, triple_of, entered, Log}
 use mathlib.Core.Path.{refl}
 use mathlib.Core.List.{[], ◌∷◌}
-use seplogic.Ra.Ura.{Ura}
-use mir.Val.{Val, vstruct, vcons, vnil}
 use base.Logic.{SProp}
-use prog.Memory.{Memory}
-use prog.Routine.{Routine}
-use prog.Wp.{WpFn, Tables}
 use types.Logic.{Logic}
-use contract.Monad.{Fun}
 use contract.Running.{tables, tables_of}
-use sound.WpLaws.{WpFn-mono}
 use types.Kit.{raw, ◌$◌, ◌∵◌, !, qed, keep, join, suffices, done}
-use types.Run.{no_more, and_then, returns, enter}
 use types.Part.{agg}
 use types.ByLocal.{alloc_all, pass_all, free_all, look_at, get, sets}
 use denote.Shadow.{pure_i}
 use denote.Steps.{nothing}
-use denote.Triple.Entry.{on_entry}
-use denote.Triple.Spec.{Meets, triple_of}
-use denote.Triple.Table.{entered}
 use denote.Triple.Walked.{says, ends_at, walked, walk_Meets}
-use Rattle.register_files.specs.declared.logged_writer.Log.{Log}
-use Rattle.register_files.specs.contracts.logged_writer.Log as T
 use Rattle.register_files.specs.contracts.logged_writer.Log.new.Key.{name as #it}
+use Rattle.register_files.specs.contracts.logged_writer.Log as T
 use Rattle.register_files.specs.contracts.logged_writer.Log.new as it
-use Rattle.register_files.proofs.logged_writer.Log.new.Statement as stated
 use Rattle.register_files.proofs.logged_writer.Log.new.Code as code
+use Rattle.register_files.proofs.logged_writer.Log.new.Statement as stated
 
 abbrev v : Val
 v = vstruct (vcons (vstruct vnil) vnil)

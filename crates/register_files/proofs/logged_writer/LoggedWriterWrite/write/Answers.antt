@@ -1,7 +1,7 @@
 -- The log gains what the write took, and with a fault nothing.
-use Rattle.std.proofs.Common.{rules, ◌≡◌, ◌++◌, subst, sym, take}
+use Rattle.std.proofs.Common.{take}
+use Rattle.register_files.proofs.Common.{rules, ◌≡◌, ◌++◌, subst, sym, Appends}
 use Rattle.std.proofs.Math.Logic.{∥∥₁_map}
-use Rattle.std.specs.Io.KnownBytes.{Appends}
 use Rattle.register_files.proofs.AppendsLemmas.{appends_both, appends_kept}
 use Rattle.register_files.proofs.logged_writer.LoggedWriterWrite.write.Goals as goal
 

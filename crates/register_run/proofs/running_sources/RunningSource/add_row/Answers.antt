@@ -1,7 +1,6 @@
-use Rattle.std.proofs.Common.{subst}
+use Rattle.register_run.proofs.Common.{subst, StripeTook}
 use Rattle.register_run.proofs.RunningSourceLemmas.{wrote_row}
 use Rattle.register_run.proofs.StripeLemmas.{any_here}
-use Rattle.register_run.specs.Stripes.{StripeTook}
 use Rattle.register_run.proofs.running_sources.RunningSource.add_row.Goals as goal
 
 pub invariant_of-self-clause-wrote : goal.invariant_of-self-clause-wrote

@@ -1,6 +1,5 @@
-use Rattle.std.proofs.Common.{rules}
-use Rattle.register_run.proofs.PoppedLemmas.{in_turn_ended}
-use Rattle.register_run.proofs.RunningSourceLemmas.{wrote_same}
+use Rattle.register_run.proofs.Common.{rules}
+use Rattle.register_run.proofs.RunningSourceLemmas.{in_turn_ended, wrote_same}
 use Rattle.register_run.proofs.running_sources.RunningSource.end_lane.Goals as goal
 
 pub invariant_of-self-2-clause-reads : goal.invariant_of-self-2-clause-reads

@@ -1,7 +1,7 @@
-use Rattle.std.proofs.Common.{◌∙◌, ap, inl, inr, sym, Err}
+use Rattle.register_run.proofs.Common.{◌∙◌, ap, inl, inr, sym, Err}
 use Rattle.register_run.proofs.RunningSourceLemmas.{concludes, not_started, why_unstarted, wrote_same}
-use Rattle.register_run.proofs.running_sources.RunningSource.finish.Goals as goal
 use Rattle.register_run.proofs.running_sources.RunningSource.finish.Goals.{in-Err, in-Ok}
+use Rattle.register_run.proofs.running_sources.RunningSource.finish.Goals as goal
 
 pub conclude-requires-clause-passed : goal.conclude-requires-clause-passed
 conclude-requires-clause-passed g c =

@@ -1,6 +1,5 @@
-use Rattle.std.proofs.Common.{length-set}
-use Rattle.register_run.proofs.PoppedLemmas.{in_turn_popped, popped_at}
-use Rattle.register_run.proofs.RunningSourceLemmas.{wrote_same}
+use Rattle.register_run.proofs.Common.{length-set}
+use Rattle.register_run.proofs.RunningSourceLemmas.{in_turn_popped, popped_at, wrote_same}
 use Rattle.register_run.proofs.StripeLemmas.{same_stripes}
 use Rattle.register_run.proofs.running_sources.RunningSource.pass.Goals as goal
 

@@ -1,19 +1,12 @@
-use Rattle.std.proofs.Common.{◌≡◌, [], IfErr, ap, arith, subst, sym}
-use Rattle.register_run.proofs.Common.{popped}
-use Rattle.register_run.proofs.running_sources.RunningSource.start.Goals as goal
+use Rattle.register_run.proofs.Common.{◌≡◌, ap, arith, subst, sym, popped}
 use Rattle.register_run.proofs.running_sources.RunningSource.start.Goals.{in-Err, in-Ok}
+use Rattle.register_run.proofs.running_sources.RunningSource.start.Goals as goal
 
 pub invariant_of-result-clause-reads : goal.invariant_of-result-clause-reads
-invariant_of-result-clause-reads g c = elim c.match-start_threads.branch [
-  | in-Ok w ↦ rw (w.reader-is, c.of-given.ensures, c.new-table.ensures.setup) w.in-Ok.ensures.reads
-  | in-Err w ↦ rw w.reader-is tt
-]
+invariant_of-result-clause-reads g c = grind arith
 
 pub invariant_of-result-clause-unstarted : goal.invariant_of-result-clause-unstarted
-invariant_of-result-clause-unstarted g c = elim c.match-start_threads.branch [
-  | in-Ok w ↦ subst (λ x. IfErr x.0 (λ _. x.1.items ≡ [])) (sym w.reader-is) tt
-  | in-Err w ↦ subst (λ x. IfErr x.0 (λ _. x.1.items ≡ [])) (sym w.reader-is) w.new.ensures.items
-]
+invariant_of-result-clause-unstarted g c = grind arith
 
 pub invariant_of-result-clause-by_turns : goal.invariant_of-result-clause-by_turns
 invariant_of-result-clause-by_turns g c all w many =

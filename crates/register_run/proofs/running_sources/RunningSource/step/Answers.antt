@@ -1,14 +1,10 @@
-use Rattle.std.proofs.Common.{arith, length-set, rules}
-use Rattle.register_run.proofs.PoppedLemmas.{in_turn_looked, looked_at}
-use Rattle.register_run.proofs.RunningSourceLemmas.{wrote_same}
+use Rattle.register_run.proofs.Common.{arith, length-set, rules}
+use Rattle.register_run.proofs.RunningSourceLemmas.{in_turn_looked, looked_at, wrote_same}
 use Rattle.register_run.proofs.StripeLemmas.{same_stripes}
 use Rattle.register_run.proofs.running_sources.RunningSource.step.Goals as goal
 
 pub invariant_of-self-clause-reads : goal.invariant_of-self-clause-reads
-invariant_of-self-clause-reads g c =
-    let s = c.args.self.now in
-    let same = same_stripes s.stripes.items s.turn c.look.new.self _ c.index_mut.ensures.value c.look.ensures.same in
-    rw (same.lanes, same.setups) s.reads
+invariant_of-self-clause-reads g c = grind (arith, same_stripes)
 
 pub invariant_of-self-clause-by_turns : goal.invariant_of-self-clause-by_turns
 invariant_of-self-clause-by_turns g c =

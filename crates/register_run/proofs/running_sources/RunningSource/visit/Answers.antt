@@ -1,4 +1,4 @@
-use Rattle.std.proofs.Common.{rules}
+use Rattle.register_run.proofs.Common.{rules}
 use Rattle.register_run.proofs.RunningSourceLemmas.{wrote_same}
 use Rattle.register_run.proofs.running_sources.RunningSource.visit.Goals as goal
 

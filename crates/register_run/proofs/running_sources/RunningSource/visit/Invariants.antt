@@ -1,5 +1,4 @@
-use Rattle.std.proofs.Common.{◌≡◌, ◌≤◌, ◌+◌}
-use Rattle.register_run.proofs.Common.{case_of, popped}
+use Rattle.register_run.proofs.Common.{◌≡◌, ◌≤◌, ◌+◌, case_of, popped}
 use Rattle.register_run.proofs.running_sources.RunningSource.visit.Given as goal
 
 abbrev pub invariant-loop : goal.invariant-loop

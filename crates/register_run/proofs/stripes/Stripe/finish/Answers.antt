@@ -1,5 +1,4 @@
-use Rattle.std.proofs.Common.{refl}
-use Rattle.lane_rings.specs.Lane.{items}
+use Rattle.register_run.proofs.Common.{refl, items}
 use Rattle.register_run.proofs.CarriedLemmas.{passed_on}
 use Rattle.register_run.proofs.stripes.Stripe.finish.Goals as goal
 

@@ -1,7 +1,7 @@
-use Rattle.std.proofs.Common.{rules}
+use Rattle.register_run.proofs.Common.{rules}
 use Rattle.lane_rings.specs.declared.item.Item.TheVariants as item
 use Rattle.register_run.specs.Stripes.{StripeTook}
-use Rattle.register_run.proofs.ItemLemmas.{seen_kept}
+use Rattle.register_run.proofs.CarriedLemmas.{seen_kept}
 use Rattle.register_run.proofs.stripes.Stripe.look.Goals as goal
 
 pub returns-in-Ok-true-clause-same : goal.returns-in-Ok-true-clause-same

@@ -1,4 +1,4 @@
-use Rattle.std.proofs.Common.{rules, refl}
+use Rattle.register_run.proofs.Common.{rules, refl}
 use Rattle.register_run.proofs.CarriedLemmas.{mark_passed}
 use Rattle.register_run.proofs.stripes.Stripe.take_found.Goals as goal
 

@@ -1,5 +1,5 @@
 -- Where the months of a Hebrew year begin, and which one a place in the year lies in.
-use Rattle.std.proofs.Common.{◌≡◌, ℕ, ◌+◌, ◌-◌, ◌*◌, ◌/◌, ◌<◌, ◌≤◌, ◌==◌, ◌&&◌, Bool, true, false, List, length, IsTrue}
+use Rattle.std.proofs.Common.{◌≡◌, ℕ, ◌+◌, ◌-◌, ◌/◌, ◌<◌, ◌≤◌, ◌==◌, ◌&&◌, Bool, true, false, List, length, IsTrue}
 use Rattle.std.proofs.Common.{refl, arith, inl, inr, take, get_or, leb, nat_le, slice_index}
 use Rattle.std.specs.List.{list_all, range_with_len}
 use Rattle.std.proofs.lemmas.Bool.Decides.{nat_tests}
@@ -39,6 +39,7 @@ is_placed ms place =
     let index = later_by (total_days (take (place / 30 + 1) ms)) place in
     is_month_at ms place index (total_days (take index ms)) (month_of ms index).number
 
+-- and each place in a year of one of the six lengths passes it, which is computed
 all_placed : (leap : Bool) (days : ℕ) → IsYearLength leap days
     → IsTrue (list_all (is_placed (months_by_length leap days)) (range_with_len 0 days))
 unfolding is_placed

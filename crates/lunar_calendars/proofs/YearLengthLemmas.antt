@@ -10,8 +10,8 @@ use Rattle.day_numbers.proofs.RulesLemmas.{years_zero, years_suc}
 use Rattle.day_numbers.proofs.SignedArithmeticLemmas.{signed_arith}
 use Rattle.lunar_calendars.specs.Hebrew.{IsYearLength, is_leap_year, epoch, new_year_of, days_in_year, months_by_length}
 use Rattle.lunar_calendars.specs.Hebrew.{months_of_year, year_lengths, hebrew_rules}
-use Rattle.lunar_calendars.specs.HebrewOpenings.{IsOpening}
-use Rattle.lunar_calendars.proofs.NewYearLemmas.{days_from_monday, opens_by_week, parts_after}
+use Rattle.lunar_calendars.specs.HebrewOpenings.{IsOpening, days_from_monday}
+use Rattle.lunar_calendars.proofs.NewYearLemmas.{opens_by_week, parts_after}
 use Rattle.lunar_calendars.proofs.NewYearLemmas.{new_year_after, new_year_is, first_new_year, new_year_bounds}
 
 -- n lies from low to high above m

@@ -34,12 +34,12 @@ small_prior y m h a b = grind (arith, signed_arith, follows, months_small, ides_
 
 -- ---- the principal days of a month
 -- the day of the month of a principal day
-abbrev day_in_month : ℕ → RomanName → ℕ
+abbrev pub day_in_month : ℕ → RomanName → ℕ
 day_in_month m (Nones k) = day_of_ides m - 8
 day_in_month m (Ides k) = day_of_ides m
 day_in_month m name = 1
 
-principal_is : (y : ℤ) (m : ℕ) (name : RomanName) → IsMonth y m → IsDateOf julian_rules y m (day_in_month m name)
+pub principal_is : (y : ℤ) (m : ℕ) (name : RomanName) → IsMonth y m → IsDateOf julian_rules y m (day_in_month m name)
     × (principal_day y m name ≡ day_number_of julian_rules y m (day_in_month m name))
 principal_is y m SecondSixth h =
     ((h.0, omega arith, omega (arith, months_small (is_julian_leap y) m h.1 h.2)), refl)

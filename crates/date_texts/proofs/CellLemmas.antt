@@ -1,31 +1,17 @@
 -- A target and a day have one cell.
 use Rattle.std.proofs.Common.{◌≡◌, ◌≤◌, ℕ, Bool, IsTrue, List, [], Option, Some, None, ℤ, refl, sym, subst, ap, ◌∙◌}
 use Rattle.std.proofs.Common.{arith, IfSome, IsSome}
-use Rattle.std.specs.List.{list_all}
-use Rattle.day_numbers.specs.declared.ymd.Ymd.{Ymd}
 use Rattle.day_numbers.specs.Days.{IsSinceFirstDay}
-use Rattle.day_numbers.proofs.DateLemmas.{rules_one_date, rules_have_days}
 use Rattle.solar_calendars.specs.IsoWeekLaw.{one_week_date}
 use Rattle.solar_calendars.specs.Laws.{OneRomanDate}
-use Rattle.date_texts.specs.declared.calendar.Calendar.{Calendar}
-use Rattle.date_texts.specs.declared.calendar.Calendar.TheVariants.{Longcount}
-use Rattle.date_texts.specs.declared.target.Target.{Target}
-use Rattle.date_texts.specs.declared.target.Target.TheVariants.{Date as DateTarget, Haab, Tzolkin}
-use Rattle.date_texts.specs.declared.date.Date.{Date}
-use Rattle.date_texts.specs.declared.date.Date.TheVariants.{Civil, Long, Roman}
-use Rattle.date_texts.specs.Calendars.{Reckoning, by_rules, by_weeks, reckoning, IsDateBy}
-use Rattle.date_texts.specs.Calendars.{IsCivil, grammar}
-use Rattle.date_texts.specs.Calendars.{day_number_by, first_day_by}
-use Rattle.date_texts.specs.Dates.{calendar_of_date, IsDateOfCalendar, day_number_of_date}
 use Rattle.date_texts.specs.CivilText.{canonical_civil}
-use Rattle.date_texts.specs.DateText.{canonical_text}
-use Rattle.date_texts.specs.Cells.{IsDateCell, on_date, no_date, IsCell, numbered_name}
-use Rattle.day_numbers.proofs.NameLemmas.{each_name}
-use Rattle.maya_calendars.specs.HaabNames.{haab_of, month_names}
-use Rattle.maya_calendars.specs.TzolkinNames.{tzolkin_of, name_texts}
 use Rattle.maya_calendars.specs.Laws.{HaabDaysInRange, TzolkinNumbersInRange}
-use Rattle.maya_calendars.proofs.LongCountLemmas.{one_long_count, day_since_epoch}
-use Rattle.date_texts.specs.Laws.{OneCell}
+use Rattle.date_texts.proofs.Common.{by_rules, by_weeks, Calendar, calendar_of_date, canonical_text, Civil, Date}
+use Rattle.date_texts.proofs.Common.{DateTarget, day_number_by, day_number_of_date, day_since_epoch, each_name}
+use Rattle.date_texts.proofs.Common.{first_day_by, grammar, Haab, haab_of, IsCell, IsCivil, IsDateBy, IsDateCell}
+use Rattle.date_texts.proofs.Common.{IsDateOfCalendar, list_all, Long, Longcount, month_names, name_texts, no_date}
+use Rattle.date_texts.proofs.Common.{numbered_name, on_date, one_long_count, OneCell, Reckoning, reckoning, Roman}
+use Rattle.date_texts.proofs.Common.{rules_have_days, rules_one_date, Target, Tzolkin, tzolkin_of, Ymd}
 use Rattle.date_texts.proofs.DatePartLemmas.{civil_same}
 
 -- ---- a calendar has one date on a day, and none before its first day

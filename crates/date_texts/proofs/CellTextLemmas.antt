@@ -1,29 +1,16 @@
 -- The bytes and the lengths of cells.
 use Rattle.std.proofs.Common.{ℕ, zero, suc, ◌+◌, ◌-◌, ◌≤◌, ◌<◌, ◌≡◌, ◌&&◌, List, [], ◌∷◌, Bool, true, IsTrue, ℤ, refl}
 use Rattle.std.proofs.Common.{arith, length, length-append, IsAscii, nat_le}
-use Rattle.std.specs.Fmt.{decimal}
-use Rattle.std.specs.List.{list_all}
-use Rattle.std.proofs.lemmas.Bool.{and_parts}
-use Rattle.std.proofs.lemmas.Bool.Decides.{nat_tests}
-use Rattle.std.proofs.lemmas.List.Folds.{list_all-append}
 use Rattle.day_numbers.specs.Numbered.{name_of_number, words}
-use Rattle.day_numbers.proofs.NameLemmas.{each_name}
-use Rattle.maya_calendars.specs.HaabNames.{month_names}
-use Rattle.maya_calendars.specs.TzolkinNames.{name_texts}
-use Rattle.maya_calendars.specs.declared.long_count.LongCount.{LongCount}
 use Rattle.maya_calendars.specs.Laws.{HaabDaysInRange, TzolkinNumbersInRange}
-use Rattle.date_texts.specs.declared.calendar.Calendar.{Calendar}
-use Rattle.date_texts.specs.declared.date.Date.{Date}
-use Rattle.date_texts.specs.declared.date.Date.TheVariants.{Long}
-use Rattle.date_texts.specs.Cells.{IsCell, IsDateCell, on_date, no_date, is_plain, numbered_name}
-use Rattle.date_texts.specs.Dates.{IsDateOfCalendar}
-use Rattle.date_texts.specs.LongText.{canonical_long}
-use Rattle.date_texts.specs.DateText.{canonical_text}
-use Rattle.date_texts.specs.declared.target.Target.{Target}
+use Rattle.byte_buffers.proofs.DigitLemmas.{one_or_two}
+use Rattle.date_texts.proofs.Common.{and_parts, Calendar, canonical_long, canonical_text, Date, decimal, each_name}
+use Rattle.date_texts.proofs.Common.{is_plain, IsCell, IsDateCell, IsDateOfCalendar, list_all, list_all-append, Long}
+use Rattle.date_texts.proofs.Common.{LongCount, month_names, name_texts, nat_tests, no_date, numbered_name, on_date}
+use Rattle.date_texts.proofs.Common.{Target}
 use Rattle.date_texts.proofs.CanonicalTextLemmas.{canonical_plain, canonical_short, marks_plain, numeral_short, place}
 use Rattle.date_texts.proofs.CanonicalTextLemmas.{short}
 use Rattle.date_texts.proofs.CellLemmas.{each_cell}
-use Rattle.byte_buffers.proofs.DigitLemmas.{one_or_two}
 
 abbrev pub ArePlain : List ℕ → Type 0
 ArePlain text = IsTrue (list_all is_plain text)

@@ -1,12 +1,11 @@
 -- Reading finds the civil dates and week dates that the grammar relates to a text, and nothing else.
 use Rattle.std.proofs.Common.{◌≡◌, ℕ, List, [], ◌∷◌, ◌++◌, refl, subst, ap, ◌∙◌, ◌≤◌, arith, Some, ℤ, ◌⊎◌, inl, inr}
-use Rattle.std.proofs.lemmas.Bool.Decides.{nat_tests}
-use Rattle.date_texts.specs.declared.grammar.Grammar.{Grammar}
 use Rattle.date_texts.specs.declared.grammar.Grammar.TheVariants.{Civil, Week}
 use Rattle.date_texts.specs.CivilText.{IsMonthText, of_month, capital_week, small_week, IsCivilText}
 use Rattle.date_texts.specs.CivilReading.{after_week_letter, after_mark, month_at, civil_at}
-use Rattle.date_texts.proofs.ReadingLemmas.{NoDigitFirst, Reads, bind_some, some_inside, numbers, years}
-use Rattle.date_texts.proofs.ReadingLemmas.{numeral_below, part_found, part_taken, last_found, last_taken}
+use Rattle.date_texts.proofs.Common.{Grammar, nat_tests}
+use Rattle.date_texts.proofs.ReadingLemmas.{NoDigitFirst, Reads, bind_some, some_inside, numbers, years, numeral_below}
+use Rattle.date_texts.proofs.ReadingLemmas.{part_found, part_taken, last_found, last_taken}
 
 -- the letter before a week
 letter_read : (bytes rest : List ℕ) → after_week_letter bytes ≡ Some rest → (bytes ≡ 87 ∷ rest) ⊎ (bytes ≡ 119 ∷ rest)

@@ -2,42 +2,24 @@
 -- dates that a `Date` holds are finitely many, so what can be decided of each of them can be decided of all.
 use Rattle.std.proofs.Common.{◌≡◌, inl, inr, ℕ, zero, suc, ◌+◌, ◌-◌, ◌<◌, ◌≤◌, min, List, [], Option, None, Some, refl}
 use Rattle.std.proofs.Common.{sym, subst, ap, arith, rules, ℤ, pos, negsuc, ◌-ℤ◌, ◌↔◌}
-use Rattle.std.specs.Str.{str_to_ascii_lowercase}
-use Rattle.day_numbers.specs.Dates.{IsYear}
 use Rattle.day_numbers.specs.Rules.{Years, from_one, without_zero, HasYear}
-use Rattle.day_numbers.specs.declared.ymd.Ymd.{Ymd}
-use Rattle.day_numbers.proofs.DateLemmas.{ymd_same}
-use Rattle.day_numbers.proofs.SignedArithmeticLemmas.{signed_arith}
-use Rattle.solar_calendars.specs.Roman.{IsRomanDate, count_of, has_two_sixths}
 use Rattle.solar_calendars.specs.RomanPlaces.{HasPlace}
 use Rattle.solar_calendars.specs.declared.roman_date.RomanDate.{RomanDate}
-use Rattle.solar_calendars.specs.declared.roman_date.RomanName.{RomanName}
 use Rattle.solar_calendars.specs.declared.roman_date.RomanName.TheVariants.{Kalends, Nones, Ides, SecondSixth}
-use Rattle.solar_calendars.proofs.RomanDateLemmas.{roman_same}
 use Rattle.solar_calendars.proofs.RomanPlaceLemmas.{month_of, placed}
-use Rattle.maya_calendars.specs.declared.long_count.LongCount.{LongCount}
-use Rattle.maya_calendars.proofs.LongCountLemmas.{same_places}
-use Rattle.date_texts.specs.Calendars.{IsCivil, IsDateBy, Reckoning, by_rules, by_weeks}
-use Rattle.date_texts.specs.Calendars.{calendar_name, grammar, reckoning}
-use Rattle.date_texts.specs.Cells.{IsCell, no_date, on_date}
 use Rattle.date_texts.specs.CivilReading.{civil_at}
-use Rattle.date_texts.specs.DateText.{IsDateText, SaysDate, canonical_text}
-use Rattle.date_texts.specs.Dates.{IsDateOfCalendar, calendar_of_date, day_number_of_date}
 use Rattle.date_texts.specs.LongReading.{long_at}
-use Rattle.date_texts.specs.Names.{IsNamed}
 use Rattle.date_texts.specs.RomanReading.{roman_at}
-use Rattle.date_texts.specs.Trimmed.{trimmed}
-use Rattle.date_texts.specs.declared.calendar.Calendar.{Calendar}
-use Rattle.date_texts.specs.declared.calendar.Calendar.TheVariants.{Longcount, Roman as RomanCalendar}
-use Rattle.date_texts.specs.declared.target.Target.{Target}
-use Rattle.date_texts.specs.declared.target.Target.TheVariants.{Date as DateTarget, Haab, Tzolkin}
-use Rattle.date_texts.specs.declared.date.Date.{Date}
-use Rattle.date_texts.specs.declared.date.Date.TheVariants.{Civil, Long, Roman}
+use Rattle.date_texts.proofs.Common.{by_rules, by_weeks, Calendar, calendar_name, calendar_of_date, canonical_text}
+use Rattle.date_texts.proofs.Common.{Civil, count_of, Date, DateTarget, day_number_of_date, grammar, Haab}
+use Rattle.date_texts.proofs.Common.{has_two_sixths, IsCell, IsCivil, IsDateBy, IsDateOfCalendar, IsDateText, IsNamed}
+use Rattle.date_texts.proofs.Common.{IsRomanDate, IsYear, Long, LongCount, Longcount, no_date, on_date, Reckoning}
+use Rattle.date_texts.proofs.Common.{reckoning, Roman, roman_same, RomanCalendar, RomanName, same_places, SaysDate}
+use Rattle.date_texts.proofs.Common.{signed_arith, str_to_ascii_lowercase, Target, trimmed, Tzolkin, Ymd, ymd_same}
 use Rattle.date_texts.proofs.CivilReadingLemmas.{civil_says, month_in}
 use Rattle.date_texts.proofs.DatePartLemmas.{civil_same}
 use Rattle.date_texts.proofs.DateTextLemmas.{Parts, none_says, parts_at}
-use Rattle.date_texts.proofs.DecisionLemmas.{Is, all_four, all_three, both, in_words}
-use Rattle.date_texts.proofs.DecisionLemmas.{is_at_most, is_integer, is_less_z}
+use Rattle.date_texts.proofs.DecisionLemmas.{Is, all_four, all_three, both, in_words, is_at_most, is_integer, is_less_z}
 use Rattle.date_texts.proofs.DecisionLemmas.{is_true, some_below}
 use Rattle.date_texts.proofs.LongReadingLemmas.{long_says, places_in}
 use Rattle.date_texts.proofs.ReadingLemmas.{bind_some, none_some, numeral_below, year_in}

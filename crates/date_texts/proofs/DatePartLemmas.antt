@@ -1,11 +1,7 @@
 -- Civil dates with the same parts are one value.
 use Rattle.std.proofs.Common.{◌≡◌}
 use Rattle.std.proofs.Props.{props}
-use Rattle.day_numbers.specs.declared.ymd.Ymd.{Ymd}
-use Rattle.day_numbers.proofs.DateLemmas.{same_made}
-use Rattle.date_texts.specs.declared.calendar.Calendar.{Calendar}
-use Rattle.date_texts.specs.Calendars.{IsCivil}
-use Rattle.date_texts.specs.declared.date.CivilDate.{CivilDate}
+use Rattle.date_texts.proofs.Common.{Calendar, CivilDate, IsCivil, same_made, Ymd}
 
 pub civil_same : (d e : CivilDate) → d.calendar ≡ e.calendar → d.ymd ≡ e.ymd → d ≡ e
 civil_same d e p q =

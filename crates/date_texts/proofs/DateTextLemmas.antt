@@ -1,23 +1,13 @@
 -- What the grammar and the canonical text say of dates.
 use Rattle.std.proofs.Common.{◌≡◌, ◌↔◌, ℕ, List, Option, Some, None, Err, ℤ, refl, sym, subst, ap, ◌∙◌}
 use Rattle.std.specs.Option.{ok_or}
-use Rattle.day_numbers.proofs.DateLemmas.{ymd_same}
-use Rattle.solar_calendars.specs.declared.roman_date.RomanName.{RomanName}
-use Rattle.solar_calendars.proofs.RomanDateLemmas.{roman_same}
-use Rattle.maya_calendars.proofs.LongCountLemmas.{same_places}
-use Rattle.date_texts.specs.declared.calendar.Calendar.{Calendar}
-use Rattle.date_texts.specs.declared.calendar.Calendar.TheVariants.{Longcount, Roman as RomanCalendar}
-use Rattle.date_texts.specs.declared.date.Date.{Date}
-use Rattle.date_texts.specs.declared.date.Date.TheVariants.{Civil, Long, Roman}
-use Rattle.date_texts.specs.declared.grammar.Grammar.{Grammar}
-use Rattle.date_texts.specs.Calendars.{grammar, IsCivil}
 use Rattle.date_texts.specs.CivilReading.{civil_at}
-use Rattle.date_texts.specs.DateText.{IsDateText, SaysDate, canonical_text}
-use Rattle.date_texts.specs.Dates.{calendar_of_date}
 use Rattle.date_texts.specs.LongReading.{long_at}
 use Rattle.date_texts.specs.Reading.{◌>>=◌}
 use Rattle.date_texts.specs.RomanReading.{roman_at}
-use Rattle.date_texts.specs.Trimmed.{trimmed}
+use Rattle.date_texts.proofs.Common.{Calendar, calendar_of_date, canonical_text, Civil, Date, Grammar, grammar, IsCivil}
+use Rattle.date_texts.proofs.Common.{IsDateText, Long, Longcount, Roman, roman_same, RomanCalendar, RomanName}
+use Rattle.date_texts.proofs.Common.{same_places, SaysDate, trimmed, ymd_same}
 use Rattle.date_texts.proofs.CanonicalTextLemmas.{canonical_says, canonical_trimmed}
 use Rattle.date_texts.proofs.CivilReadingLemmas.{civil_said, civil_says}
 use Rattle.date_texts.proofs.DatePartLemmas.{civil_same}

@@ -11,6 +11,7 @@
 --   WritingLemmas, PlaceLemmas: the digits of years and the places of long counts in `write_date` and `write_cell`.
 --   DecisionLemmas, DateDecisionLemmas: what can be decided of numbers, texts and dates, for the laws of the crates
 --     above.
+pub mod Common
 pub mod PlaceLemmas
 pub mod TextWords
 pub mod ReadingLemmas

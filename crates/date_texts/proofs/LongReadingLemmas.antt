@@ -1,9 +1,8 @@
 -- Reading finds the long counts that the grammar relates to a text, and nothing else.
 use Rattle.std.proofs.Common.{◌≡◌, ◌≤◌, arith, ℕ, List, [], ◌∷◌, ◌++◌, refl, subst, ap, ◌∙◌, Some, rules}
 use Rattle.maya_calendars.specs.Places.{ArePlaces}
-use Rattle.date_texts.specs.Numerals.{IsNumeral}
-use Rattle.date_texts.specs.LongText.{IsLongText}
 use Rattle.date_texts.specs.LongReading.{place_at, long_at}
+use Rattle.date_texts.proofs.Common.{IsLongText, IsNumeral}
 use Rattle.date_texts.proofs.ReadingLemmas.{numbers, numeral_below, part_found, part_taken, last_found, last_taken}
 
 below : {n : ℕ} {text : List ℕ} → IsNumeral 4 text n → n ≤ 9_999

@@ -2,14 +2,8 @@
 use Rattle.std.proofs.Common.{◌≡◌, ℕ, ◌+◌, ◌/◌, ◌%◌, ◌<◌, ◌≤◌, List, [], ◌∷◌, ◌++◌, length, take, drop, refl, sym, ap}
 use Rattle.std.proofs.Common.{◌∙◌, arith, append_assoc, length-append, inl, inr, get_or, nat_lt, true, false}
 use Rattle.std.proofs.Common.{take-append-drop, length-take-le}
-use Rattle.std.specs.Fmt.{decimal}
-use Rattle.std.proofs.Math.Seq.{take-append_seam}
-use Rattle.std.proofs.lemmas.Bool.{cases_lt}
-use Rattle.std.proofs.lemmas.Bool.Decides.{nat_tests}
 use Rattle.std.proofs.lemmas.Fmt.{decimal_digit}
-use Rattle.itoa.proofs.Decimal.{decimal_two}
-use Rattle.byte_buffers.specs.Buffers.{IsPut}
-use Rattle.date_texts.specs.LongText.{place_row}
+use Rattle.date_texts.proofs.Common.{cases_lt, decimal, decimal_two, IsPut, nat_tests, place_row, take-append_seam}
 
 -- the front of what was written
 pub put_front : {a b : List ℕ} {at i : ℕ} (x y : List ℕ) → at ≤ length a → IsPut a b at i (x ++ y)

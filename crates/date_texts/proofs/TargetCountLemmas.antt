@@ -1,19 +1,13 @@
 -- How many targets there are at most, where none is named twice.
 use Rattle.std.proofs.Common.{◌≡◌, ◌≢◌, ◌<◌, ℕ, List, [], ◌∷◌, sym, ap, ◌∙◌, arith, inl, inr, length, map, get_or, Some}
 use Rattle.std.proofs.Common.{false, true, eqb, slice_get}
-use Rattle.std.specs.List.{list_any, position_or_len}
-use Rattle.std.proofs.lemmas.List.Folds.{find_at}
-use Rattle.std.proofs.lemmas.Bool.Decides.{eqb_tells}
-use Rattle.std.proofs.lemmas.List.{get_or-map, length-map}
 use Rattle.std.proofs.lemmas.Map.Keys.{IsDistinct-from_apart}
 use Rattle.std.proofs.lemmas.Map.Steps.{length-le_from_distinct_below}
 use Rattle.std.proofs.lemmas.Option.{slice_get-get_or}
-use Rattle.date_texts.specs.declared.target.Target.{Target}
-use Rattle.date_texts.specs.declared.target.Target.TheVariants.{Date, Haab}
-use Rattle.date_texts.specs.declared.calendar.Calendar.TheVariants.{Gregorian}
+use Rattle.date_texts.specs.declared.target.Target.TheVariants.{Date}
 use Rattle.date_texts.specs.declared.target.TheConstants.{MAX_TARGETS}
-use Rattle.date_texts.specs.Laws.{FewTargets}
-use Rattle.date_texts.specs.Calendars.{target_name, all_targets}
+use Rattle.date_texts.proofs.Common.{all_targets, eqb_tells, FewTargets, find_at, get_or-map, Gregorian, Haab}
+use Rattle.date_texts.proofs.Common.{length-map, list_any, position_or_len, Target, target_name}
 use Rattle.date_texts.proofs.ReadingLemmas.{some_inside}
 use Rattle.date_texts.proofs.TargetNameLemmas.{has_name, finds_own}
 

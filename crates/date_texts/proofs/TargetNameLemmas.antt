@@ -1,16 +1,10 @@
 -- The search by name finds the target that a text names.
 use Rattle.std.proofs.Common.{◌≡◌, ◌↔◌, ℕ, List, [], ◌∷◌, Bool, true, IsTrue, Option, Some, None, refl, sym, ap, ◌∙◌}
 use Rattle.std.proofs.Common.{arith, find}
-use Rattle.std.specs.Str.{bytes_eq, str_to_ascii_lowercase}
-use Rattle.std.proofs.lemmas.Slice.Eq.{bytes_eq-Decides}
-use Rattle.std.proofs.lemmas.Bool.Decides.{nat_tests, same_from_decides}
-use Rattle.date_texts.specs.declared.calendar.Calendar.{Calendar}
-use Rattle.date_texts.specs.declared.calendar.Calendar.TheVariants.{Gregorian}
-use Rattle.date_texts.specs.declared.target.Target.{Target}
 use Rattle.date_texts.specs.declared.target.Target.TheVariants.{Date}
-use Rattle.date_texts.specs.Calendars.{calendar_name, target_name, all_targets}
-use Rattle.date_texts.specs.Names.{IsNamed}
-use Rattle.date_texts.specs.Trimmed.{trimmed}
+use Rattle.date_texts.proofs.Common.{all_targets, bytes_eq, bytes_eq-Decides, Calendar, calendar_name, Gregorian}
+use Rattle.date_texts.proofs.Common.{IsNamed, nat_tests, same_from_decides, str_to_ascii_lowercase, Target, target_name}
+use Rattle.date_texts.proofs.Common.{trimmed}
 use Rattle.date_texts.proofs.ReadingLemmas.{some_inside}
 
 -- the target with this name

@@ -1,7 +1,6 @@
 -- Words of the lemmas on date texts: digits and the number that they spell.
 use Rattle.std.specs.Prelude.{ℕ, ◌+◌, ◌-◌, ◌*◌, Bool, List, fold}
-use Rattle.std.specs.Char.{is_ascii_digit}
-use Rattle.std.specs.List.{list_all}
+use Rattle.date_texts.proofs.Common.{is_ascii_digit, list_all}
 
 -- ASCII digits alone
 abbrev pub all_digits : List ℕ → Bool

@@ -1,11 +1,9 @@
 -- The digits of a year, two at a time.
-use Rattle.std.proofs.Common.{◌≡◌, ℕ, ◌+◌, ◌<◌, ◌≤◌, ◌%◌, ◌/◌, ◌∷◌, ◌++◌}
-use Rattle.std.proofs.Common.{arith, append_assoc, length-append, eq-zero-or-pos}
+use Rattle.std.proofs.Common.{◌≡◌, ℕ, ◌+◌, ◌<◌, ◌≤◌, ◌%◌, ◌/◌, ◌∷◌, ◌++◌, arith, append_assoc, length-append}
+use Rattle.std.proofs.Common.{eq-zero-or-pos}
 use Rattle.std.proofs.lemmas.Fmt.{decimal_digit}
-use Rattle.itoa.proofs.Decimal.{pair, decimal_two, decimal_pair, decimal_four}
-use Rattle.itoa.proofs.Decimal.{length_pair}
-use Rattle.byte_buffers.specs.Buffers.{padded}
 use Rattle.byte_buffers.proofs.DigitLemmas.{two_digits}
+use Rattle.date_texts.proofs.Common.{decimal_four, decimal_pair, decimal_two, length_pair, padded, pair}
 
 -- a year of four digits or fewer
 small_year : (n : ℕ) → n < 100 → padded 4 n ≡ 48 ∷ 48 ∷ padded 2 n

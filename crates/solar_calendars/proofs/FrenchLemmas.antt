@@ -1,10 +1,9 @@
 -- The days of French years in closed form.
 use Rattle.std.proofs.Common.{◌≡◌, ℕ, zero, suc, ◌+◌, ◌*◌, ◌/◌, cond, arith, pos}
-use Rattle.std.proofs.lemmas.Bool.Decides.{nat_tests}
-use Rattle.day_numbers.specs.Rules.{days_of_years, total_days}
-use Rattle.day_numbers.proofs.RulesLemmas.{years_zero, years_suc}
+use Rattle.day_numbers.specs.Rules.{days_of_years}
 use Rattle.solar_calendars.specs.ThirteenMonths.{thirteen_months}
 use Rattle.solar_calendars.specs.French.{is_french_leap}
+use Rattle.solar_calendars.proofs.Common.{nat_tests, total_days, years_suc, years_zero}
 use Rattle.solar_calendars.proofs.ThirteenMonthsLemmas.{length_by, length_is}
 
 -- a leap day goes with a quotient that steps

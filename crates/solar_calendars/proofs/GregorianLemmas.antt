@@ -1,16 +1,6 @@
 -- Gregorian years in closed form, and jiff's dates by the rules.
 use Rattle.std.proofs.Common.{◌≡◌, ◌↔◌, ℕ, zero, suc, ◌+◌, ◌-◌, ◌*◌, ◌/◌, ◌≤◌, ◌<◌, Bool, refl, cond, arith, ℤ, pos}
 use Rattle.std.proofs.Common.{negsuc, neg_ℤ, ◌+ℤ◌, ◌-ℤ◌, ◌*ℤ◌, ◌≤ℤ◌}
-use Rattle.std.proofs.lemmas.Bool.Decides.{nat_tests}
-use Rattle.std.specs.Int.{int_div_euclid}
-use Rattle.day_numbers.specs.Dates.{IsBetween}
-use Rattle.day_numbers.specs.Days.{IsDayNumber}
-use Rattle.day_numbers.specs.Rules.{with_zero, HasYear, IsDateOf, year_length, year_start, days_of_month}
-use Rattle.day_numbers.specs.Rules.{days_before_month, day_number_of}
-use Rattle.day_numbers.proofs.RulesLemmas.{any_year, next_is, next_year, start_is, start_is_from, start_next}
-use Rattle.day_numbers.proofs.SignedArithmeticLemmas.{signed_arith}
-use Rattle.solar_calendars.specs.TwelveMonths.{twelve_months}
-use Rattle.solar_calendars.specs.Gregorian.{gregorian_rules, is_gregorian_leap}
 use Rattle.jiff_core.specs.Calendar.{is_leap_year, days_in_year, days_in_month, days_of_months, day_count}
 use Rattle.jiff_core.specs.Calendar.{days_from_civil, IsDate}
 use Rattle.jiff_core.specs.declared.civil.date.Date.{Date}
@@ -19,6 +9,10 @@ use Rattle.jiff_core.proofs.DateLemmas.{epoch_day_range}
 use Rattle.jiff_core.proofs.CalendarLemmas.{day_count-next_year, days_from_civil-day_count, days_of_months_table}
 use Rattle.jiff_core.proofs.CalendarLemmas.{day_count-day_of_year}
 use Rattle.jiff_core.proofs.MarchLemmas.{day_count-early}
+use Rattle.solar_calendars.proofs.Common.{any_year, day_number_of, days_before_month, days_of_month, gregorian_rules}
+use Rattle.solar_calendars.proofs.Common.{HasYear, int_div_euclid, is_gregorian_leap, IsBetween, IsDateOf, IsDayNumber}
+use Rattle.solar_calendars.proofs.Common.{nat_tests, next_is, next_year, signed_arith, start_is, start_is_from}
+use Rattle.solar_calendars.proofs.Common.{start_next, twelve_months, with_zero, year_length, year_start}
 
 abbrev pub closed : ℤ → ℤ
 closed y =

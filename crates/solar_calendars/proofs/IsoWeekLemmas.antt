@@ -1,12 +1,10 @@
 -- Each day lies in the year of weeks of its week's Thursday.
-use Rattle.std.proofs.Common.{◌≡◌, ℕ, ◌+◌, ◌*◌, ◌/◌, ◌≤◌, ◌<◌, Option, Some, None, IsSome, IfSome}
-use Rattle.std.proofs.Common.{sym, ap, ◌∙◌, arith, ℤ, pos, ◌+ℤ◌, ◌≤ℤ◌, ◌<ℤ◌}
-use Rattle.day_numbers.specs.Rules.{year_start, year_length}
+use Rattle.std.proofs.Common.{◌≡◌, ℕ, ◌+◌, ◌*◌, ◌/◌, ◌≤◌, ◌<◌, Option, Some, None, IsSome, IfSome, sym, ap, ◌∙◌, arith}
+use Rattle.std.proofs.Common.{ℤ, pos, ◌+ℤ◌, ◌≤ℤ◌, ◌<ℤ◌}
 use Rattle.day_numbers.specs.declared.ymd.Ymd.{Ymd}
-use Rattle.day_numbers.proofs.SignedArithmeticLemmas.{signed_arith}
-use Rattle.solar_calendars.specs.Gregorian.{gregorian_rules}
 use Rattle.solar_calendars.specs.IsoWeek.{monday_on_or_before, week_year_start, IsWeekDate, week_day_number}
 use Rattle.solar_calendars.specs.IsoWeekLaw.{one_week_date}
+use Rattle.solar_calendars.proofs.Common.{gregorian_rules, signed_arith, year_length, year_start}
 use Rattle.solar_calendars.proofs.GregorianLemmas.{january, length_is}
 
 -- the week date on a day is the only one

@@ -9,6 +9,7 @@
 --   RomanMonthLemmas, RomanPrincipalLemmas, RomanPlaceLemmas, RomanNameLemmas, RomanDateLemmas, each upon those before
 --     it: the clauses of `roman_day_of` and `roman_on`, and the law `one_roman_date`.
 --   KnownDateExamples: the definitions computed on known dates; it serves no clause.
+pub mod Common
 pub mod ThirteenMonthsLemmas
 pub mod CenturyLemmas
 pub mod FrenchLemmas

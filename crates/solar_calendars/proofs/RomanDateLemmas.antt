@@ -1,23 +1,17 @@
 -- The Roman date of a day.
-use Rattle.std.proofs.Common.{◌≡◌, ℕ, ◌≤◌, Bool, true, false, IsTrue, refl, sym, subst, ap, ◌∙◌, arith, ℤ, pos, negsuc, ◌≤ℤ◌, ◌<ℤ◌}
+use Rattle.std.proofs.Common.{◌≡◌, ℕ, ◌≤◌, Bool, true, false, IsTrue, refl, sym, subst, ap, ◌∙◌, arith, ℤ, pos, negsuc}
+use Rattle.std.proofs.Common.{◌≤ℤ◌, ◌<ℤ◌}
 use Rattle.std.proofs.Props.{props}
-use Rattle.day_numbers.specs.Days.{IsDayNumber}
-use Rattle.day_numbers.specs.Dates.{IsYear}
-use Rattle.day_numbers.specs.Rules.{IsDateOf, day_number_of}
 use Rattle.day_numbers.proofs.DateLemmas.{same_made}
-use Rattle.day_numbers.proofs.RulesLemmas.{date_in_year, date_unique}
-use Rattle.day_numbers.proofs.SignedArithmeticLemmas.{signed_arith}
-use Rattle.solar_calendars.specs.Julian.{julian_rules, is_julian_leap}
-use Rattle.std.proofs.lemmas.Int.{by_lt_z}
-use Rattle.std.proofs.lemmas.Bool.Decides.{nat_tests}
 use Rattle.solar_calendars.specs.Roman.{count_of, days_back, has_two_sixths, roman_day_number, IsRomanDate}
-use Rattle.solar_calendars.specs.declared.roman_date.RomanName.{RomanName}
-use Rattle.solar_calendars.specs.declared.roman_date.RomanName.TheVariants.{Kalends, Nones, Ides, SecondSixth}
-use Rattle.solar_calendars.proofs.RomanMonthLemmas.{ides_small}
-use Rattle.solar_calendars.proofs.RomanPrincipalLemmas.{day_in_month, principal_is}
 use Rattle.solar_calendars.specs.declared.roman_date.RomanDate.{RomanDate}
 use Rattle.solar_calendars.specs.RomanPlaces.{RomanParts, parts_on, parts_of}
 use Rattle.solar_calendars.specs.Laws.{OneRomanDate}
+use Rattle.solar_calendars.proofs.Common.{by_lt_z, date_in_year, date_unique, day_number_of, Ides, is_julian_leap}
+use Rattle.solar_calendars.proofs.Common.{IsDateOf, IsDayNumber, IsYear, julian_rules, Kalends, nat_tests, Nones}
+use Rattle.solar_calendars.proofs.Common.{RomanName, SecondSixth, signed_arith}
+use Rattle.solar_calendars.proofs.RomanMonthLemmas.{ides_small}
+use Rattle.solar_calendars.proofs.RomanPrincipalLemmas.{day_in_month, principal_is}
 use Rattle.solar_calendars.proofs.GregorianLemmas.{month_in}
 use Rattle.solar_calendars.proofs.JulianLemmas.{closed, julian_start}
 use Rattle.solar_calendars.proofs.RomanNameLemmas.{NamesDay, named_is}
@@ -84,7 +78,6 @@ year_near y n m d h e r =
 pub names_day : (r : RomanDate) (y n : ℤ) (m d : ℕ) → parts_of r ≡ parts_on y m d → IsDateOf julian_rules y m d
     → day_number_of julian_rules y m d ≡ n
     → IsRomanDate r.year r.month r.name × (roman_day_number r.year r.month r.name ≡ n)
-unfolding NamesDay
 names_day r y n m d e h k =
     let months = month_in (is_julian_leap y) m d h.1 h.2 in
     let v = named_is y m d h.0 months.0 months.1 h.1 h.2 in

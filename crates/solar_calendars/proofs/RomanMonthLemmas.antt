@@ -1,17 +1,11 @@
 -- Months one after the other, and their Kalends.
 use Rattle.std.proofs.Common.{inl, inr, ◌≡◌, ℕ, zero, suc, ◌+◌, ◌-◌, ◌≤◌, Bool, true, false, refl, subst, ap, arith, ℤ}
 use Rattle.std.proofs.Common.{pos, negsuc, ◌+ℤ◌, ◌-ℤ◌, List, [], ◌∷◌, if◌then◌else◌, ◌==◌, ◌&&◌, ne_eqb}
-use Rattle.std.proofs.lemmas.Bool.{cases_eq}
-use Rattle.std.proofs.lemmas.Bool.Decides.{nat_tests}
-use Rattle.day_numbers.specs.Rules.{without_zero, HasYear, numbered_from, days_before_month, days_of_month}
-use Rattle.day_numbers.specs.Rules.{total_days, year_start, year_length}
-use Rattle.day_numbers.proofs.RulesLemmas.{next_year, start_next}
-use Rattle.day_numbers.proofs.SignedArithmeticLemmas.{signed_arith}
-use Rattle.solar_calendars.specs.Julian.{julian_rules, is_julian_leap}
-use Rattle.solar_calendars.specs.TwelveMonths.{twelve_months}
 use Rattle.solar_calendars.specs.Roman.{day_of_ides, has_two_sixths}
 use Rattle.solar_calendars.specs.RomanPlaces.{kalends, month_length, year_before, month_before, year_of_month_before}
-use Rattle.solar_calendars.specs.RomanPlaces.{next_month, year_of_next_month}
+use Rattle.solar_calendars.proofs.Common.{cases_eq, days_before_month, days_of_month, HasYear, is_julian_leap}
+use Rattle.solar_calendars.proofs.Common.{julian_rules, nat_tests, next_year, numbered_from, signed_arith, start_next}
+use Rattle.solar_calendars.proofs.Common.{total_days, twelve_months, without_zero, year_length, year_start}
 
 first_before : (ds : List ℕ) (k : ℕ) → days_before_month (numbered_from k ds) k ≡ 0
 first_before [] k = refl
@@ -73,11 +67,9 @@ ides_small m = grind (arith, nat_tests)
 abbrev pub IsMonth : ℤ → ℕ → Type 0
 IsMonth y m = HasYear without_zero y × (1 ≤ m) × (m ≤ 12)
 
--- the month before a month: the way back to the month, and how far the Kalends lie apart
+-- the month before a month: how far the Kalends lie apart, and which of the two has the leap day
 pub record Follows (y : ℤ) (m : ℕ) (py : ℤ) (pm : ℕ) : Type 0 where
   pub is_month : IsMonth py pm
-  pub year_on : year_of_next_month py pm ≡ y
-  pub month_on : next_month pm ≡ m
   pub starts : kalends y m ≡ kalends py pm +ℤ pos (month_length py pm)
   pub leaps : has_two_sixths y m ≡ ((pm == 2) && is_julian_leap py)
 
@@ -87,15 +79,11 @@ follows y m h a b =
     elim (cases_eq m 1) [
       | inl e ↦ rw e (record {
         is_month = ((before_is y h).0, omega arith, omega arith);
-        year_on = (before_is y h).1;
-        month_on = refl;
         starts = january y h;
         leaps = refl;
       })
       | inr n ↦ rw (ne_eqb m 1 n) (record {
         is_month = (h, omega arith, omega arith);
-        year_on = rw (ne_eqb (m - 1) 12 (λ q. omega arith)) refl;
-        month_on = rw (ne_eqb (m - 1) 12 (λ q. omega arith)) (omega arith);
         starts = omega (arith, signed_arith, months_follow (is_julian_leap y) m (omega arith) b);
         leaps = grind (arith, nat_tests);
       })

@@ -1,17 +1,12 @@
 -- Each valid Roman date is the name of one Julian date, and each Julian date has one.
-use Rattle.std.proofs.Common.{inl, inr, ◌≡◌, ℕ, zero, suc, ◌+◌, ◌<◌, ◌≤◌, Bool, true, false, refl, sym, subst, ap}
+use Rattle.std.proofs.Common.{inl, inr, ◌≡◌, ℕ, zero, suc, ◌+◌, ◌<◌, ◌≤◌, Bool, true, false, refl}
 use Rattle.std.proofs.Common.{arith, ℤ, pos, negsuc, ◌+ℤ◌, ◌-ℤ◌, ◌==◌, ◌&&◌, ne_eqb, le-leb}
-use Rattle.std.proofs.lemmas.Bool.{cases_eq, cases_lt, lt-leb}
-use Rattle.day_numbers.specs.Rules.{without_zero, HasYear, day_number_of}
-use Rattle.day_numbers.proofs.RulesLemmas.{next_year}
-use Rattle.day_numbers.proofs.SignedArithmeticLemmas.{signed_arith}
-use Rattle.solar_calendars.specs.Julian.{julian_rules, is_julian_leap}
 use Rattle.solar_calendars.specs.Roman.{day_of_ides, has_two_sixths, roman_day_number, IsRomanDate}
-use Rattle.solar_calendars.specs.declared.roman_date.RomanName.{RomanName}
-use Rattle.solar_calendars.specs.declared.roman_date.RomanName.TheVariants.{Kalends}
-use Rattle.solar_calendars.specs.RomanPlaces.{kalends, month_length, next_month, year_of_next_month, IsPlaced}
-use Rattle.solar_calendars.specs.RomanPlaces.{place, month_before, year_before, year_of_month_before}
-use Rattle.solar_calendars.specs.RomanPlaces.{prior_length, prior_ides, name_within, name_after, RomanParts, parts_on}
+use Rattle.solar_calendars.specs.RomanPlaces.{kalends, month_length, next_month, year_of_next_month, IsPlaced, place}
+use Rattle.solar_calendars.specs.RomanPlaces.{month_before, year_before, year_of_month_before, prior_length, prior_ides}
+use Rattle.solar_calendars.specs.RomanPlaces.{name_within, name_after, RomanParts, parts_on}
+use Rattle.solar_calendars.proofs.Common.{cases_eq, cases_lt, day_number_of, HasYear, is_julian_leap, julian_rules}
+use Rattle.solar_calendars.proofs.Common.{Kalends, lt-leb, next_year, signed_arith, without_zero}
 use Rattle.solar_calendars.proofs.RomanMonthLemmas.{IsMonth, one_less, one_further, follows, ides_small}
 use Rattle.solar_calendars.proofs.RomanPlaceLemmas.{placed, number, sixths_length}
 use Rattle.solar_calendars.proofs.RomanPrincipalLemmas.{small_prior}
@@ -37,12 +32,6 @@ after_placed : (two : Bool) (i l p d : ℕ) → (two ≡ true → (l ≡ 29) × 
 after_placed false i l p d t a b = ((omega arith, omega arith), omega (arith, signed_arith))
 after_placed true i l p d t a b = leap_placed i l p d (t refl).0 (t refl).1 a b
 
-after_ides : (py y : ℤ) (pm m d : ℕ) (two : Bool) (name : RomanName) → day_of_ides pm < d
-    → year_of_next_month py pm ≡ y → next_month pm ≡ m
-    → two ≡ ((pm == 2) && is_julian_leap py) → name_after two (month_length py pm) d ≡ name
-    → parts_on py pm d ≡ record { year = y; month = m; name = name }
-after_ides py y pm m d two name more e f t x = grind (arith, signed_arith, lt-leb d (day_of_ides pm) more)
-
 -- the month after a month
 year_after : (y : ℤ) → HasYear without_zero y
     → HasYear without_zero (next_year without_zero y) × (year_before (next_year without_zero y) ≡ y)
@@ -56,14 +45,11 @@ next : (y : ℤ) (m : ℕ) → HasYear without_zero y → 1 ≤ m → m ≤ 12 �
 next y m h a b = grind (arith, signed_arith, cases_eq, year_after, ne_eqb)
 
 -- the name of a Julian date is valid, and names its day
-unfoldable pub NamesDay : ℤ → RomanParts → Type 0
+abbrev pub NamesDay : ℤ → RomanParts → Type 0
 NamesDay n r = IsRomanDate r.year r.month r.name × (roman_day_number r.year r.month r.name ≡ n)
 
 pub named_is : (y : ℤ) (m d : ℕ) → HasYear without_zero y → 1 ≤ m → m ≤ 12 → 1 ≤ d → d ≤ month_length y m
-    → IsRomanDate (parts_on y m d).year (parts_on y m d).month (parts_on y m d).name
-    × (roman_day_number (parts_on y m d).year (parts_on y m d).month (parts_on y m d).name ≡ day_number_of julian_rules
-    y m d)
-unfolding NamesDay
+    → NamesDay (day_number_of julian_rules y m d) (parts_on y m d)
 named_is y m d h a b one long =
     elim (cases_lt (day_of_ides m) d) [
       | inl more ↦
@@ -73,26 +59,19 @@ named_is y m d h a b one long =
           let f = follows ny nm x.0.0 x.0.1 x.0.2 in
           let length : prior_length ny nm ≡ month_length y m = rw (x.1, x.2) refl in
           let two : has_two_sixths ny nm ≡ ((m == 2) && is_julian_leap y) = rw (x.1, x.2) at f.leaps in
-          let starts : kalends ny nm ≡ kalends y m +ℤ pos (month_length y m) = rw (x.1, x.2)
-          at f.starts in
+          let starts : kalends ny nm ≡ kalends y m +ℤ pos (month_length y m) = rw (x.1, x.2) at f.starts in
           let before : prior_ides nm ≡ day_of_ides m = rw x.2 refl in
           let name = name_after (has_two_sixths ny nm) (prior_length ny nm) d in
           let w = after_placed (has_two_sixths ny nm) (day_of_ides nm) (prior_length ny nm) (prior_ides nm) d
           (sixths_length ny nm) (omega (arith, before)) (omega arith) in
-          let v = (placed ny nm name x.0.0 x.0.1 x.0.2).1 w.0 in
-          let n = number ny nm name w.0 in
-          let e = after_ides y ny m nm d (has_two_sixths ny nm) name more refl refl two
-          (ap (λ (z : ℕ). name_after (has_two_sixths ny nm) z d) (sym length)) in
-          subst (NamesDay (day_number_of julian_rules y m d)) (sym e)
-          (v, omega (arith, signed_arith, n, w.1, starts))
+          rw (lt-leb d (day_of_ides m) more, ← two, ← length) (
+            (placed ny nm name x.0.0 x.0.1 x.0.2).1 w.0,
+            omega (arith, signed_arith, number ny nm name w.0, w.1, starts),
+          )
       | inr less ↦
           let name = name_within (day_of_ides m) d in
-          let small = small_prior y m h a b in
           let w = within_placed (has_two_sixths y m) (day_of_ides m) (prior_length y m) (prior_ides m) d
-          (ides_small m).0 (ides_small m).1 small.1 one less in
-          let v = (placed y m name h a b).1 w.0 in
-          let n = number y m name w.0 in
-          let e : parts_on y m d ≡ record { year = y; month = m; name = name } = rw (le-leb d (day_of_ides m) less)
-          refl in
-          subst (NamesDay (day_number_of julian_rules y m d)) (sym e) (v, omega (arith, signed_arith, n, w.1))
+          (ides_small m).0 (ides_small m).1 (small_prior y m h a b).1 one less in
+          rw (le-leb d (day_of_ides m) less)
+          ((placed y m name h a b).1 w.0, omega (arith, signed_arith, number y m name w.0, w.1))
     ]

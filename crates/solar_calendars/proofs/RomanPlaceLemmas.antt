@@ -1,16 +1,11 @@
 -- Roman names by the days of the month.
-use Rattle.std.proofs.Common.{◌≡◌, ◌↔◌, ℕ, zero, suc, ◌+◌, ◌-◌, ◌<◌, ◌≤◌, Bool, true, false, refl, ap}
-use Rattle.std.proofs.Common.{arith, ℤ, pos, neg_ℤ, ◌+ℤ◌, ◌-ℤ◌, ◌≤ℤ◌, ◌<ℤ◌}
-use Rattle.std.proofs.lemmas.Bool.{cases_lt, le-leb, lt-leb}
-use Rattle.std.proofs.lemmas.Bool.Decides.{nat_tests}
-use Rattle.day_numbers.specs.Rules.{without_zero, HasYear}
-use Rattle.day_numbers.specs.Dates.{IsBetween}
-use Rattle.day_numbers.proofs.SignedArithmeticLemmas.{signed_arith}
+use Rattle.std.proofs.Common.{◌≡◌, ◌↔◌, ℕ, zero, suc, ◌+◌, ◌-◌, ◌<◌, ◌≤◌, Bool, true, false, refl, ap, arith, ℤ, pos}
+use Rattle.std.proofs.Common.{neg_ℤ, ◌+ℤ◌, ◌-ℤ◌, ◌≤ℤ◌, ◌<ℤ◌}
 use Rattle.solar_calendars.specs.Roman.{day_of_ides, has_two_sixths, days_back, roman_day_number, IsRomanDate}
-use Rattle.solar_calendars.specs.declared.roman_date.RomanName.{RomanName}
-use Rattle.solar_calendars.specs.declared.roman_date.RomanName.TheVariants.{Kalends, SecondSixth}
-use Rattle.solar_calendars.specs.RomanPlaces.{kalends, ides, month_before, year_of_month_before}
-use Rattle.solar_calendars.specs.RomanPlaces.{kalends_back, HasPlace, place, prior_length, prior_ides}
+use Rattle.solar_calendars.specs.RomanPlaces.{kalends, ides, month_before, year_of_month_before, kalends_back, HasPlace}
+use Rattle.solar_calendars.specs.RomanPlaces.{place, prior_length, prior_ides}
+use Rattle.solar_calendars.proofs.Common.{cases_lt, HasYear, IsBetween, Kalends, le-leb, lt-leb, nat_tests, RomanName}
+use Rattle.solar_calendars.proofs.Common.{SecondSixth, signed_arith, without_zero}
 use Rattle.solar_calendars.proofs.RomanMonthLemmas.{IsMonth, ides_small}
 use Rattle.solar_calendars.proofs.RomanPrincipalLemmas.{ides_are, small_prior, first_from}
 

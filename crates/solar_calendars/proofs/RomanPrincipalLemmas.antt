@@ -1,16 +1,12 @@
 -- Principal days, and that none lies between that of a name and the one before it.
-use Rattle.std.proofs.Common.{◌≡◌, ◌↔◌, ℕ, suc, ◌+◌, ◌-◌, ◌<◌, ◌≤◌, refl, arith, ℤ, pos, negsuc, ◌+ℤ◌, ◌-ℤ◌, ◌≤ℤ◌}
-use Rattle.std.proofs.Common.{◌<ℤ◌, unsigned_abs}
-use Rattle.std.proofs.lemmas.Int.{by_lt_z}
-use Rattle.day_numbers.specs.Rules.{without_zero, HasYear, IsDateOf, day_number_of}
-use Rattle.day_numbers.proofs.RulesLemmas.{date_unique}
-use Rattle.day_numbers.proofs.SignedArithmeticLemmas.{signed_arith}
-use Rattle.solar_calendars.specs.Julian.{julian_rules, is_julian_leap}
+use Rattle.std.proofs.Common.{◌≡◌, ◌↔◌, ℕ, suc, ◌+◌, ◌-◌, ◌<◌, ◌≤◌, refl, arith, ℤ, pos, negsuc, ◌+ℤ◌, ◌-ℤ◌, ◌≤ℤ◌, ◌<ℤ◌}
+use Rattle.std.proofs.Common.{unsigned_abs}
 use Rattle.solar_calendars.specs.Roman.{day_of_ides, principal_day}
-use Rattle.solar_calendars.specs.declared.roman_date.RomanName.{RomanName}
-use Rattle.solar_calendars.specs.declared.roman_date.RomanName.TheVariants.{Kalends, Nones, Ides, SecondSixth}
 use Rattle.solar_calendars.specs.RomanPlaces.{kalends, nones, ides, month_length, month_before, year_of_month_before}
 use Rattle.solar_calendars.specs.RomanPlaces.{preceding_day, prior_length, prior_ides}
+use Rattle.solar_calendars.proofs.Common.{by_lt_z, date_unique, day_number_of, HasYear, Ides, is_julian_leap, IsDateOf}
+use Rattle.solar_calendars.proofs.Common.{julian_rules, Kalends, Nones, RomanName, SecondSixth, signed_arith}
+use Rattle.solar_calendars.proofs.Common.{without_zero}
 use Rattle.solar_calendars.proofs.RomanMonthLemmas.{IsMonth, follows, ides_small, months_small}
 
 -- the Kalends of a month, by the Ides of the month before

@@ -1,9 +1,8 @@
 -- The days of years of thirteen months in closed form.
 use Rattle.std.proofs.Common.{◌≡◌, ℕ, zero, suc, ◌+◌, ◌*◌, ◌/◌, Bool, false, cond, arith, ℤ, pos}
-use Rattle.std.proofs.lemmas.Bool.Decides.{nat_tests}
-use Rattle.day_numbers.specs.Rules.{days_of_years, total_days}
-use Rattle.day_numbers.proofs.RulesLemmas.{years_zero, years_suc}
+use Rattle.day_numbers.specs.Rules.{days_of_years}
 use Rattle.solar_calendars.specs.ThirteenMonths.{thirteen_months, is_third_of_four}
+use Rattle.solar_calendars.proofs.Common.{nat_tests, total_days, years_suc, years_zero}
 
 -- the days of a year, by whether it is a leap year
 abbrev pub length_by : (ℤ → Bool) → ℤ → ℕ

@@ -29,7 +29,7 @@ pub use Rattle.maya_calendars.proofs.LongCountLemmas.{day_since_epoch, one_long_
 pub use Rattle.maya_calendars.specs.HaabNames.{haab_of, month_names}
 pub use Rattle.maya_calendars.specs.TzolkinNames.{name_texts, tzolkin_of}
 pub use Rattle.maya_calendars.specs.declared.long_count.LongCount.{LongCount}
-pub use Rattle.solar_calendars.proofs.RomanDateLemmas.{roman_same}
+pub use Rattle.solar_calendars.proofs.RomanPlaceLemmas.{roman_same}
 pub use Rattle.solar_calendars.specs.Roman.{IsRomanDate, count_of, has_two_sixths}
 pub use Rattle.solar_calendars.specs.declared.roman_date.RomanName.{RomanName}
 pub use Rattle.std.proofs.Math.Seq.{take-append_seam, take-length}

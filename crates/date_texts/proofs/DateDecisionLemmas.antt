@@ -1,32 +1,25 @@
 -- What can be decided of dates: whether a calendar has a date, which date a text says, and which cell a day has. The
 -- dates that a `Date` holds are finitely many, so what can be decided of each of them can be decided of all.
-use Rattle.std.proofs.Common.{◌≡◌, inl, inr, ℕ, zero, suc, ◌≤◌, List, [], Option, None, Some, refl}
-use Rattle.std.proofs.Common.{sym, subst, ap, arith, rules, ℤ, pos, ◌-ℤ◌, ◌+ℤ◌, unsigned_abs, ◌↔◌}
+use Rattle.std.proofs.Common.{◌≡◌, inl, inr, ℕ, zero, suc, ◌≤◌, List, [], Option, None, Some, refl, sym, subst, ap}
+use Rattle.std.proofs.Common.{arith, rules, ℤ, pos, ◌-ℤ◌, ◌+ℤ◌, unsigned_abs, ◌↔◌}
 use Rattle.day_numbers.specs.Rules.{Years, from_one, without_zero, HasYear}
 use Rattle.solar_calendars.specs.RomanPlaces.{HasPlace}
 use Rattle.solar_calendars.specs.declared.roman_date.RomanDate.{RomanDate}
 use Rattle.solar_calendars.specs.declared.roman_date.RomanName.TheVariants.{Kalends, Nones, Ides, SecondSixth}
-use Rattle.solar_calendars.proofs.RomanPlaceLemmas.{month_of, placed}
-use Rattle.std.proofs.Props.{props}
 use Rattle.date_texts.specs.CivilReading.{civil_at}
 use Rattle.date_texts.specs.LongReading.{long_at}
 use Rattle.date_texts.specs.RomanReading.{roman_at}
 use Rattle.date_texts.proofs.Common.{by_rules, by_weeks, Calendar, calendar_name, calendar_of_date, canonical_text}
 use Rattle.date_texts.proofs.Common.{Civil, count_of, Date, DateTarget, day_number_of_date, grammar, Haab}
-use Rattle.date_texts.proofs.Common.{has_two_sixths, IsCell, IsCivil, IsDateBy, IsDateOfCalendar, IsDateText, IsNamed}
-use Rattle.date_texts.proofs.Common.{IsRomanDate, IsYear, Long, LongCount, Longcount, no_date, on_date, Reckoning}
-use Rattle.date_texts.proofs.Common.{reckoning, Roman, RomanCalendar, RomanName, SaysDate}
-use Rattle.date_texts.proofs.Common.{str_to_ascii_lowercase, Target, trimmed, Tzolkin, Ymd}
-use Rattle.day_numbers.proofs.DateLemmas.{same_made}
-use Rattle.date_texts.proofs.Common.{ints}
-use Rattle.date_texts.proofs.CivilReadingLemmas.{civil_says, month_in}
-use Rattle.date_texts.proofs.DatePartLemmas.{civil_same}
-use Rattle.date_texts.proofs.DateTextLemmas.{Parts, none_says, parts_at}
+use Rattle.date_texts.proofs.Common.{has_two_sixths, ints, IsCell, IsCivil, IsDateBy, IsDateOfCalendar, IsDateText}
+use Rattle.date_texts.proofs.Common.{IsNamed, IsRomanDate, IsYear, Long, LongCount, Longcount, month_of, no_date}
+use Rattle.date_texts.proofs.Common.{on_date, placed, props, Reckoning, reckoning, Roman, RomanCalendar, RomanName}
+use Rattle.date_texts.proofs.Common.{same_made, SaysDate, str_to_ascii_lowercase, Target, trimmed, Tzolkin, Ymd}
+use Rattle.date_texts.proofs.DateReadingLemmas.{civil_says, month_in, long_says, places_in, count_in, roman_says}
+use Rattle.date_texts.proofs.DateTextLemmas.{civil_same, Parts, none_says, parts_at}
 use Rattle.date_texts.proofs.DecisionLemmas.{Is, all_four, all_three, both, in_words, is_at_most, is_integer, is_less_z}
 use Rattle.date_texts.proofs.DecisionLemmas.{is_true, some_below}
-use Rattle.date_texts.proofs.LongReadingLemmas.{long_says, places_in}
 use Rattle.date_texts.proofs.ReadingLemmas.{bind_some, none_some, numeral_below, year_in}
-use Rattle.date_texts.proofs.RomanReadingLemmas.{count_in, roman_says}
 use Rattle.date_texts.proofs.TargetNameLemmas.{calendar_in, calendar_is_named, named_by_search, target_by_name}
 
 -- ---- whether a calendar has a date

@@ -5,15 +5,12 @@ use Rattle.date_texts.specs.CivilReading.{civil_at}
 use Rattle.date_texts.specs.LongReading.{long_at}
 use Rattle.date_texts.specs.Reading.{◌>>=◌}
 use Rattle.date_texts.specs.RomanReading.{roman_at}
-use Rattle.date_texts.proofs.Common.{Calendar, calendar_of_date, canonical_text, Civil, Date, Grammar, grammar, IsCivil}
-use Rattle.date_texts.proofs.Common.{IsDateText, Long, Longcount, Roman, roman_same, RomanCalendar, RomanName}
-use Rattle.date_texts.proofs.Common.{same_places, SaysDate, trimmed, ymd_same}
+use Rattle.date_texts.proofs.Common.{Calendar, calendar_of_date, canonical_text, Civil, CivilDate, Date, grammar}
+use Rattle.date_texts.proofs.Common.{Grammar, IsCivil, IsDateText, Long, Longcount, props, Roman, roman_same}
+use Rattle.date_texts.proofs.Common.{RomanCalendar, RomanName, same_made, same_places, SaysDate, trimmed, Ymd, ymd_same}
 use Rattle.date_texts.proofs.CanonicalTextLemmas.{canonical_says, canonical_trimmed}
-use Rattle.date_texts.proofs.CivilReadingLemmas.{civil_said, civil_says}
-use Rattle.date_texts.proofs.DatePartLemmas.{civil_same}
-use Rattle.date_texts.proofs.LongReadingLemmas.{long_said, long_says}
+use Rattle.date_texts.proofs.DateReadingLemmas.{civil_said, civil_says, long_said, long_says, roman_said, roman_says}
 use Rattle.date_texts.proofs.ReadingLemmas.{bind_some, none_some, some_inside}
-use Rattle.date_texts.proofs.RomanReadingLemmas.{roman_said, roman_says}
 
 -- what a date text spells
 pub data Parts : Type 0 where
@@ -62,6 +59,12 @@ parts_say calendar text (Long n) of e =
 parts_say calendar text (Roman d) of e =
     let x = bind_some (roman_at text) _ _ (rw (sym of) at e) in
     (of, roman_says text (d.year, d.month, d.name) (cc))
+
+-- civil dates with the same parts are one value
+pub civil_same : (d e : CivilDate) → d.calendar ≡ e.calendar → d.ymd ≡ e.ymd → d ≡ e
+civil_same d e p q =
+    same_made (λ (x : Calendar × Ymd). IsCivil x.0) (λ x h. record { calendar = x.0; ymd = x.1; civil = h })
+    (λ x. hlevel props) (d.calendar, d.ymd) (e.calendar, e.ymd) (cc) d.civil e.civil
 
 date_same : (d e : Date) → calendar_of_date d ≡ calendar_of_date e → parts_of d ≡ parts_of e → d ≡ e
 date_same (Civil d) (Civil e) of p =

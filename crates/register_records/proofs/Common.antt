@@ -8,7 +8,7 @@ pub use Rattle.csv.specs.Writing.{needs_byte, needs_quotes}
 pub use Rattle.csv.specs.declared.parser.Config.{Config}
 pub use Rattle.csv.specs.declared.parser.State.{State}
 pub use Rattle.csv.specs.declared.reader.Reader.{Reader}
-pub use Rattle.date_texts.proofs.TextWords.{all_digits, value_after}
+pub use Rattle.date_texts.proofs.ReadingLemmas.{all_digits, value_after}
 pub use Rattle.date_texts.specs.Calendars.{all_targets, calendar_name, target_name}
 pub use Rattle.date_texts.specs.Cells.{is_plain}
 pub use Rattle.date_texts.specs.DateText.{IsDateText}

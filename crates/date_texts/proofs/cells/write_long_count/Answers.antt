@@ -1,6 +1,6 @@
 use Rattle.std.proofs.Common.{◌≡◌, ◌≤◌, ℤ, arith, length, refl}
 use Rattle.maya_calendars.specs.LongCounts.{IsLongCount, long_day}
-use Rattle.date_texts.proofs.Common.{canonical_text, CellsAreShort, DateTarget, ints, Long, Longcount, LongCount}
+use Rattle.date_texts.proofs.Common.{canonical_text, CellsAreShort, DateTarget, ints, Long, LongCount, Longcount}
 use Rattle.date_texts.proofs.Common.{on_date}
 use Rattle.date_texts.proofs.cells.write_long_count.Goals as goal
 

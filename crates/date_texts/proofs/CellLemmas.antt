@@ -80,19 +80,6 @@ pub civil_cell_is : (c : Calendar) (n : ℤ) (d : Ymd) (x : List ℕ) → IsCivi
     → day_number_by (reckoning c) d ≡ n → x ≡ canonical_civil (grammar c) d.year d.month d.day → IsDateCell c n x
 civil_cell_is c n d x civil h i e = on_date (Civil (record { calendar = c; ymd = d; civil = civil })) refl h i e
 
--- what holds of each date's cell, and of each small number with a name that passes a test as all names of months and
--- days do, holds of each cell
-pub each_cell : (P : List ℕ → Type 0) (test : List ℕ → Bool) → HaabDaysInRange → TzolkinNumbersInRange
-    → ((c : Calendar) (n : ℤ) (text : List ℕ) → IsDateCell c n text → P text)
-    → ((number : ℕ) (name : List ℕ) → number ≤ 99 → IsTrue (test name) → P (numbered_name number name))
-    → IsTrue (test []) → IsTrue (list_all test month_names) → IsTrue (list_all test name_texts)
-    → (target : Target) (n : ℤ) (text : List ℕ) → IsCell target n text → P text
-each_cell P test days numbers dates named none months names (DateTarget c) n text h = dates c n text h
-each_cell P test days numbers dates named none months names Haab n text h =
-    subst P (sym h) (named (haab_of n).0 _ (omega (arith, days n)) (each_name test month_names _ none months))
-each_cell P test days numbers dates named none months names Tzolkin n text h =
-    subst P (sym h) (named (tzolkin_of n).0 _ (omega (arith, numbers n)) (each_name test name_texts _ none names))
-
 abbrev pub ArePlain : List ℕ → Type 0
 ArePlain text = IsTrue (list_all is_plain text)
 
@@ -147,7 +134,10 @@ pub day_name_length : (place : ℕ) → length (name_of_number name_texts place)
 unfolding words
 day_name_length place = short_length _ (each_name is_short name_texts (place - 1) refl refl)
 
-numbered : (number : ℕ) (name : List ℕ) → number ≤ 99 → IsTrue (list_all is_plain name && is_short name)
+abbrev is_name : List ℕ → Bool
+is_name name = list_all is_plain name && is_short name
+
+numbered : (number : ℕ) (name : List ℕ) → number ≤ 99 → IsTrue (is_name name)
     → IsCellText (numbered_name number name)
 numbered number name small h =
     let both = and_parts (list_all is_plain name) (is_short name) h in (
@@ -162,6 +152,8 @@ numbered number name small h =
 pub cell_text : HaabDaysInRange → TzolkinNumbersInRange → (target : Target) (n : ℤ) (text : List ℕ)
     → IsCell target n text → IsCellText text
 unfolding words
-cell_text days numbers =
-    each_cell IsCellText (λ name. list_all is_plain name && is_short name) days numbers date_cell numbered refl refl
-    refl
+cell_text days numbers (DateTarget c) n text h = date_cell c n text h
+cell_text days numbers Haab n text h =
+    rw h (numbered (haab_of n).0 _ (omega (arith, days n)) (each_name is_name month_names ((haab_of n).1 - 1) refl refl))
+cell_text days numbers Tzolkin n text h =
+    rw h (numbered (tzolkin_of n).0 _ (omega (arith, numbers n)) (each_name is_name name_texts ((tzolkin_of n).1 - 1) refl refl))

@@ -154,6 +154,8 @@ pub cell_text : HaabDaysInRange → TzolkinNumbersInRange → (target : Target) 
 unfolding words
 cell_text days numbers (DateTarget c) n text h = date_cell c n text h
 cell_text days numbers Haab n text h =
-    rw h (numbered (haab_of n).0 _ (omega (arith, days n)) (each_name is_name month_names ((haab_of n).1 - 1) refl refl))
+    let (day, month) = haab_of n in
+    rw h (numbered day _ (omega (arith, days n)) (each_name is_name month_names (month - 1) refl refl))
 cell_text days numbers Tzolkin n text h =
-    rw h (numbered (tzolkin_of n).0 _ (omega (arith, numbers n)) (each_name is_name name_texts ((tzolkin_of n).1 - 1) refl refl))
+    let (number, name) = tzolkin_of n in
+    rw h (numbered number _ (omega (arith, numbers n)) (each_name is_name name_texts (name - 1) refl refl))

@@ -15,7 +15,8 @@ use Rattle.date_texts.proofs.Common.{has_two_sixths, ints, IsCell, IsCivil, IsDa
 use Rattle.date_texts.proofs.Common.{IsNamed, IsRomanDate, IsYear, Long, LongCount, Longcount, month_of, no_date}
 use Rattle.date_texts.proofs.Common.{on_date, placed, props, Reckoning, reckoning, Roman, RomanCalendar, RomanName}
 use Rattle.date_texts.proofs.Common.{same_made, SaysDate, str_to_ascii_lowercase, Target, trimmed, Tzolkin, Ymd}
-use Rattle.date_texts.proofs.DateReadingLemmas.{civil_says, month_in, long_says, places_in, count_in, roman_says}
+use Rattle.date_texts.proofs.DateReadingLemmas.{civil_says, month_in, long_says, places_in}
+use Rattle.date_texts.proofs.RomanReadingLemmas.{count_in, roman_says}
 use Rattle.date_texts.proofs.DateTextLemmas.{civil_same, Parts, none_says, parts_at}
 use Rattle.date_texts.proofs.DecisionLemmas.{Is, all_four, all_three, both, in_words, is_at_most, is_integer, is_less_z}
 use Rattle.date_texts.proofs.DecisionLemmas.{is_true, some_below}

@@ -9,7 +9,8 @@ use Rattle.date_texts.proofs.Common.{Calendar, calendar_of_date, canonical_text,
 use Rattle.date_texts.proofs.Common.{Grammar, IsCivil, IsDateText, Long, Longcount, props, Roman, roman_same}
 use Rattle.date_texts.proofs.Common.{RomanCalendar, RomanName, same_made, same_places, SaysDate, trimmed, Ymd, ymd_same}
 use Rattle.date_texts.proofs.CanonicalTextLemmas.{canonical_says, canonical_trimmed}
-use Rattle.date_texts.proofs.DateReadingLemmas.{civil_said, civil_says, long_said, long_says, roman_said, roman_says}
+use Rattle.date_texts.proofs.DateReadingLemmas.{civil_said, civil_says, long_said, long_says}
+use Rattle.date_texts.proofs.RomanReadingLemmas.{roman_said, roman_says}
 use Rattle.date_texts.proofs.ReadingLemmas.{bind_some, none_some, some_inside}
 
 -- what a date text spells

@@ -1,6 +1,6 @@
 -- Which file serves which public clause:
---   ReadingLemmas, DateReadingLemmas, DateTextLemmas: the clauses of `read_date`, and the laws `one_date_text` and
---     `canonical_texts_read_back`.
+--   ReadingLemmas, DateReadingLemmas, RomanReadingLemmas, DateTextLemmas: the clauses of `read_date`, and the laws
+--     `one_date_text` and `canonical_texts_read_back`.
 --   TargetNameLemmas: `calendar_named` and `target_named`, and the law `few_targets`.
 --   CellLemmas: `cell`, `value` of `write_cell`, the laws `one_cell`, `cells_are_short` and `cells_are_plain`, and with
 --     the second the room in `cell` and `write_cell`.
@@ -11,6 +11,7 @@
 pub mod Common
 pub mod ReadingLemmas
 pub mod DateReadingLemmas
+pub mod RomanReadingLemmas
 pub mod CanonicalTextLemmas
 pub mod DateTextLemmas
 pub mod CellLemmas

@@ -222,7 +222,8 @@ same_name two m a b s t e f = absurd (omega (arith, ides_small m, e))
 same_principal : (n p q : ℤ) → (p <ℤ n → p <ℤ p) → (p <ℤ q → p <ℤ n) → (q <ℤ p → q <ℤ n) → (q <ℤ n → q <ℤ q) → p ≡ q
 same_principal n p q a b c d =
     by_lt_z p q (λ less. absurd (omega (arith, signed_arith, a (b less))))
-    (λ most. by_lt_z q p (λ less. absurd (omega (arith, signed_arith, d (c less)))) (λ least. omega (arith, signed_arith)))
+    (λ most. by_lt_z q p (λ less. absurd (omega (arith, signed_arith, d (c less))))
+    (λ least. omega (arith, signed_arith)))
 
 -- two valid Roman dates of one day are one date: each has the first principal day from that day on
 pub one_roman_date : OneRomanDate

@@ -1,6 +1,4 @@
 -- The names of specs and of crates below that these proofs cite, passed on from one place.
-pub use Rattle.day_numbers.proofs.RulesLemmas.{any_year, date_at_place, date_in_year, date_unique, next_is, next_year}
-pub use Rattle.day_numbers.proofs.RulesLemmas.{start_is, start_is_from, start_next, years_suc, years_zero}
 pub use Rattle.day_numbers.proofs.SignedArithmeticLemmas.{signed_arith, signed_casts}
 pub use Rattle.day_numbers.specs.Dates.{IsBetween, IsYear}
 pub use Rattle.day_numbers.specs.Days.{IsDayNumber}

@@ -9,10 +9,10 @@ use Rattle.jiff_core.proofs.DateLemmas.{epoch_day_range}
 use Rattle.jiff_core.proofs.CalendarLemmas.{day_count-next_year, days_from_civil-day_count, days_of_months_table}
 use Rattle.jiff_core.proofs.CalendarLemmas.{day_count-day_of_year}
 use Rattle.jiff_core.proofs.MarchLemmas.{day_count-early}
-use Rattle.solar_calendars.proofs.Common.{any_year, day_number_of, days_before_month, days_of_month, gregorian_rules}
-use Rattle.solar_calendars.proofs.Common.{HasYear, int_div_euclid, is_gregorian_leap, IsBetween, IsDateOf, IsDayNumber}
-use Rattle.solar_calendars.proofs.Common.{nat_tests, next_is, next_year, signed_arith, start_is, start_is_from}
-use Rattle.solar_calendars.proofs.Common.{start_next, twelve_months, with_zero, year_length, year_start}
+use Rattle.day_numbers.proofs.RulesLemmas.{any_year, next_is, next_year, start_is, start_is_from, start_next}
+use Rattle.solar_calendars.proofs.Common.{day_number_of, days_before_month, days_of_month, gregorian_rules, HasYear}
+use Rattle.solar_calendars.proofs.Common.{int_div_euclid, is_gregorian_leap, IsBetween, IsDateOf, IsDayNumber}
+use Rattle.solar_calendars.proofs.Common.{nat_tests, signed_arith, twelve_months, with_zero, year_length, year_start}
 
 abbrev pub closed : ℤ → ℤ
 closed y =

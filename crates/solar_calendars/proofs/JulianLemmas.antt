@@ -2,10 +2,10 @@
 use Rattle.std.proofs.Common.{◌≡◌, ◌==◌, ℕ, zero, suc, ◌+◌, ◌*◌, ◌/◌, ◌%◌, ◌≤◌, refl, ap, arith, ℤ, pos, negsuc, neg_ℤ}
 use Rattle.std.proofs.Common.{◌+ℤ◌, ◌-ℤ◌, ◌*ℤ◌}
 use Rattle.solar_calendars.specs.Remainder.{remainder}
-use Rattle.solar_calendars.proofs.Common.{date_at_place, day_number_of, days_before_month, days_of_month, HasYear}
-use Rattle.solar_calendars.proofs.Common.{int_div_euclid, is_julian_leap, IsBetween, IsDateOf, julian_rules, nat_tests}
-use Rattle.solar_calendars.proofs.Common.{next_year, signed_arith, start_is, twelve_months, without_zero, year_length}
-use Rattle.solar_calendars.proofs.Common.{year_start, years_before}
+use Rattle.day_numbers.proofs.RulesLemmas.{date_at_place, next_year, start_is}
+use Rattle.solar_calendars.proofs.Common.{day_number_of, days_before_month, days_of_month, HasYear, int_div_euclid}
+use Rattle.solar_calendars.proofs.Common.{is_julian_leap, IsBetween, IsDateOf, julian_rules, nat_tests, signed_arith}
+use Rattle.solar_calendars.proofs.Common.{twelve_months, without_zero, year_length, year_start, years_before}
 
 abbrev pub closed : ℤ → ℤ
 closed y = pos 365 *ℤ years_before y +ℤ int_div_euclid (years_before y) (pos 4) -ℤ pos 1

@@ -1,15 +1,15 @@
 -- Months one after the other, and their principal days, the Kalends, Nones and Ides.
 use Rattle.std.proofs.Common.{inl, inr, ◌≡◌, ℕ, zero, suc, ◌+◌, ◌-◌, ◌≤◌, Bool, true, false, refl, subst, ap, arith, ℤ}
 use Rattle.std.proofs.Common.{pos, negsuc, ◌+ℤ◌, ◌-ℤ◌, List, [], ◌∷◌, if◌then◌else◌, ◌==◌, ◌&&◌, ne_eqb, ◌↔◌, ◌<◌, ◌≤ℤ◌}
-use Rattle.std.proofs.Common.{◌<ℤ◌, unsigned_abs}
-use Rattle.solar_calendars.specs.Roman.{day_of_ides, has_two_sixths, principal_day}
+use Rattle.std.proofs.Common.{◌<ℤ◌, unsigned_abs, IsTrue}
+use Rattle.solar_calendars.specs.Roman.{roman_day_number, IsRomanDate, day_of_ides, has_two_sixths, principal_day}
 use Rattle.solar_calendars.specs.RomanPlaces.{kalends, month_length, year_before, month_before, year_of_month_before}
 use Rattle.solar_calendars.specs.RomanPlaces.{nones, ides, preceding_day, prior_length, prior_ides}
-use Rattle.solar_calendars.proofs.Common.{cases_eq, days_before_month, days_of_month, HasYear, is_julian_leap}
-use Rattle.solar_calendars.proofs.Common.{julian_rules, nat_tests, next_year, numbered_from, signed_arith, start_next}
-use Rattle.solar_calendars.proofs.Common.{total_days, twelve_months, without_zero, year_length, year_start, by_lt_z}
-use Rattle.solar_calendars.proofs.Common.{date_unique, day_number_of, Ides, IsDateOf, Kalends, Nones, RomanName}
-use Rattle.solar_calendars.proofs.Common.{SecondSixth}
+use Rattle.day_numbers.proofs.RulesLemmas.{date_unique, next_year, start_next}
+use Rattle.solar_calendars.proofs.Common.{by_lt_z, cases_eq, day_number_of, days_before_month, days_of_month, HasYear}
+use Rattle.solar_calendars.proofs.Common.{Ides, is_julian_leap, IsDateOf, julian_rules, Kalends, nat_tests, Nones}
+use Rattle.solar_calendars.proofs.Common.{numbered_from, RomanName, SecondSixth, signed_arith, total_days}
+use Rattle.solar_calendars.proofs.Common.{twelve_months, without_zero, year_length, year_start}
 
 first_before : (ds : List ℕ) (k : ℕ) → days_before_month (numbered_from k ds) k ≡ 0
 first_before [] k = refl
@@ -205,31 +205,35 @@ precedes y m (Nones c) h = omega (arith, signed_arith, ides_small m)
 precedes y m (Ides c) h = omega (arith, signed_arith, ides_small m)
 precedes y m name h = omega (arith, signed_arith, ides_are y m h.0 h.1 h.2, (small_prior y m h.0 h.1 h.2).0)
 
--- ---- the first principal day from a day on
--- a principal day lies before day n exactly where it lies before day p
-abbrev IsFirstFrom : ℤ → ℤ → Type 0
-IsFirstFrom n p = (y : ℤ) (m : ℕ) (other : RomanName) → HasYear without_zero y → 1 ≤ m → m ≤ 12
-    → (principal_day y m other <ℤ n) ↔ (principal_day y m other <ℤ p)
-
--- where p is the principal day of a name, this is so where n is p or lies between it and the one before
-pub first_from : (y n : ℤ) (m : ℕ) (name : RomanName) → IsMonth y m
-    → IsFirstFrom n (principal_day y m name) ↔ ((preceding_day y m name <ℤ n) × (n ≤ℤ principal_day y m name))
-first_from y n m name h = (
-  λ f.
+-- a name is valid where its day lies behind the principal day before that of the name, and up to this
+pub valid_is : (y : ℤ) (m : ℕ) (name : RomanName) → IsMonth y m
+    → IsRomanDate y m name ↔ ((name ≡ SecondSixth → IsTrue (has_two_sixths y m))
+    × (preceding_day y m name <ℤ roman_day_number y m name) × (roman_day_number y m name ≤ℤ principal_day y m name))
+unfolding IsRomanDate
+valid_is y m name h = (
+  λ r.
       let (z, k, x, g, e) = preceding_is y m name h in
-      let last = (f z k x g.0 g.1 g.2).1 (rw e at (precedes y m name h)) in
-      let own = (f y m name h.0 h.1 h.2).0 in (
+      let last = (r.4 z k x g.0 g.1 g.2).1 (rw e at (precedes y m name h)) in
+      let own = (r.4 y m name h.0 h.1 h.2).0 in (
+        r.3,
         rw e last,
-        by_lt_z (principal_day y m name) n (λ lt. absurd (omega (arith, signed_arith, own lt))) (λ ge. ge),
+        by_lt_z (principal_day y m name) (roman_day_number y m name)
+            (λ lt. absurd (omega (arith, signed_arith, own lt))) (λ ge. ge),
       ),
-  λ s z k x a b c. (
-    λ lt. omega (arith, signed_arith, s.1, lt),
-    λ lt. by_lt_z (principal_day z k x) n (λ less. less)
-        (λ ge. absurd (omega (
-          arith,
-          signed_arith,
-          lt,
-          none_between y z m k name x h (a, b, c) (omega (arith, signed_arith, s.0, ge)),
-        ))),
+  λ s. (
+    h.0,
+    h.1,
+    h.2,
+    s.0,
+    λ z k x a b c. (
+      λ lt. omega (arith, signed_arith, s.2, lt),
+      λ lt. by_lt_z (principal_day z k x) (roman_day_number y m name) (λ less. less)
+          (λ ge. absurd (omega (
+            arith,
+            signed_arith,
+            lt,
+            none_between y z m k name x h (a, b, c) (omega (arith, signed_arith, s.1, ge)),
+          ))),
+    ),
   ),
 )

@@ -4,25 +4,21 @@ use Rattle.std.proofs.Common.{neg_ℤ, ◌+ℤ◌, ◌-ℤ◌, ◌≤ℤ◌, ◌
 use Rattle.std.proofs.Common.{subst, ◌∙◌}
 use Rattle.std.proofs.Props.{props}
 use Rattle.solar_calendars.specs.Roman.{day_of_ides, has_two_sixths, days_back, roman_day_number, IsRomanDate, count_of}
-use Rattle.solar_calendars.specs.RomanPlaces.{kalends, ides, month_before, year_of_month_before, kalends_back, HasPlace}
+use Rattle.solar_calendars.specs.RomanPlaces.{kalends, month_before, year_of_month_before, kalends_back, HasPlace}
 use Rattle.solar_calendars.specs.RomanPlaces.{place, prior_length, prior_ides, month_length, next_month}
 use Rattle.solar_calendars.specs.RomanPlaces.{year_of_next_month, IsPlaced, year_before, name_within, name_after}
 use Rattle.solar_calendars.specs.RomanPlaces.{RomanParts, parts_on, parts_of}
 use Rattle.day_numbers.proofs.DateLemmas.{same_made}
 use Rattle.solar_calendars.specs.declared.roman_date.RomanDate.{RomanDate}
 use Rattle.solar_calendars.specs.Laws.{OneRomanDate}
-use Rattle.solar_calendars.proofs.Common.{cases_lt, HasYear, IsBetween, Kalends, le-leb, lt-leb, nat_tests, RomanName}
-use Rattle.solar_calendars.proofs.Common.{SecondSixth, signed_arith, without_zero, cases_eq, day_number_of}
-use Rattle.solar_calendars.proofs.Common.{is_julian_leap, julian_rules, next_year, by_lt_z, date_in_year, date_unique}
-use Rattle.solar_calendars.proofs.Common.{Ides, IsDateOf, IsDayNumber, IsYear, Nones}
-use Rattle.solar_calendars.proofs.RomanMonthLemmas.{IsMonth, ides_small, ides_are, small_prior, first_from, one_less}
+use Rattle.day_numbers.proofs.RulesLemmas.{date_in_year, date_unique, next_year}
+use Rattle.solar_calendars.proofs.Common.{by_lt_z, cases_eq, cases_lt, day_number_of, HasYear, Ides, is_julian_leap}
+use Rattle.solar_calendars.proofs.Common.{IsBetween, IsDateOf, IsDayNumber, IsYear, julian_rules, Kalends, le-leb}
+use Rattle.solar_calendars.proofs.Common.{lt-leb, nat_tests, Nones, RomanName, SecondSixth, signed_arith, without_zero}
+use Rattle.solar_calendars.proofs.RomanMonthLemmas.{IsMonth, ides_small, ides_are, small_prior, valid_is, one_less}
 use Rattle.solar_calendars.proofs.RomanMonthLemmas.{one_further, follows, day_in_month, principal_is}
 use Rattle.solar_calendars.proofs.GregorianLemmas.{month_in}
 use Rattle.solar_calendars.proofs.JulianLemmas.{closed, julian_start}
-
--- a day that is counted back from a principal day, which lies so far after the one before it
-by_sides : (k b n : ℤ) (gap back : ℕ) → k ≡ b +ℤ pos gap → n ≡ k -ℤ pos back → (b <ℤ n) ↔ (back + 1 ≤ gap)
-by_sides k b n gap back e f = (λ s. omega (arith, signed_arith), λ q. omega (arith, signed_arith))
 
 -- how far a day lies from the Kalends, which are counted 1
 back_is : (two : Bool) (k : ℕ) → 1 ≤ k → days_back two (Kalends k) ≡ pos (kalends_back two k)
@@ -42,50 +38,33 @@ month_of y m name r = (r.0, r.1, r.2)
 -- the valid dates are those whose name names a day
 pub placed : (y : ℤ) (m : ℕ) (name : RomanName) → HasYear without_zero y → 1 ≤ m → m ≤ 12
     → IsRomanDate y m name ↔ HasPlace y m name
-unfolding IsRomanDate
 placed y m (Kalends k) h a b =
     let two = has_two_sixths y m in
-    let n = roman_day_number y m (Kalends k) in
-    let first = first_from y n m (Kalends k) (h, a, b) in
-    let far = λ (one : 1 ≤ k). by_sides (kalends y m) (ides (year_of_month_before y m) (month_before m)) n
-    (prior_length y m + 1 - prior_ides m) (kalends_back two k) (ides_are y m h a b)
-    (ap (λ z. kalends y m -ℤ z) (back_is two k one)) in (
+    let valid = valid_is y m (Kalends k) (h, a, b) in
+    let gap = ides_are y m h a b in
+    let small = small_prior y m h a b in (
       λ r.
-          let s = first.0 r.4 in
-          let one : 1 ≤ k = counted two k (omega (arith, signed_arith, s.1)) in
-          (one, omega (arith, (far one).0 s.0, small_prior y m h a b)),
-      λ p. (
-        h,
-        a,
-        b,
-        λ e. absurd (cc),
-        first.1 ((far p.0).1 (omega (arith, p, small_prior y m h a b)), omega (arith, signed_arith, back_is two k p.0)),
-      ),
+          let s = valid.0 r in
+          let one : 1 ≤ k = counted two k (omega (arith, signed_arith, s.2)) in
+          (one, omega (arith, signed_arith, s.1, gap, small, back_is two k one)),
+      λ p. let back = back_is two k p.0 in
+          valid.1 (
+            λ e. absurd (cc),
+            omega (arith, signed_arith, p, gap, small, back),
+            omega (arith, signed_arith, back),
+          ),
     )
 placed y m SecondSixth h a b =
-    let first = first_from y (roman_day_number y m SecondSixth) m SecondSixth (h, a, b) in
-    let s = by_sides (kalends y m) (ides (year_of_month_before y m) (month_before m))
-    (kalends y m -ℤ pos 5) (prior_length y m + 1 - prior_ides m) 5 (ides_are y m h a b) refl in (
-      λ r. r.3 refl,
-      λ p. (
-        h,
-        a,
-        b,
-        λ e. p,
-        first.1 (s.1 (omega (arith, small_prior y m h a b)), omega (arith, signed_arith)),
-      ),
+    let valid = valid_is y m SecondSixth (h, a, b) in
+    let gap = ides_are y m h a b in
+    let small = small_prior y m h a b in (
+      λ r. (valid.0 r).0 refl,
+      λ p. valid.1 (λ e. p, omega (arith, signed_arith, gap, small), omega (arith, signed_arith)),
     )
 placed y m name h a b =
-    let first = first_from y (roman_day_number y m name) m name (h, a, b) in (
-      λ r.
-          let s = first.0 r.4 in (omega (arith, signed_arith, s), omega (arith, signed_arith, s, ides_small m)),
-      λ p. (
-        h,
-        a,
-        b,
-        λ e. absurd (cc),
-        first.1 (omega (arith, signed_arith, p, ides_small m), omega (arith, signed_arith, p)),
-      ),
+    let valid = valid_is y m name (h, a, b) in (
+      λ r. let s = valid.0 r in (omega (arith, signed_arith, s), omega (arith, signed_arith, s, ides_small m)),
+      λ p. valid.1 (λ e. absurd (cc), omega (arith, signed_arith, p, ides_small m), omega (arith, signed_arith, p)),
     )
 
 -- and its day lies so far from the Kalends

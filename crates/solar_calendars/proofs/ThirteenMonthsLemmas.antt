@@ -3,7 +3,8 @@ use Rattle.std.proofs.Common.{◌≡◌, ℕ, zero, suc, ◌+◌, ◌*◌, ◌/�
 use Rattle.day_numbers.specs.Rules.{days_of_years}
 use Rattle.solar_calendars.specs.ThirteenMonths.{thirteen_months, is_third_of_four}
 use Rattle.solar_calendars.specs.French.{is_french_leap}
-use Rattle.solar_calendars.proofs.Common.{nat_tests, total_days, years_suc, years_zero}
+use Rattle.day_numbers.proofs.RulesLemmas.{years_suc, years_zero}
+use Rattle.solar_calendars.proofs.Common.{nat_tests, total_days}
 
 -- the days of a year, by whether it is a leap year
 abbrev pub length_by : (ℤ → Bool) → ℤ → ℕ

@@ -4,12 +4,12 @@ use Rattle.std.proofs.Common.{length-append, ◌||◌, ◌==◌, reverse, map}
 use Rattle.solar_calendars.specs.declared.roman_date.RomanName.TheVariants.{Kalends, Nones, Ides, SecondSixth}
 use Rattle.date_texts.specs.declared.grammar.Grammar.TheVariants.{Week}
 use Rattle.date_texts.specs.RomanText.{IsNameText, canonical_name, of_ides, of_kalends, of_nones, of_second_sixth}
-use Rattle.date_texts.proofs.Common.{and_parts, Calendar, calendar_of_date, canonical_civil, canonical_text}
-use Rattle.date_texts.proofs.Common.{canonical_year, capital_week, Civil, count_of, Date, decimal, grammar, Grammar}
-use Rattle.date_texts.proofs.Common.{is_ascii_alphanumeric, is_ascii_digit, is_plain, IsCivil, IsCivilText, IsNumeral}
-use Rattle.date_texts.proofs.Common.{Iso, IsYearText, list_all, list_all-append, Long, Longcount, minus, nat_tests}
-use Rattle.date_texts.proofs.Common.{of_month, padded, plain, reverse-append, reverse-reverse, Roman, RomanCalendar}
-use Rattle.date_texts.proofs.Common.{RomanName, SaysDate, trim_start, trimmed, Ymd}
+use Rattle.date_texts.specs.CivilText.{canonical_civil, capital_week, IsCivilText, of_month}
+use Rattle.date_texts.proofs.Common.{and_parts, Calendar, calendar_of_date, canonical_text, canonical_year, Civil}
+use Rattle.date_texts.proofs.Common.{count_of, Date, decimal, Grammar, grammar, is_ascii_alphanumeric, is_ascii_digit}
+use Rattle.date_texts.proofs.Common.{is_plain, IsCivil, IsNumeral, Iso, IsYearText, list_all, list_all-append, Long}
+use Rattle.date_texts.proofs.Common.{Longcount, minus, nat_tests, padded, plain, reverse-append, reverse-reverse, Roman}
+use Rattle.date_texts.proofs.Common.{RomanCalendar, RomanName, SaysDate, trim_start, trimmed, Ymd}
 use Rattle.date_texts.proofs.ReadingLemmas.{decimal_numeral, padded_numeral, year_is_year}
 
 -- ---- they are in the grammar

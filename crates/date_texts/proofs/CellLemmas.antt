@@ -10,13 +10,14 @@ use Rattle.day_numbers.specs.Numbered.{name_of_number, words}
 use Rattle.day_numbers.proofs.NameLemmas.{each_name}
 use Rattle.maya_calendars.specs.HaabNames.{haab_of, month_names}
 use Rattle.maya_calendars.specs.TzolkinNames.{name_texts, tzolkin_of}
-use Rattle.date_texts.proofs.Common.{and_parts, by_rules, by_weeks, Calendar, calendar_of_date, canonical_civil}
-use Rattle.date_texts.proofs.Common.{canonical_long, canonical_text, Civil, Date, DateTarget, day_number_by}
-use Rattle.date_texts.proofs.Common.{day_number_of_date, day_since_epoch, decimal, first_day_by, grammar, Haab}
-use Rattle.date_texts.proofs.Common.{is_plain, IsCell, IsCivil, IsDateBy, IsDateCell, IsDateOfCalendar, list_all}
-use Rattle.date_texts.proofs.Common.{list_all-append, Long, LongCount, Longcount, nat_tests, no_date, numbered_name}
-use Rattle.date_texts.proofs.Common.{on_date, one_long_count, one_or_two, OneCell, Reckoning, reckoning, Roman}
-use Rattle.date_texts.proofs.Common.{rules_have_days, rules_one_date, Target, Tzolkin, Ymd}
+use Rattle.date_texts.specs.CivilText.{canonical_civil}
+use Rattle.date_texts.specs.declared.target.Target.TheVariants.{Date as DateTarget, Haab, Tzolkin}
+use Rattle.date_texts.proofs.Common.{and_parts, by_rules, by_weeks, Calendar, calendar_of_date, canonical_long}
+use Rattle.date_texts.proofs.Common.{canonical_text, Civil, Date, day_number_by, day_number_of_date, day_since_epoch}
+use Rattle.date_texts.proofs.Common.{decimal, first_day_by, grammar, is_plain, IsCell, IsCivil, IsDateBy, IsDateCell}
+use Rattle.date_texts.proofs.Common.{IsDateOfCalendar, list_all, list_all-append, Long, Longcount, LongCount, nat_tests}
+use Rattle.date_texts.proofs.Common.{no_date, numbered_name, on_date, one_long_count, one_or_two, OneCell, Reckoning}
+use Rattle.date_texts.proofs.Common.{reckoning, Roman, rules_have_days, rules_one_date, Target, Ymd}
 use Rattle.date_texts.proofs.DateTextLemmas.{civil_same}
 use Rattle.date_texts.proofs.CanonicalTextLemmas.{canonical_plain, canonical_short, marks_plain, numeral_short, place}
 use Rattle.date_texts.proofs.CanonicalTextLemmas.{short}

@@ -4,8 +4,6 @@ pub use Rattle.byte_buffers.specs.Buffers.{IsPut, padded}
 pub use Rattle.date_texts.specs.Calendars.{IsCivil, IsDateBy, Reckoning, all_targets, by_rules, by_weeks, calendar_name}
 pub use Rattle.date_texts.specs.Calendars.{day_number_by, first_day_by, grammar, reckoning, target_name}
 pub use Rattle.date_texts.specs.Cells.{IsCell, IsDateCell, is_plain, no_date, numbered_name, on_date}
-pub use Rattle.date_texts.specs.CivilText.{IsCivilText, IsMonthText, canonical_civil, capital_week, of_month}
-pub use Rattle.date_texts.specs.CivilText.{small_week}
 pub use Rattle.date_texts.specs.DateText.{IsDateText, SaysDate, canonical_text}
 pub use Rattle.date_texts.specs.Dates.{IsDateOfCalendar, calendar_of_date, day_number_of_date}
 pub use Rattle.date_texts.specs.Laws.{CellsAreShort, FewTargets, OneCell}
@@ -21,7 +19,6 @@ pub use Rattle.date_texts.specs.declared.date.Date.{Date}
 pub use Rattle.date_texts.specs.declared.date.Date.TheVariants.{Civil, Long, Roman}
 pub use Rattle.date_texts.specs.declared.grammar.Grammar.{Grammar}
 pub use Rattle.date_texts.specs.declared.target.Target.{Target}
-pub use Rattle.date_texts.specs.declared.target.Target.TheVariants.{Date as DateTarget, Haab, Tzolkin}
 pub use Rattle.day_numbers.proofs.DateLemmas.{rules_have_days, rules_one_date, same_made, ymd_same}
 pub use Rattle.day_numbers.specs.Dates.{IsBetween, IsYear}
 pub use Rattle.day_numbers.specs.declared.ymd.Ymd.{Ymd}

@@ -9,12 +9,13 @@ use Rattle.solar_calendars.specs.declared.roman_date.RomanName.TheVariants.{Kale
 use Rattle.date_texts.specs.CivilReading.{civil_at}
 use Rattle.date_texts.specs.LongReading.{long_at}
 use Rattle.date_texts.specs.RomanReading.{roman_at}
+use Rattle.date_texts.specs.declared.target.Target.TheVariants.{Date as DateTarget, Haab, Tzolkin}
 use Rattle.date_texts.proofs.Common.{by_rules, by_weeks, Calendar, calendar_name, calendar_of_date, canonical_text}
-use Rattle.date_texts.proofs.Common.{Civil, count_of, Date, DateTarget, day_number_of_date, grammar, Haab}
-use Rattle.date_texts.proofs.Common.{has_two_sixths, ints, IsCell, IsCivil, IsDateBy, IsDateOfCalendar, IsDateText}
-use Rattle.date_texts.proofs.Common.{IsNamed, IsRomanDate, IsYear, Long, LongCount, Longcount, month_of, no_date}
-use Rattle.date_texts.proofs.Common.{on_date, placed, props, Reckoning, reckoning, Roman, RomanCalendar, RomanName}
-use Rattle.date_texts.proofs.Common.{same_made, SaysDate, str_to_ascii_lowercase, Target, trimmed, Tzolkin, Ymd}
+use Rattle.date_texts.proofs.Common.{Civil, count_of, Date, day_number_of_date, grammar, has_two_sixths, ints, IsCell}
+use Rattle.date_texts.proofs.Common.{IsCivil, IsDateBy, IsDateOfCalendar, IsDateText, IsNamed, IsRomanDate, IsYear}
+use Rattle.date_texts.proofs.Common.{Long, Longcount, LongCount, month_of, no_date, on_date, placed, props, Reckoning}
+use Rattle.date_texts.proofs.Common.{reckoning, Roman, RomanCalendar, RomanName, same_made, SaysDate}
+use Rattle.date_texts.proofs.Common.{str_to_ascii_lowercase, Target, trimmed, Ymd}
 use Rattle.date_texts.proofs.DateReadingLemmas.{civil_says, month_in, long_says, places_in}
 use Rattle.date_texts.proofs.RomanReadingLemmas.{count_in, roman_says}
 use Rattle.date_texts.proofs.DateTextLemmas.{civil_same, Parts, none_says, parts_at}

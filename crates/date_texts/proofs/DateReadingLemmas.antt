@@ -5,9 +5,8 @@ use Rattle.date_texts.specs.declared.grammar.Grammar.TheVariants.{Civil, Week}
 use Rattle.date_texts.specs.CivilReading.{after_week_letter, after_mark, month_at, civil_at}
 use Rattle.maya_calendars.specs.Places.{ArePlaces}
 use Rattle.date_texts.specs.LongReading.{place_at, long_at}
-use Rattle.date_texts.proofs.Common.{capital_week, Grammar}
-use Rattle.date_texts.proofs.Common.{IsCivilText, IsLongText, IsMonthText, IsNumeral, nat_tests, of_month}
-use Rattle.date_texts.proofs.Common.{small_week}
+use Rattle.date_texts.specs.CivilText.{capital_week, IsCivilText, IsMonthText, of_month, small_week}
+use Rattle.date_texts.proofs.Common.{Grammar, IsLongText, IsNumeral, nat_tests}
 use Rattle.date_texts.proofs.ReadingLemmas.{NoDigitFirst, Reads, bind_some, some_inside, numbers, years, numeral_below}
 use Rattle.date_texts.proofs.ReadingLemmas.{part_found, part_taken, last_found, last_taken}
 

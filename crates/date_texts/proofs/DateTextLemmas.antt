@@ -5,8 +5,8 @@ use Rattle.date_texts.specs.CivilReading.{civil_at}
 use Rattle.date_texts.specs.LongReading.{long_at}
 use Rattle.date_texts.specs.Reading.{◌>>=◌}
 use Rattle.date_texts.specs.RomanReading.{roman_at}
-use Rattle.date_texts.proofs.Common.{Calendar, calendar_of_date, canonical_text, Civil, CivilDate, Date, grammar}
-use Rattle.date_texts.proofs.Common.{Grammar, IsCivil, IsDateText, Long, Longcount, props, Roman, roman_same}
+use Rattle.date_texts.proofs.Common.{Calendar, calendar_of_date, canonical_text, Civil, CivilDate, Date, Grammar}
+use Rattle.date_texts.proofs.Common.{grammar, IsCivil, IsDateText, Long, Longcount, props, Roman, roman_same}
 use Rattle.date_texts.proofs.Common.{RomanCalendar, RomanName, same_made, same_places, SaysDate, trimmed, Ymd, ymd_same}
 use Rattle.date_texts.proofs.CanonicalTextLemmas.{canonical_says, canonical_trimmed}
 use Rattle.date_texts.proofs.DateReadingLemmas.{civil_said, civil_says, long_said, long_says}

@@ -4,13 +4,12 @@ use Rattle.std.proofs.Common.{arith, find, ◌≢◌, ◌<◌, inl, inr, length,
 use Rattle.std.proofs.lemmas.Map.Keys.{IsDistinct-from_apart}
 use Rattle.std.proofs.lemmas.Map.Steps.{length-le_from_distinct_below}
 use Rattle.std.proofs.lemmas.Option.{slice_get-get_or}
-use Rattle.date_texts.specs.declared.target.Target.TheVariants.{Date}
+use Rattle.date_texts.specs.declared.target.Target.TheVariants.{Date, Haab}
 use Rattle.date_texts.specs.declared.target.TheConstants.{MAX_TARGETS}
 use Rattle.std.proofs.lemmas.Slice.Eq.{bytes_eq-Decides}
 use Rattle.date_texts.proofs.Common.{all_targets, bytes_eq, Calendar, calendar_name, eqb_tells, FewTargets, find_at}
-use Rattle.date_texts.proofs.Common.{get_or-map, Gregorian, Haab, IsNamed, length-map, list_any, nat_tests}
-use Rattle.date_texts.proofs.Common.{position_or_len, same_from_decides, str_to_ascii_lowercase, Target, target_name}
-use Rattle.date_texts.proofs.Common.{trimmed}
+use Rattle.date_texts.proofs.Common.{get_or-map, Gregorian, IsNamed, length-map, list_any, nat_tests, position_or_len}
+use Rattle.date_texts.proofs.Common.{same_from_decides, str_to_ascii_lowercase, Target, target_name, trimmed}
 use Rattle.date_texts.proofs.ReadingLemmas.{some_inside}
 
 -- the target with this name

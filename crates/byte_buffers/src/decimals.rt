@@ -15,7 +15,7 @@ static PAIRS: [u8; 200] = *b"\
 
 /// The two digits of a number.
 #[inline(always)]
-#[tactic(auto, using(crate::proofs::PairLemmas::pairs_at))]
+#[tactic(auto, using(crate::proofs::DigitLemmas::pairs_at))]
 fn two_digits(number: u8) -> (u8, u8)
     requires { number ≤ 99 }
     ensures { result ≡ (48 + number / 10, 48 + number % 10) }

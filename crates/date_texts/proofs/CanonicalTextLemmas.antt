@@ -1,33 +1,16 @@
 -- Canonical texts: they are in the grammar, they consist of digits, letters, dashes and dots, and they are short.
 use Rattle.std.proofs.Common.{◌≡◌, ℕ, ◌+◌, ◌≤◌, Bool, true, false, List, [], ◌∷◌, ◌++◌, length, IsTrue, ℤ, refl, arith}
 use Rattle.std.proofs.Common.{length-append, ◌||◌, ◌==◌, reverse, map}
-use Rattle.std.specs.Char.{is_ascii_alphanumeric, is_ascii_digit}
-use Rattle.std.specs.Fmt.{decimal}
-use Rattle.std.specs.List.{list_all}
-use Rattle.std.proofs.lemmas.Bool.{and_parts}
-use Rattle.std.proofs.lemmas.Bool.Decides.{nat_tests}
-use Rattle.std.proofs.lemmas.List.{reverse-append, reverse-reverse}
-use Rattle.std.proofs.lemmas.List.Folds.{list_all-append}
-use Rattle.day_numbers.specs.declared.ymd.Ymd.{Ymd}
-use Rattle.solar_calendars.specs.Roman.{count_of}
-use Rattle.solar_calendars.specs.declared.roman_date.RomanName.{RomanName}
 use Rattle.solar_calendars.specs.declared.roman_date.RomanName.TheVariants.{Kalends, Nones, Ides, SecondSixth}
-use Rattle.date_texts.specs.declared.calendar.Calendar.{Calendar}
-use Rattle.date_texts.specs.declared.calendar.Calendar.TheVariants.{Iso, Longcount, Roman as RomanCalendar}
-use Rattle.date_texts.specs.declared.date.Date.{Date}
-use Rattle.date_texts.specs.declared.date.Date.TheVariants.{Civil, Long, Roman}
-use Rattle.date_texts.specs.declared.grammar.Grammar.{Grammar}
 use Rattle.date_texts.specs.declared.grammar.Grammar.TheVariants.{Week}
-use Rattle.date_texts.specs.Calendars.{grammar, IsCivil}
-use Rattle.date_texts.specs.CivilText.{IsCivilText, canonical_civil, capital_week, of_month}
-use Rattle.date_texts.specs.DateText.{SaysDate, canonical_text}
-use Rattle.date_texts.specs.Dates.{calendar_of_date}
-use Rattle.byte_buffers.specs.Buffers.{padded}
-use Rattle.date_texts.specs.Numerals.{IsNumeral, IsYearText, canonical_year, minus, plain}
 use Rattle.date_texts.specs.RomanText.{IsNameText, canonical_name, of_ides, of_kalends, of_nones, of_second_sixth}
-use Rattle.date_texts.specs.Trimmed.{trim_start, trimmed}
+use Rattle.date_texts.specs.CivilText.{canonical_civil, capital_week, IsCivilText, of_month}
+use Rattle.date_texts.proofs.Common.{and_parts, Calendar, calendar_of_date, canonical_text, canonical_year, Civil}
+use Rattle.date_texts.proofs.Common.{count_of, Date, decimal, Grammar, grammar, is_ascii_alphanumeric, is_ascii_digit}
+use Rattle.date_texts.proofs.Common.{is_plain, IsCivil, IsNumeral, Iso, IsYearText, list_all, list_all-append, Long}
+use Rattle.date_texts.proofs.Common.{Longcount, minus, nat_tests, padded, plain, reverse-append, reverse-reverse, Roman}
+use Rattle.date_texts.proofs.Common.{RomanCalendar, RomanName, SaysDate, trim_start, trimmed, Ymd}
 use Rattle.date_texts.proofs.ReadingLemmas.{decimal_numeral, padded_numeral, year_is_year}
-use Rattle.date_texts.specs.Cells.{is_plain}
 
 -- ---- they are in the grammar
 two_digits : (n : ℕ) → n ≤ 99 → IsNumeral 2 (padded 2 n) n

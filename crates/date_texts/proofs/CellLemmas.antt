@@ -1,32 +1,26 @@
--- A target and a day have one cell.
+-- A target and a day have one cell, which is short and plain.
 use Rattle.std.proofs.Common.{◌≡◌, ◌≤◌, ℕ, Bool, IsTrue, List, [], Option, Some, None, ℤ, refl, sym, subst, ap, ◌∙◌}
-use Rattle.std.proofs.Common.{arith, IfSome, IsSome}
-use Rattle.std.specs.List.{list_all}
-use Rattle.day_numbers.specs.declared.ymd.Ymd.{Ymd}
+use Rattle.std.proofs.Common.{arith, IfSome, IsSome, zero, suc, ◌+◌, ◌-◌, ◌<◌, ◌&&◌, ◌∷◌, true, length, length-append}
+use Rattle.std.proofs.Common.{IsAscii, nat_le}
 use Rattle.day_numbers.specs.Days.{IsSinceFirstDay}
-use Rattle.day_numbers.proofs.DateLemmas.{rules_one_date, rules_have_days}
 use Rattle.solar_calendars.specs.IsoWeekLaw.{one_week_date}
 use Rattle.solar_calendars.specs.Laws.{OneRomanDate}
-use Rattle.date_texts.specs.declared.calendar.Calendar.{Calendar}
-use Rattle.date_texts.specs.declared.calendar.Calendar.TheVariants.{Longcount}
-use Rattle.date_texts.specs.declared.target.Target.{Target}
-use Rattle.date_texts.specs.declared.target.Target.TheVariants.{Date as DateTarget, Haab, Tzolkin}
-use Rattle.date_texts.specs.declared.date.Date.{Date}
-use Rattle.date_texts.specs.declared.date.Date.TheVariants.{Civil, Long, Roman}
-use Rattle.date_texts.specs.Calendars.{Reckoning, by_rules, by_weeks, reckoning, IsDateBy}
-use Rattle.date_texts.specs.Calendars.{IsCivil, grammar}
-use Rattle.date_texts.specs.Calendars.{day_number_by, first_day_by}
-use Rattle.date_texts.specs.Dates.{calendar_of_date, IsDateOfCalendar, day_number_of_date}
-use Rattle.date_texts.specs.CivilText.{canonical_civil}
-use Rattle.date_texts.specs.DateText.{canonical_text}
-use Rattle.date_texts.specs.Cells.{IsDateCell, on_date, no_date, IsCell, numbered_name}
+use Rattle.maya_calendars.specs.Laws.{HaabDaysInRange, TzolkinNumbersInRange}
+use Rattle.day_numbers.specs.Numbered.{name_of_number, words}
 use Rattle.day_numbers.proofs.NameLemmas.{each_name}
 use Rattle.maya_calendars.specs.HaabNames.{haab_of, month_names}
-use Rattle.maya_calendars.specs.TzolkinNames.{tzolkin_of, name_texts}
-use Rattle.maya_calendars.specs.Laws.{HaabDaysInRange, TzolkinNumbersInRange}
-use Rattle.maya_calendars.proofs.LongCountLemmas.{one_long_count, day_since_epoch}
-use Rattle.date_texts.specs.Laws.{OneCell}
-use Rattle.date_texts.proofs.DatePartLemmas.{civil_same}
+use Rattle.maya_calendars.specs.TzolkinNames.{name_texts, tzolkin_of}
+use Rattle.date_texts.specs.CivilText.{canonical_civil}
+use Rattle.date_texts.specs.declared.target.Target.TheVariants.{Date as DateTarget, Haab, Tzolkin}
+use Rattle.date_texts.proofs.Common.{and_parts, by_rules, by_weeks, Calendar, calendar_of_date, canonical_long}
+use Rattle.date_texts.proofs.Common.{canonical_text, Civil, Date, day_number_by, day_number_of_date, day_since_epoch}
+use Rattle.date_texts.proofs.Common.{decimal, first_day_by, grammar, is_plain, IsCell, IsCivil, IsDateBy, IsDateCell}
+use Rattle.date_texts.proofs.Common.{IsDateOfCalendar, list_all, list_all-append, Long, Longcount, LongCount, nat_tests}
+use Rattle.date_texts.proofs.Common.{no_date, numbered_name, on_date, one_long_count, one_or_two, OneCell, Reckoning}
+use Rattle.date_texts.proofs.Common.{reckoning, Roman, rules_have_days, rules_one_date, Target, Ymd}
+use Rattle.date_texts.proofs.DateTextLemmas.{civil_same}
+use Rattle.date_texts.proofs.CanonicalTextLemmas.{canonical_plain, canonical_short, marks_plain, numeral_short, place}
+use Rattle.date_texts.proofs.CanonicalTextLemmas.{short}
 
 -- ---- a calendar has one date on a day, and none before its first day
 one_date_by : (r : Reckoning) (d e : Ymd) → IsDateBy r d → IsDateBy r e → day_number_by r d ≡ day_number_by r e → d ≡ e
@@ -87,15 +81,82 @@ pub civil_cell_is : (c : Calendar) (n : ℤ) (d : Ymd) (x : List ℕ) → IsCivi
     → day_number_by (reckoning c) d ≡ n → x ≡ canonical_civil (grammar c) d.year d.month d.day → IsDateCell c n x
 civil_cell_is c n d x civil h i e = on_date (Civil (record { calendar = c; ymd = d; civil = civil })) refl h i e
 
--- what holds of each date's cell, and of each small number with a name that passes a test as all names of months and
--- days do, holds of each cell
-pub each_cell : (P : List ℕ → Type 0) (test : List ℕ → Bool) → HaabDaysInRange → TzolkinNumbersInRange
-    → ((c : Calendar) (n : ℤ) (text : List ℕ) → IsDateCell c n text → P text)
-    → ((number : ℕ) (name : List ℕ) → number ≤ 99 → IsTrue (test name) → P (numbered_name number name))
-    → IsTrue (test []) → IsTrue (list_all test month_names) → IsTrue (list_all test name_texts)
-    → (target : Target) (n : ℤ) (text : List ℕ) → IsCell target n text → P text
-each_cell P test days numbers dates named none months names (DateTarget c) n text h = dates c n text h
-each_cell P test days numbers dates named none months names Haab n text h =
-    subst P (sym h) (named (haab_of n).0 _ (omega (arith, days n)) (each_name test month_names _ none months))
-each_cell P test days numbers dates named none months names Tzolkin n text h =
-    subst P (sym h) (named (tzolkin_of n).0 _ (omega (arith, numbers n)) (each_name test name_texts _ none names))
+abbrev pub ArePlain : List ℕ → Type 0
+ArePlain text = IsTrue (list_all is_plain text)
+
+-- plain bytes are ASCII
+plain_below : (c : ℕ) → is_plain c ≡ true → c < 128
+plain_below c h = grind (arith, nat_tests)
+
+pub plain_ascii : (text : List ℕ) → ArePlain text → IsAscii text
+plain_ascii [] h i = omega arith
+plain_ascii (c ∷ cs) h zero = plain_below c (and_parts (is_plain c) (list_all is_plain cs) h).0
+plain_ascii (c ∷ cs) h (suc i) = plain_ascii cs (and_parts (is_plain c) (list_all is_plain cs) h).1 i
+
+-- ---- date texts
+pub four_digits : (n : ℕ) → n ≤ 9_999 → length (decimal n) ≤ 4
+four_digits n small = (place n small).few
+
+long_length : (p q r s t : ℕ) → p ≤ 9_999 → q ≤ 19 → r ≤ 19 → s ≤ 17 → t ≤ 19
+    → length (canonical_long p q r s t) ≤ 16
+long_length p q r s t a b c d e = grind (arith, length-append, four_digits, one_or_two)
+
+-- and room behind for the row of the last place
+pub long_room : (p q r s t : ℕ) → p ≤ 99 → q ≤ 19 → r ≤ 19 → s ≤ 17 → t ≤ 19
+    → length (canonical_long p q r s t) + 4 ≤ 16 + length (decimal t)
+long_room p q r s t a b c d e = grind (arith, length-append, one_or_two)
+
+pub text_room : (n : LongCount) → length (canonical_text (Long n)) + 4 ≤ 24 + length (decimal n.kin)
+text_room n = grind (arith, length-append, four_digits)
+
+date_length : (date : Date) → IsDateOfCalendar date → length (canonical_text date) ≤ 16
+date_length (Long n) h = long_length n.baktun n.katun n.tun n.uinal n.kin n.places.0 h.0 h.1 h.2 h.3
+date_length date h = omega (arith, (canonical_short date).few)
+
+-- ---- cells: their bytes are digits and letters of ASCII, spaces, dashes and dots, and they have 16 bytes at most
+abbrev pub IsCellText : List ℕ → Type 0
+IsCellText text = ArePlain text × (length text ≤ 16)
+
+date_cell : (c : Calendar) (n : ℤ) (text : List ℕ) → IsDateCell c n text → IsCellText text
+date_cell c n text (on_date date p h i e) = grind (arith, canonical_plain date, date_length date h)
+date_cell c n text (no_date none e) = rw e (refl, omega arith)
+
+abbrev is_short : List ℕ → Bool
+is_short name = nat_le (length name) 8
+
+short_length : (name : List ℕ) → IsTrue (is_short name) → length name ≤ 8
+short_length name h = grind (arith, nat_tests)
+
+pub month_length : (month : ℕ) → length (name_of_number month_names month) ≤ 8
+unfolding words
+month_length month = short_length _ (each_name is_short month_names (month - 1) refl refl)
+
+pub day_name_length : (place : ℕ) → length (name_of_number name_texts place) ≤ 8
+unfolding words
+day_name_length place = short_length _ (each_name is_short name_texts (place - 1) refl refl)
+
+abbrev is_name : List ℕ → Bool
+is_name name = list_all is_plain name && is_short name
+
+numbered : (number : ℕ) (name : List ℕ) → number ≤ 99 → IsTrue (is_name name)
+    → IsCellText (numbered_name number name)
+numbered number name small h =
+    let both = and_parts (list_all is_plain name) (is_short name) h in (
+      rw (
+        list_all-append is_plain (decimal number) (32 ∷ name),
+        marks_plain _ (numeral_short (short number small)).marks,
+        both.0,
+      ) refl,
+      omega (arith, length-append {A = ℕ}, one_or_two number small, short_length name both.1),
+    )
+
+pub cell_text : HaabDaysInRange → TzolkinNumbersInRange → (target : Target) (n : ℤ) (text : List ℕ)
+    → IsCell target n text → IsCellText text
+unfolding words
+cell_text days numbers (DateTarget c) n text h = date_cell c n text h
+cell_text days numbers Haab n text h =
+    let (day, month) = haab_of n in
+    rw h (numbered day _ (omega (arith, days n)) (each_name is_name month_names (month - 1) refl refl))
+cell_text days numbers Tzolkin n text h =
+    let (number, name) = tzolkin_of n in
+    rw h (numbered number _ (omega (arith, numbers n)) (each_name is_name name_texts (name - 1) refl refl))

@@ -1,47 +1,27 @@
 -- What can be decided of dates: whether a calendar has a date, which date a text says, and which cell a day has. The
 -- dates that a `Date` holds are finitely many, so what can be decided of each of them can be decided of all.
-use Rattle.std.proofs.Common.{◌≡◌, inl, inr, ℕ, zero, suc, ◌+◌, ◌-◌, ◌<◌, ◌≤◌, min, List, [], Option, None, Some, refl}
-use Rattle.std.proofs.Common.{sym, subst, ap, arith, rules, ℤ, pos, negsuc, ◌-ℤ◌, ◌↔◌}
-use Rattle.std.specs.Str.{str_to_ascii_lowercase}
-use Rattle.day_numbers.specs.Dates.{IsYear}
+use Rattle.std.proofs.Common.{◌≡◌, inl, inr, ℕ, zero, suc, ◌≤◌, List, [], Option, None, Some, refl, sym, subst, ap}
+use Rattle.std.proofs.Common.{arith, rules, ℤ, pos, ◌-ℤ◌, ◌+ℤ◌, unsigned_abs, ◌↔◌}
 use Rattle.day_numbers.specs.Rules.{Years, from_one, without_zero, HasYear}
-use Rattle.day_numbers.specs.declared.ymd.Ymd.{Ymd}
-use Rattle.day_numbers.proofs.DateLemmas.{ymd_same}
-use Rattle.day_numbers.proofs.SignedArithmeticLemmas.{signed_arith}
-use Rattle.solar_calendars.specs.Roman.{IsRomanDate, count_of, has_two_sixths}
 use Rattle.solar_calendars.specs.RomanPlaces.{HasPlace}
 use Rattle.solar_calendars.specs.declared.roman_date.RomanDate.{RomanDate}
-use Rattle.solar_calendars.specs.declared.roman_date.RomanName.{RomanName}
 use Rattle.solar_calendars.specs.declared.roman_date.RomanName.TheVariants.{Kalends, Nones, Ides, SecondSixth}
-use Rattle.solar_calendars.proofs.RomanDateLemmas.{roman_same}
-use Rattle.solar_calendars.proofs.RomanPlaceLemmas.{month_of, placed}
-use Rattle.maya_calendars.specs.declared.long_count.LongCount.{LongCount}
-use Rattle.maya_calendars.proofs.LongCountLemmas.{same_places}
-use Rattle.date_texts.specs.Calendars.{IsCivil, IsDateBy, Reckoning, by_rules, by_weeks}
-use Rattle.date_texts.specs.Calendars.{calendar_name, grammar, reckoning}
-use Rattle.date_texts.specs.Cells.{IsCell, no_date, on_date}
 use Rattle.date_texts.specs.CivilReading.{civil_at}
-use Rattle.date_texts.specs.DateText.{IsDateText, SaysDate, canonical_text}
-use Rattle.date_texts.specs.Dates.{IsDateOfCalendar, calendar_of_date, day_number_of_date}
 use Rattle.date_texts.specs.LongReading.{long_at}
-use Rattle.date_texts.specs.Names.{IsNamed}
 use Rattle.date_texts.specs.RomanReading.{roman_at}
-use Rattle.date_texts.specs.Trimmed.{trimmed}
-use Rattle.date_texts.specs.declared.calendar.Calendar.{Calendar}
-use Rattle.date_texts.specs.declared.calendar.Calendar.TheVariants.{Longcount, Roman as RomanCalendar}
-use Rattle.date_texts.specs.declared.target.Target.{Target}
 use Rattle.date_texts.specs.declared.target.Target.TheVariants.{Date as DateTarget, Haab, Tzolkin}
-use Rattle.date_texts.specs.declared.date.Date.{Date}
-use Rattle.date_texts.specs.declared.date.Date.TheVariants.{Civil, Long, Roman}
-use Rattle.date_texts.proofs.CivilReadingLemmas.{civil_says, month_in}
-use Rattle.date_texts.proofs.DatePartLemmas.{civil_same}
-use Rattle.date_texts.proofs.DateTextLemmas.{Parts, none_says, parts_at}
-use Rattle.date_texts.proofs.DecisionLemmas.{Is, all_four, all_three, both, in_words}
-use Rattle.date_texts.proofs.DecisionLemmas.{is_at_most, is_integer, is_less_z}
-use Rattle.date_texts.proofs.DecisionLemmas.{is_true, some_below}
-use Rattle.date_texts.proofs.LongReadingLemmas.{long_says, places_in}
-use Rattle.date_texts.proofs.ReadingLemmas.{bind_some, none_some, numeral_below, year_in}
+use Rattle.date_texts.proofs.Common.{by_rules, by_weeks, Calendar, calendar_name, calendar_of_date, canonical_text}
+use Rattle.date_texts.proofs.Common.{Civil, count_of, Date, day_number_of_date, grammar, has_two_sixths, ints, IsCell}
+use Rattle.date_texts.proofs.Common.{IsCivil, IsDateBy, IsDateOfCalendar, IsDateText, IsNamed, IsRomanDate, IsYear}
+use Rattle.date_texts.proofs.Common.{Long, Longcount, LongCount, month_of, no_date, on_date, placed, props, Reckoning}
+use Rattle.date_texts.proofs.Common.{reckoning, Roman, RomanCalendar, RomanName, same_made, SaysDate}
+use Rattle.date_texts.proofs.Common.{str_to_ascii_lowercase, Target, trimmed, Ymd}
+use Rattle.date_texts.proofs.DateReadingLemmas.{civil_says, month_in, long_says, places_in}
 use Rattle.date_texts.proofs.RomanReadingLemmas.{count_in, roman_says}
+use Rattle.date_texts.proofs.DateTextLemmas.{civil_same, Parts, none_says, parts_at}
+use Rattle.date_texts.proofs.DecisionLemmas.{Is, all_four, all_three, both, in_words, is_at_most, is_integer, is_less_z}
+use Rattle.date_texts.proofs.DecisionLemmas.{is_true, some_below}
+use Rattle.date_texts.proofs.ReadingLemmas.{bind_some, none_some, numeral_below, year_in}
 use Rattle.date_texts.proofs.TargetNameLemmas.{calendar_in, calendar_is_named, named_by_search, target_by_name}
 
 -- ---- whether a calendar has a date
@@ -78,155 +58,126 @@ is_date_of_calendar (Long n) = search (rules, all_four, is_at_most)
 is_date_of_calendar (Roman d) = is_roman_date d.year d.month d.name
 
 -- ---- whether some value is as said
--- among those within bounds
-abbrev SearchableWithin : (A : Type 0) → (A → Type 0) → Type 1
-SearchableWithin A In = (P : A → Type 0) → ((x : A) → Is (P x)) → Is ((x : A) × In x × P x)
-
-below : (k : ℕ) → SearchableWithin ℕ (λ n. n < k)
-below k P is = some_below k P is
-
-pairs : {A B : Type 0} {In : A → Type 0} {Jn : B → Type 0} → SearchableWithin A In → SearchableWithin B Jn
-    → SearchableWithin (A × B) (λ x. In x.0 × Jn x.1)
-pairs {B = B} {Jn = Jn} search_a search_b P is =
-    in_words (search_a (λ a. (b : B) × Jn b × P (a, b)) (λ a. search_b (λ b. P (a, b)) (λ b. is (a, b))))
-    (λ h. ((h.0, h.2.0), (h.1, h.2.1), h.2.2)) (λ h. (h.0.0, h.1.0, (h.0.1, h.1.1, h.2)))
-
--- among all
 abbrev Searchable : Type 0 → Type 1
-Searchable B = (P : B → Type 0) → ((x : B) → Is (P x)) → Is ((x : B) × P x)
+Searchable A = (P : A → Type 0) → ((x : A) → Is (P x)) → Is ((x : A) × P x)
 
--- each value is made of one within bounds
-made_of : {A B : Type 0} {In : A → Type 0} → SearchableWithin A In → (make : A → B)
-    → ((y : B) → (x : A) × In x × (make x ≡ y)) → Searchable B
+-- a value with a proof that it is within bounds is known by the value
+abbrev Within : {A : Type 0} → (A → Type 0) → Type 0
+Within {A = A} In = (x : A) × In x
+
+same_within : {A : Type 0} (In : A → Type 0) → ((x : A) → IsProp (In x)) → (x y : Within In) → x.0 ≡ y.0 → x ≡ y
+same_within In prop x y e = same_made In (λ x i. (x, i)) prop x.0 y.0 e x.1 y.1
+
+up_to : (most : ℕ) → Searchable (Within (λ n. n ≤ most))
+up_to most P is =
+    in_words (some_below (suc most) (λ n. (i : n ≤ most) × P (n, i)) (λ n. elim (is_at_most n most) [
+      | inl i ↦ in_words (is (n, i)) (λ p. (i, p))
+          (λ h. subst P (same_within (λ n. n ≤ most) (λ n. hlevel props) (n, h.0) (n, i) refl) h.1)
+      | inr more ↦ inr (λ h. more h.0)
+    ])) (λ h. ((h.0, h.2.0), h.2.1)) (λ h. (h.0.0, omega (arith, h.0.1), (h.0.1, h.1)))
+
+pairs : {A B : Type 0} → Searchable A → Searchable B → Searchable (A × B)
+pairs {B = B} search_a search_b P is =
+    in_words (search_a (λ a. (b : B) × P (a, b)) (λ a. search_b (λ b. P (a, b)) (λ b. is (a, b))))
+    (λ h. ((h.0, h.1.0), h.1.1)) (λ h. (h.0.0, (h.0.1, h.1)))
+
+-- each value is made of one that can be searched for
+made_of : {A B : Type 0} → Searchable A → (make : A → B) → ((y : B) → (x : A) × (make x ≡ y)) → Searchable B
 made_of search_a make parts P is =
-    in_words (search_a (λ x. P (make x)) (λ x. is (make x))) (λ h. (make h.0, h.2))
-    (λ h. let x = parts h.0 in (x.0, x.1, subst P (sym x.2) h.1))
+    in_words (search_a (λ x. P (make x)) (λ x. is (make x))) (λ h. (make h.0, h.1))
+    (λ h. let x = parts h.0 in (x.0, subst P (sym x.1) h.1))
 
 -- a year by its place among all years
-year_by : ℕ → ℤ
-year_by i = pos (min i 199_998) -ℤ pos 99_999
-
-year_by_in : (i : ℕ) → IsYear (year_by i)
-unfolding year_by
-year_by_in i = (omega (arith, signed_arith), omega (arith, signed_arith))
-
-place_of_year : (y : ℤ) → IsYear y → (i : ℕ) × (i < 199_999) × (year_by i ≡ y)
-unfolding year_by
-place_of_year (pos n) h = (n + 99_999, omega (arith, signed_arith, h.1), omega (arith, signed_arith, h.1))
-place_of_year (negsuc n) h = (99_998 - n, omega arith, omega (arith, signed_arith, h.0))
-
-within : (most n : ℕ) → n ≤ most → min n most ≡ n
-within most n h = omega arith
+all_years : Searchable (Within IsYear)
+all_years =
+    made_of (up_to 199_998)
+    (λ i. (pos i.0 -ℤ pos 99_999, (omega (arith, ints, i.1), omega (arith, ints, i.1))))
+    (λ y. (
+      (unsigned_abs (y.0 +ℤ pos 99_999), omega (arith, ints, y.1)),
+      same_within IsYear (λ z. hlevel props) _ y (omega (arith, ints, y.1)),
+    ))
 
 ymds : Searchable Ymd
 ymds =
-    made_of (pairs (below 199_999) (pairs (below 100) (below 100)))
-    (λ x. record {
-      year = year_by x.0;
-      month = min x.1.0 99;
-      day = min x.1.1 99;
-      year_in = year_by_in x.0;
-      month_in = omega arith;
-      day_in = omega arith;
-    })
-    (λ d. let year = place_of_year d.year d.year_in in (
-      (year.0, (d.month, d.day)),
-      (year.1, (omega (arith, d.month_in), omega (arith, d.day_in))),
-      ymd_same _ d year.2 (within 99 d.month d.month_in) (within 99 d.day d.day_in),
-    ))
+    made_of (pairs all_years (pairs (up_to 99) (up_to 99)))
+    (λ (y, (m, d)). record { year = y.0; month = m.0; day = d.0; year_in = y.1; month_in = m.1; day_in = d.1 })
+    (λ d. (((d.year, d.year_in), ((d.month, d.month_in), (d.day, d.day_in))), refl))
 
 longs : Searchable LongCount
 longs =
-    made_of (pairs (below 10_000) (pairs (below 10_000) (pairs (below 10_000) (pairs (below 10_000) (below 10_000)))))
-    (λ x. record {
-      baktun = min x.0 9_999;
-      katun = min x.1.0 9_999;
-      tun = min x.1.1.0 9_999;
-      uinal = min x.1.1.1.0 9_999;
-      kin = min x.1.1.1.1 9_999;
-      places = (omega arith, omega arith, omega arith, omega arith, omega arith);
+    made_of (pairs (up_to 9_999) (pairs (up_to 9_999) (pairs (up_to 9_999) (pairs (up_to 9_999) (up_to 9_999)))))
+    (λ (p, (q, (r, (s, t)))). record {
+      baktun = p.0;
+      katun = q.0;
+      tun = r.0;
+      uinal = s.0;
+      kin = t.0;
+      places = (p.1, q.1, r.1, s.1, t.1);
     })
-    (λ n. let (p, q, r, s, t) = n.places in (
-      (n.baktun, (n.katun, (n.tun, (n.uinal, n.kin)))),
-      (omega arith, (omega arith, (omega arith, (omega arith, omega arith)))),
-      same_places _ n (rw (within _ _ p, within _ _ q, within _ _ r, within _ _ s, within _ _ t) refl),
-    ))
+    (λ n. let (p, q, r, s, t) = n.places in
+    (((n.baktun, p), ((n.katun, q), ((n.tun, r), ((n.uinal, s), (n.kin, t))))), refl))
 
 -- a name by its kind and its count
-name_by : ℕ → ℕ → RomanName
-name_by zero n = Kalends (min n 99)
-name_by (suc zero) n = Nones (min n 99)
-name_by (suc (suc zero)) n = Ides (min n 99)
-name_by (suc (suc (suc k))) n = SecondSixth
+abbrev Name : Type 0
+Name = Within (λ name. count_of name ≤ 99)
 
-few : (k n : ℕ) → count_of (name_by k n) ≤ 99
-unfolding name_by
-few (suc (suc (suc k))) n = omega arith
-few k n = omega arith
+name_by : ℕ → Within (λ n. n ≤ 99) → Name
+name_by zero n = (Kalends n.0, n.1)
+name_by (suc zero) n = (Nones n.0, n.1)
+name_by (suc (suc zero)) n = (Ides n.0, n.1)
+name_by (suc (suc (suc k))) n = (SecondSixth, omega arith)
 
-kind_of : (x : RomanName) → count_of x ≤ 99 → (k : ℕ) × (n : ℕ) × (k < 4) × (n < 100) × (name_by k n ≡ x)
+kind_of : (x : RomanName) (h : count_of x ≤ 99)
+    → (k : Within (λ k. k ≤ 3) × Within (λ n. n ≤ 99)) × (name_by k.0.0 k.1 ≡ (x, h))
 unfolding name_by
-kind_of (Kalends n) h = (0, n, omega arith, omega arith, ap Kalends (within 99 n h))
-kind_of (Nones n) h = (1, n, omega arith, omega arith, ap Nones (within 99 n h))
-kind_of (Ides n) h = (2, n, omega arith, omega arith, ap Ides (within 99 n h))
-kind_of SecondSixth h = (3, 0, omega arith, omega arith, refl)
+kind_of (Kalends n) h = (((0, omega arith), (n, h)), refl)
+kind_of (Nones n) h = (((1, omega arith), (n, h)), refl)
+kind_of (Ides n) h = (((2, omega arith), (n, h)), refl)
+kind_of SecondSixth h =
+    (((3, omega arith), (0, omega arith)), same_within (λ name. count_of name ≤ 99) (λ x. hlevel props) _ _ refl)
 
 romans : Searchable RomanDate
 romans =
-    made_of (pairs (below 199_999) (pairs (below 100) (pairs (below 4) (below 100))))
-    (λ x. record {
-      year = year_by x.0;
-      month = min x.1.0 99;
-      name = name_by x.1.1.0 x.1.1.1;
-      year_in = year_by_in x.0;
-      month_in = omega arith;
-      count_in = few x.1.1.0 x.1.1.1;
-    })
-    (λ d. let year = place_of_year d.year d.year_in in
-    let (k, n, is_kind, is_count, name) = kind_of d.name d.count_in in (
-      (year.0, (d.month, (k, n))),
-      (year.1, (omega (arith, d.month_in), (is_kind, is_count))),
-      roman_same _ d (rw (year.2, within 99 d.month d.month_in, name) refl),
-    ))
+    made_of (pairs all_years (pairs (up_to 99) (made_of (pairs (up_to 3) (up_to 99)) (λ k. name_by k.0.0 k.1)
+    (λ x. kind_of x.0 x.1))))
+    (λ (y, (m, x)). record { year = y.0; month = m.0; name = x.0; year_in = y.1; month_in = m.1; count_in = x.1 })
+    (λ d. (((d.year, d.year_in), ((d.month, d.month_in), (d.name, d.count_in))), refl))
 
 -- ---- whether some date of a calendar is as said
 abbrev SomeDate : Calendar → (Date → Type 0) → Type 0
 SomeDate calendar P = (date : Date) × (calendar_of_date date ≡ calendar) × P date
 
-civil_of : (calendar : Calendar) (civil : IsCivil calendar) (P : Date → Type 0) (date : Date)
-    → calendar_of_date date ≡ calendar → P date
-    → (d : Ymd) × P (Civil (record { calendar = calendar; ymd = d; civil = civil }))
-civil_of calendar civil P (Civil d) of p =
-    (d.ymd, subst P (ap Civil (civil_same d (record { calendar = calendar; ymd = d.ymd; civil = civil }) of refl)) p)
-civil_of calendar civil P (Long n) of p = absurd (civil.0 (sym of))
-civil_of calendar civil P (Roman d) of p = absurd (civil.1 (sym of))
+-- each date of the calendar is made of a value that can be searched for
+some_made : {A : Type 0} → Searchable A → (calendar : Calendar) (make : A → Date)
+    → ((x : A) → calendar_of_date (make x) ≡ calendar)
+    → ((date : Date) → calendar_of_date date ≡ calendar → (x : A) × (make x ≡ date)) → (P : Date → Type 0)
+    → ((date : Date) → Is (P date)) → Is (SomeDate calendar P)
+some_made search calendar make of parts P is =
+    in_words (search (λ x. P (make x)) (λ x. is (make x))) (λ h. (make h.0, of h.0, h.1))
+    (λ h. let x = parts h.0 h.1 in (x.0, subst P (sym x.1) h.2))
 
-some_civil : (calendar : Calendar) (P : Date → Type 0) → ((date : Date) → Is (P date)) → IsCivil calendar
-    → Is (SomeDate calendar P)
-some_civil calendar P is civil =
-    in_words (ymds (λ d. P (Civil (record { calendar = calendar; ymd = d; civil = civil })))
-    (λ d. is (Civil (record { calendar = calendar; ymd = d; civil = civil }))))
-    (λ h. (Civil (record { calendar = calendar; ymd = h.0; civil = civil }), refl, h.1))
-    (λ h. civil_of calendar civil P h.0 h.1 h.2)
+is_civil : (calendar : Calendar) (civil : IsCivil calendar) (date : Date) → calendar_of_date date ≡ calendar
+    → (d : Ymd) × (Civil (record { calendar = calendar; ymd = d; civil = civil }) ≡ date)
+is_civil calendar civil (Civil d) of = (d.ymd, ap Civil (civil_same _ d (sym of) refl))
+is_civil calendar civil (Long n) of = absurd (civil.0 (sym of))
+is_civil calendar civil (Roman d) of = absurd (civil.1 (sym of))
 
-long_of : (P : Date → Type 0) (date : Date) → calendar_of_date date ≡ Longcount → P date → (n : LongCount) × P (Long n)
-long_of P (Civil d) of p = absurd (d.civil.0 of)
-long_of P (Long n) of p = (n, p)
-long_of P (Roman d) of p = absurd (cc)
+is_long : (date : Date) → calendar_of_date date ≡ Longcount → (n : LongCount) × (Long n ≡ date)
+is_long (Civil d) of = absurd (d.civil.0 of)
+is_long (Long n) of = (n, refl)
+is_long (Roman d) of = absurd (cc)
 
-roman_of : (P : Date → Type 0) (date : Date) → calendar_of_date date ≡ RomanCalendar → P date
-    → (d : RomanDate) × P (Roman d)
-roman_of P (Civil d) of p = absurd (d.civil.1 of)
-roman_of P (Long n) of p = absurd (cc)
-roman_of P (Roman d) of p = (d, p)
+is_roman : (date : Date) → calendar_of_date date ≡ RomanCalendar → (d : RomanDate) × (Roman d ≡ date)
+is_roman (Civil d) of = absurd (d.civil.1 of)
+is_roman (Long n) of = absurd (cc)
+is_roman (Roman d) of = (d, refl)
 
 some_date : (calendar : Calendar) (P : Date → Type 0) → ((date : Date) → Is (P date)) → Is (SomeDate calendar P)
-some_date Longcount P is =
-    in_words (longs (λ n. P (Long n)) (λ n. is (Long n))) (λ h. (Long h.0, refl, h.1)) (λ h. long_of P h.0 h.1 h.2)
-some_date RomanCalendar P is =
-    in_words (romans (λ d. P (Roman d)) (λ d. is (Roman d))) (λ h. (Roman h.0, refl, h.1))
-    (λ h. roman_of P h.0 h.1 h.2)
-some_date calendar P is = some_civil calendar P is (λ e. cc, λ e. cc)
+some_date Longcount = some_made longs Longcount Long (λ n. refl) is_long
+some_date RomanCalendar = some_made romans RomanCalendar Roman (λ d. refl) is_roman
+some_date calendar =
+    some_made ymds calendar (λ d. Civil (record { calendar = calendar; ymd = d; civil = (λ e. cc, λ e. cc) }))
+    (λ d. refl) (is_civil calendar (λ e. cc, λ e. cc))
 
 -- ---- the date that a text says
 said : (calendar : Calendar) (text : List ℕ) (x : Parts) → parts_at calendar text ≡ Some x

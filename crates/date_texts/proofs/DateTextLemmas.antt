@@ -1,29 +1,17 @@
 -- What the grammar and the canonical text say of dates.
 use Rattle.std.proofs.Common.{◌≡◌, ◌↔◌, ℕ, List, Option, Some, None, Err, ℤ, refl, sym, subst, ap, ◌∙◌}
 use Rattle.std.specs.Option.{ok_or}
-use Rattle.day_numbers.proofs.DateLemmas.{ymd_same}
-use Rattle.solar_calendars.specs.declared.roman_date.RomanName.{RomanName}
-use Rattle.solar_calendars.proofs.RomanDateLemmas.{roman_same}
-use Rattle.maya_calendars.proofs.LongCountLemmas.{same_places}
-use Rattle.date_texts.specs.declared.calendar.Calendar.{Calendar}
-use Rattle.date_texts.specs.declared.calendar.Calendar.TheVariants.{Longcount, Roman as RomanCalendar}
-use Rattle.date_texts.specs.declared.date.Date.{Date}
-use Rattle.date_texts.specs.declared.date.Date.TheVariants.{Civil, Long, Roman}
-use Rattle.date_texts.specs.declared.grammar.Grammar.{Grammar}
-use Rattle.date_texts.specs.Calendars.{grammar, IsCivil}
 use Rattle.date_texts.specs.CivilReading.{civil_at}
-use Rattle.date_texts.specs.DateText.{IsDateText, SaysDate, canonical_text}
-use Rattle.date_texts.specs.Dates.{calendar_of_date}
 use Rattle.date_texts.specs.LongReading.{long_at}
 use Rattle.date_texts.specs.Reading.{◌>>=◌}
 use Rattle.date_texts.specs.RomanReading.{roman_at}
-use Rattle.date_texts.specs.Trimmed.{trimmed}
+use Rattle.date_texts.proofs.Common.{Calendar, calendar_of_date, canonical_text, Civil, CivilDate, Date, Grammar}
+use Rattle.date_texts.proofs.Common.{grammar, IsCivil, IsDateText, Long, Longcount, props, Roman, roman_same}
+use Rattle.date_texts.proofs.Common.{RomanCalendar, RomanName, same_made, same_places, SaysDate, trimmed, Ymd, ymd_same}
 use Rattle.date_texts.proofs.CanonicalTextLemmas.{canonical_says, canonical_trimmed}
-use Rattle.date_texts.proofs.CivilReadingLemmas.{civil_said, civil_says}
-use Rattle.date_texts.proofs.DatePartLemmas.{civil_same}
-use Rattle.date_texts.proofs.LongReadingLemmas.{long_said, long_says}
-use Rattle.date_texts.proofs.ReadingLemmas.{bind_some, none_some, some_inside}
+use Rattle.date_texts.proofs.DateReadingLemmas.{civil_said, civil_says, long_said, long_says}
 use Rattle.date_texts.proofs.RomanReadingLemmas.{roman_said, roman_says}
+use Rattle.date_texts.proofs.ReadingLemmas.{bind_some, none_some, some_inside}
 
 -- what a date text spells
 pub data Parts : Type 0 where
@@ -72,6 +60,12 @@ parts_say calendar text (Long n) of e =
 parts_say calendar text (Roman d) of e =
     let x = bind_some (roman_at text) _ _ (rw (sym of) at e) in
     (of, roman_says text (d.year, d.month, d.name) (cc))
+
+-- civil dates with the same parts are one value
+pub civil_same : (d e : CivilDate) → d.calendar ≡ e.calendar → d.ymd ≡ e.ymd → d ≡ e
+civil_same d e p q =
+    same_made (λ (x : Calendar × Ymd). IsCivil x.0) (λ x h. record { calendar = x.0; ymd = x.1; civil = h })
+    (λ x. hlevel props) (d.calendar, d.ymd) (e.calendar, e.ymd) (cc) d.civil e.civil
 
 date_same : (d e : Date) → calendar_of_date d ≡ calendar_of_date e → parts_of d ≡ parts_of e → d ≡ e
 date_same (Civil d) (Civil e) of p =

@@ -1,14 +1,9 @@
 -- What can be decided: a statement holds, or it does not. The logic is constructive, so that each of these is a proof.
 use Rattle.std.proofs.Common.{◌≡◌, ◌⊎◌, inl, inr, ℕ, zero, suc, ◌<◌, ◌≤◌, List, Bool, true, false, IsTrue, refl, subst}
 use Rattle.std.proofs.Common.{arith, ℤ, ◌<ℤ◌, ◌≤ℤ◌}
-use Rattle.std.specs.Str.{bytes_eq, str_to_ascii_lowercase}
-use Rattle.std.proofs.lemmas.Bool.{cases_lt}
-use Rattle.std.proofs.lemmas.Int.{by_lt_z}
 use Rattle.std.proofs.lemmas.Slice.Eq.{bytes_eq-Decides}
-use Rattle.day_numbers.specs.Dates.{IsBetween}
 use Rattle.day_numbers.proofs.SignedArithmeticLemmas.{signed_arith}
-use Rattle.date_texts.specs.Names.{IsNamed}
-use Rattle.date_texts.specs.Trimmed.{trimmed}
+use Rattle.date_texts.proofs.Common.{by_lt_z, bytes_eq, cases_lt, IsBetween, IsNamed, str_to_ascii_lowercase, trimmed}
 
 -- it holds, or it does not
 abbrev pub Is : Type 0 → Type 0

@@ -1,25 +1,25 @@
--- Reading finds the numbers and years that the grammar relates to a text, and nothing else. The files of the three
--- grammars stand on this one.
+-- Reading finds the numbers and years that the grammar relates to a text, and nothing else. The lemmas on the three
+-- grammars stand on this file.
 use Rattle.std.proofs.Common.{◌≡◌, ℕ, zero, suc, ◌+◌, ◌-◌, ◌*◌, ◌^◌, ◌≤◌, ◌<◌, Bool, true, false, List, [], ◌∷◌, ◌++◌}
 use Rattle.std.proofs.Common.{length, ◌==◌, refl, sym, subst, ap, ◌∙◌, arith, IsTrue, cond, Option, Some, None, add-one}
 use Rattle.std.proofs.Common.{append-nil, ℤ, pos, neg_ℤ, rules, get_or, take, drop, negsuc, replicate, length-append}
-use Rattle.std.specs.Char.{is_ascii_digit}
-use Rattle.std.specs.Fmt.{decimal}
-use Rattle.std.proofs.lemmas.List.{length-replicate}
+use Rattle.std.proofs.Common.{fold}
 use Rattle.std.proofs.lemmas.Fmt.{digits_decimal, digits_value-decimal, length-decimal-le, decimal_nonempty}
 use Rattle.std.proofs.lemmas.Str.Parse.{IsNumeralModel, digits_value_short, numerals_by_fold}
 use Rattle.std.proofs.Math.Nat.{pow-le-pow_right, pow-succ'}
-use Rattle.std.proofs.lemmas.Int.{ints}
-use Rattle.std.proofs.Math.Seq.{take-length}
-use Rattle.std.proofs.lemmas.Bool.Decides.{nat_tests}
-use Rattle.std.proofs.lemmas.Bool.{and_parts}
-use Rattle.day_numbers.specs.Dates.{IsBetween, IsYear}
 use Rattle.date_texts.specs.Joined.{Joined}
-use Rattle.byte_buffers.specs.Buffers.{padded}
-use Rattle.date_texts.specs.Numerals.{IsNumeral, IsYearText, plain, minus, canonical_year}
-use Rattle.date_texts.proofs.TextWords.{all_digits, value_after}
-use Rattle.date_texts.specs.Reading.{digits_at, number_at, after_byte, part_at, year_at, all_read}
-use Rattle.date_texts.specs.Reading.{signed_year, ◌>>=◌}
+use Rattle.date_texts.specs.Reading.{digits_at, number_at, after_byte, part_at, year_at, all_read, signed_year, ◌>>=◌}
+use Rattle.std.proofs.Math.Seq.{take-length}
+use Rattle.date_texts.proofs.Common.{and_parts, canonical_year, decimal, ints, is_ascii_digit, IsBetween, IsNumeral}
+use Rattle.date_texts.proofs.Common.{IsYear, IsYearText, length-replicate, list_all, minus, nat_tests, padded, plain}
+
+-- ASCII digits alone
+abbrev pub all_digits : List ℕ → Bool
+all_digits text = list_all is_ascii_digit text
+
+-- the number that digits spell in decimal, after the digits of n
+abbrev pub value_after : ℕ → List ℕ → ℕ
+value_after n text = fold (λ value digit. 10 * value + (digit - 48)) n text
 
 -- a text that does not begin with a digit
 abbrev pub NoDigitFirst : List ℕ → Type 0

@@ -1,17 +1,12 @@
 -- Reading finds the Roman dates that the grammar relates to a text, and nothing else.
-use Rattle.std.proofs.Common.{◌≡◌, ℕ, ◌≤◌, true, false, List, [], ◌∷◌, refl, subst, arith, Some, ℤ, codes}
-use Rattle.std.specs.Char.{is_ascii_digit, to_ascii_lowercase}
-use Rattle.std.specs.Str.{str_to_ascii_lowercase, str_eq_ignore_ascii_case}
-use Rattle.std.proofs.lemmas.Bool.Decides.{nat_tests}
-use Rattle.std.proofs.lemmas.Slice.Eq.{bytes_eq-Decides}
-use Rattle.std.proofs.lemmas.Bool.{and_parts, false_from_ne_true}
-use Rattle.solar_calendars.specs.Roman.{count_of}
-use Rattle.solar_calendars.specs.declared.roman_date.RomanName.{RomanName}
-use Rattle.date_texts.specs.Numerals.{IsNumeral}
+use Rattle.std.proofs.Common.{◌≡◌, ℕ, List, [], ◌∷◌, refl, subst, ◌≤◌, arith, Some, ℤ, true, false, codes}
 use Rattle.date_texts.specs.RomanText.{IsNameText, of_kalends, of_nones, of_ides, of_second_sixth, IsRomanText}
 use Rattle.date_texts.specs.RomanReading.{count_at, counted_at, name_at, roman_at}
-use Rattle.date_texts.proofs.ReadingLemmas.{bind_some, some_inside, numbers, years, part_found, part_taken}
-use Rattle.date_texts.proofs.ReadingLemmas.{last_found, last_taken, numeral_below}
+use Rattle.std.proofs.lemmas.Slice.Eq.{bytes_eq-Decides}
+use Rattle.date_texts.proofs.Common.{and_parts, count_of, false_from_ne_true, is_ascii_digit, IsNumeral, nat_tests}
+use Rattle.date_texts.proofs.Common.{RomanName, str_eq_ignore_ascii_case, str_to_ascii_lowercase, to_ascii_lowercase}
+use Rattle.date_texts.proofs.ReadingLemmas.{bind_some, some_inside, numbers, years, numeral_below, part_found}
+use Rattle.date_texts.proofs.ReadingLemmas.{part_taken, last_found, last_taken}
 
 -- ---- what is read is in the grammar
 count_read : (bytes : List ℕ) (n : ℕ) → count_at bytes ≡ Some n → IsNumeral 2 bytes n

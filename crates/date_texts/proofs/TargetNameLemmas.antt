@@ -1,16 +1,15 @@
--- The search by name finds the target that a text names.
+-- The search by name finds the target that a text names, and few targets have names that differ.
 use Rattle.std.proofs.Common.{◌≡◌, ◌↔◌, ℕ, List, [], ◌∷◌, Bool, true, IsTrue, Option, Some, None, refl, sym, ap, ◌∙◌}
-use Rattle.std.proofs.Common.{arith, find}
-use Rattle.std.specs.Str.{bytes_eq, str_to_ascii_lowercase}
+use Rattle.std.proofs.Common.{arith, find, ◌≢◌, ◌<◌, inl, inr, length, map, get_or, false, eqb, slice_get}
+use Rattle.std.proofs.lemmas.Map.Keys.{IsDistinct-from_apart}
+use Rattle.std.proofs.lemmas.Map.Steps.{length-le_from_distinct_below}
+use Rattle.std.proofs.lemmas.Option.{slice_get-get_or}
+use Rattle.date_texts.specs.declared.target.Target.TheVariants.{Date, Haab}
+use Rattle.date_texts.specs.declared.target.TheConstants.{MAX_TARGETS}
 use Rattle.std.proofs.lemmas.Slice.Eq.{bytes_eq-Decides}
-use Rattle.std.proofs.lemmas.Bool.Decides.{nat_tests, same_from_decides}
-use Rattle.date_texts.specs.declared.calendar.Calendar.{Calendar}
-use Rattle.date_texts.specs.declared.calendar.Calendar.TheVariants.{Gregorian}
-use Rattle.date_texts.specs.declared.target.Target.{Target}
-use Rattle.date_texts.specs.declared.target.Target.TheVariants.{Date}
-use Rattle.date_texts.specs.Calendars.{calendar_name, target_name, all_targets}
-use Rattle.date_texts.specs.Names.{IsNamed}
-use Rattle.date_texts.specs.Trimmed.{trimmed}
+use Rattle.date_texts.proofs.Common.{all_targets, bytes_eq, Calendar, calendar_name, eqb_tells, FewTargets, find_at}
+use Rattle.date_texts.proofs.Common.{get_or-map, Gregorian, IsNamed, length-map, list_any, nat_tests, position_or_len}
+use Rattle.date_texts.proofs.Common.{same_from_decides, str_to_ascii_lowercase, Target, target_name, trimmed}
 use Rattle.date_texts.proofs.ReadingLemmas.{some_inside}
 
 -- the target with this name
@@ -68,3 +67,48 @@ pub calendar_is_named : (o : Option Target) (r : Option Calendar) (text : List �
 calendar_is_named (Some (Date c)) r text h same e =
     (λ q. (h (Date e)).0 (cc), λ q. let is = (h (Date e)).1 q in cc)
 calendar_is_named o r text h same e = (λ q. absurd (cc), λ q. let is = (h (Date e)).1 q in absurd (cc))
+
+-- ---- how many targets there are at most, where none is named twice
+-- a target by its rank among all targets
+rank_of : Target → ℕ
+rank_of t = position_or_len (has_name (target_name t)) all_targets
+
+there : (t : Target) → slice_get all_targets (rank_of t) ≡ Some t
+unfolding rank_of
+there t = sym (find_at (has_name (target_name t)) all_targets) ∙ finds_own t
+
+same_rank : (t u : Target) → rank_of t ≡ rank_of u → t ≡ u
+same_rank t u e = some_inside (sym (there t) ∙ ap (λ k. slice_get all_targets k) e ∙ there u)
+
+rank_below : (t : Target) → rank_of t < MAX_TARGETS
+unfolding rank_of
+rank_below (Date Gregorian) = omega arith
+rank_below t = omega arith
+
+below : (ts : List Target) (q : ℕ) → list_any (eqb q) (map rank_of ts) ≡ true → q < MAX_TARGETS
+below [] q e = cc
+below (t ∷ ts) q e = grind (arith, eqb_tells q (rank_of t), rank_below t, below ts q)
+
+apart : (ts : List Target) → ((i j : ℕ) → i < j → j < length ts → slice_get ts i ≢ slice_get ts j)
+    → (i j d : ℕ) → i < j → j < length (map rank_of ts) → eqb (get_or (map rank_of ts) i d)
+    (get_or (map rank_of ts) j d) ≡ false
+apart ts h i j d lt le =
+    let long = length-map ts rank_of in
+    let near : j < length ts = omega (arith, long, le) in
+    let first : i < length ts = omega arith in
+    let there = get_or-map rank_of ts i Haab d first in
+    let here = get_or-map rank_of ts j Haab d near in
+    rw (there, here) (elim (eqb_tells (rank_of (get_or ts i Haab)) (rank_of (get_or ts j Haab))) [
+      | inl same ↦ absurd (h i j lt near
+          (slice_get-get_or ts i Haab first
+          ∙ (ap Some (same_rank _ _ same.1) ∙ sym (slice_get-get_or ts j Haab near))))
+      | inr other ↦ other.0
+    ])
+
+-- a list that names no target twice is no longer than the list of all targets
+pub few : FewTargets
+few ts h =
+    let long = length-map ts rank_of in
+    let short = length-le_from_distinct_below (map rank_of ts) MAX_TARGETS
+    (IsDistinct-from_apart eqb (map rank_of ts) (apart ts h)) (below ts) in
+    omega (arith, long, short)

@@ -46,7 +46,7 @@ fn write_civil<C: ArithmeticCalendar>(buffer: &mut [u8], by: &C, calendar: Calen
 /// Writes the long count of a day to the front of a cell's room, and returns how many bytes it has: none before the
 /// first long count.
 #[inline(never)]
-#[tactic(auto, using(crate::proofs::CellTextLemmas::long_room))]
+#[tactic(auto, using(crate::proofs::CellLemmas::long_room))]
 fn write_long_count(buffer: &mut [u8], day: Day) -> u8
     requires { MAX_CELL ≤ length buffer.old }
     ensures few { result ≤ MAX_CELL }
@@ -102,7 +102,7 @@ fn write_numbered(buffer: &mut [u8], number: u8, name: &str) -> u8
 /// Writes the haab of a day to the front of a cell's room, and returns how many bytes it has.
 // A function of its own, as that of the tzolkin, so that a row without the column does not find the name.
 #[inline(never)]
-#[tactic(auto, using(crate::proofs::CellTextLemmas::month_length))]
+#[tactic(auto, using(crate::proofs::CellLemmas::month_length))]
 fn write_haab(buffer: &mut [u8], day: Day) -> u8
     requires { MAX_CELL ≤ length buffer.old }
     ensures few { result ≤ MAX_CELL }
@@ -114,7 +114,7 @@ fn write_haab(buffer: &mut [u8], day: Day) -> u8
 
 /// Writes the tzolkin of a day to the front of a cell's room, and returns how many bytes it has.
 #[inline(never)]
-#[tactic(auto, using(crate::proofs::CellTextLemmas::day_name_length))]
+#[tactic(auto, using(crate::proofs::CellLemmas::day_name_length))]
 fn write_tzolkin(buffer: &mut [u8], day: Day) -> u8
     requires { MAX_CELL ≤ length buffer.old }
     ensures few { result ≤ MAX_CELL }

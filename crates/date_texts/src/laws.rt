@@ -60,7 +60,7 @@ pub fn one_cell()
 }
 
 /// The bytes of a cell are digits and letters of ASCII, spaces, dashes and dots.
-#[tactic(auto, using(crate::proofs::CellTextLemmas::cell_text))]
+#[tactic(auto, using(crate::proofs::CellLemmas::cell_text))]
 pub fn cells_are_plain()
     ensures { CellsArePlain }
 {
@@ -69,7 +69,7 @@ pub fn cells_are_plain()
 }
 
 /// A cell has [`MAX_CELL`](crate::MAX_CELL) bytes at most, whatever the day.
-#[tactic(auto, using(crate::proofs::CellTextLemmas::cell_text))]
+#[tactic(auto, using(crate::proofs::CellLemmas::cell_text))]
 pub fn cells_are_short()
     ensures { CellsAreShort }
 {
@@ -78,7 +78,7 @@ pub fn cells_are_short()
 }
 
 /// A list that names no target twice has [`MAX_TARGETS`](crate::MAX_TARGETS) targets at most.
-#[tactic(auto, using(crate::proofs::TargetCountLemmas::few))]
+#[tactic(auto, using(crate::proofs::TargetNameLemmas::few))]
 pub fn few_targets()
     ensures { FewTargets }
 {}

@@ -71,7 +71,7 @@ fn place_row(place: u16) -> &'static [u8; 4]
 /// Writes a dot and a place of a long count. For a place under 20 four bytes are written, of which the last one or two
 /// are no part of the text.
 #[inline(always)]
-#[tactic(auto, using(crate::proofs::CellTextLemmas::four_digits))]
+#[tactic(auto, using(crate::proofs::CellLemmas::four_digits))]
 fn put_place(buffer: &mut [u8], at: usize, place: u16) -> usize
     requires room { at + 5 ≤ length buffer.old }
     requires small { place ≤ 9_999 }

@@ -15,7 +15,7 @@ use arrayvec::ArrayString;
 
 /// Writes a date to the front.
 #[inline(always)]
-#[tactic(auto, using(crate::proofs::CellTextLemmas::text_room))]
+#[tactic(auto, using(crate::proofs::CellLemmas::text_room))]
 fn put_date(buffer: &mut [u8], date: Date) -> usize
     requires { MAX_TEXT ≤ length buffer.old }
     ensures value { IsPut buffer.old buffer.new 0 result (canonical_text date) }

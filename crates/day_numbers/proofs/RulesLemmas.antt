@@ -82,36 +82,35 @@ back_one a b c d n p q e = omega (arith, signed_arith)
 
 -- a closed formula that is right at year 1 and, from some year on, grows by each year's length gives the first days of
 -- the years from there on
-module _ (s : Years) (e : ℤ) (f : ℤ → ℕ) (g : ℤ → ℤ) (low : ℕ) (one : g (pos 1) ≡ e)
-    (more : (y : ℤ) → HasYear s y → negsuc low ≤ℤ y → g (next_year s y) ≡ g y +ℤ pos (f y)) where
-  start_later : (n : ℕ) → g (pos (suc n)) ≡ start_of_year s e f (pos (suc n))
-  start_later zero = one ∙ sym (start_one s e f)
-  start_later (suc n) =
+module _ (e : ℤ) (f : ℤ → ℕ) (g : ℤ → ℤ) (low : ℕ) (one : g (pos 1) ≡ e) where
+  abbrev Grows : Years → Type 0
+  Grows s = (y : ℤ) → HasYear s y → negsuc low ≤ℤ y → g (next_year s y) ≡ g y +ℤ pos (f y)
+
+  start_later : (s : Years) → Grows s → (n : ℕ) → g (pos (suc n)) ≡ start_of_year s e f (pos (suc n))
+  start_later s more zero = one ∙ sym (start_one s e f)
+  start_later s more (suc n) =
       let step = more (pos (suc n)) tt (omega (arith, signed_arith)) in
-      cc (step, start_later n, start_next s e f (pos (suc n)) tt)
+      cc (step, start_later s more n, start_next s e f (pos (suc n)) tt)
 
-  start_earlier : (y : ℤ) → HasYear s y → negsuc low ≤ℤ y
+  start_earlier : (s : Years) → Grows s → (y : ℤ) → HasYear s y → negsuc low ≤ℤ y
       → g (next_year s y) ≡ start_of_year s e f (next_year s y) → g y ≡ start_of_year s e f y
-  start_earlier y h le same = back_one _ _ _ _ (f y) (more y h le) (start_next s e f y h) same
+  start_earlier s more y h le same = back_one _ _ _ _ (f y) (more y h le) (start_next s e f y h) same
 
-start_from : (s : Years) (e : ℤ) (f : ℤ → ℕ) (g : ℤ → ℤ) (low : ℕ) → g (pos 1) ≡ e
-    → ((y : ℤ) → HasYear s y → negsuc low ≤ℤ y → g (next_year s y) ≡ g y +ℤ pos (f y)) → (y : ℤ) → HasYear s y
-    → negsuc low ≤ℤ y → g y ≡ start_of_year s e f y
-start_from s e f g low one more (pos (suc n)) h le = start_later s e f g low one more n
-start_from with_zero e f g low one more (pos zero) h le =
-    start_earlier with_zero e f g low one more (pos 0) tt le (start_later with_zero e f g low one more 0)
-start_from with_zero e f g low one more (negsuc zero) h le =
-    start_earlier with_zero e f g low one more (negsuc 0) tt le (start_earlier with_zero e f g low one more (pos 0) tt
-    (omega (arith, signed_arith)) (start_later with_zero e f g low one more 0))
-start_from without_zero e f g low one more (negsuc zero) h le =
-    start_earlier without_zero e f g low one more (negsuc 0) tt le (start_later without_zero e f g low one more 0)
-start_from with_zero e f g low one more (negsuc (suc n)) h le =
-    start_earlier with_zero e f g low one more (negsuc (suc n)) tt le
-    (start_from with_zero e f g low one more (negsuc n) tt (omega (arith, signed_arith)))
-start_from without_zero e f g low one more (negsuc (suc n)) h le =
-    start_earlier without_zero e f g low one more (negsuc (suc n)) tt le
-    (start_from without_zero e f g low one more (negsuc n) tt (omega (arith, signed_arith)))
-start_from s e f g low one more y h le = absurd h
+  start_from : (s : Years) → Grows s → (y : ℤ) → HasYear s y → negsuc low ≤ℤ y → g y ≡ start_of_year s e f y
+  start_from s more (pos (suc n)) h le = start_later s more n
+  start_from with_zero more (pos zero) h le = start_earlier with_zero more (pos 0) tt le (start_later with_zero more 0)
+  start_from with_zero more (negsuc zero) h le =
+      start_earlier with_zero more (negsuc 0) tt le (start_earlier with_zero more (pos 0) tt
+      (omega (arith, signed_arith)) (start_later with_zero more 0))
+  start_from without_zero more (negsuc zero) h le =
+      start_earlier without_zero more (negsuc 0) tt le (start_later without_zero more 0)
+  start_from with_zero more (negsuc (suc n)) h le =
+      start_earlier with_zero more (negsuc (suc n)) tt le
+      (start_from with_zero more (negsuc n) tt (omega (arith, signed_arith)))
+  start_from without_zero more (negsuc (suc n)) h le =
+      start_earlier without_zero more (negsuc (suc n)) tt le
+      (start_from without_zero more (negsuc n) tt (omega (arith, signed_arith)))
+  start_from s more y h le = absurd h
 
 -- no year lies before the one that many years before year 0
 lowest : (y : ℤ) → negsuc (unsigned_abs y) ≤ℤ y
@@ -122,7 +121,7 @@ lowest (negsuc n) = omega (arith, signed_arith)
 pub start_is : (s : Years) (e : ℤ) (f : ℤ → ℕ) (g : ℤ → ℤ) → g (pos 1) ≡ e
     → ((y : ℤ) → HasYear s y → g (next_year s y) ≡ g y +ℤ pos (f y)) → (y : ℤ) → HasYear s y
     → g y ≡ start_of_year s e f y
-start_is s e f g one more y h = start_from s e f g (unsigned_abs y) one (λ z has le. more z has) y h (lowest y)
+start_is s e f g one more y h = start_from e f g (unsigned_abs y) one s (λ z has le. more z has) y h (lowest y)
 
 -- in a calendar with a year 0 the next year is the year plus one
 pub next_is : (y : ℤ) → next_year with_zero y ≡ y +ℤ pos 1
@@ -138,7 +137,7 @@ pub start_is_from : (e : ℤ) (f : ℤ → ℕ) (g : ℤ → ℤ) (low : ℕ) �
     → ((y : ℤ) → negsuc low ≤ℤ y → g (y +ℤ pos 1) ≡ g y +ℤ pos (f y)) → (y : ℤ) → negsuc low ≤ℤ y
     → g y ≡ start_of_year with_zero e f y
 start_is_from e f g low one more y le =
-    start_from with_zero e f g low one (λ z has le. rw (next_is z) (more z le)) y (any_year y) le
+    start_from e f g low one with_zero (λ z has le. rw (next_is z) (more z le)) y (any_year y) le
 
 -- years begin in their order
 years_mono : (f : ℤ → ℕ) (n k : ℕ) → days_of_years f n ≤ days_of_years f (k + n)

@@ -5,6 +5,7 @@ use Rattle.std.proofs.lemmas.Bool.Decides.{nat_tests}
 use Rattle.day_numbers.specs.Days.{weekday_number}
 use Rattle.day_numbers.proofs.SignedArithmeticLemmas.{signed_arith}
 use Rattle.lunar_calendars.specs.Hebrew.{is_leap_year, epoch, next_allowed, postponed, new_year_of}
+use Rattle.lunar_calendars.specs.HebrewOpenings.{days_from_monday}
 use Rattle.lunar_calendars.proofs.MonthSumLemmas.{months_closed}
 
 weekday_after : (d : ℕ) → weekday_number (epoch +ℤ pos d) ≡ (d + 1) % 7
@@ -44,11 +45,6 @@ postponed_after leap after_leap d t =
     grind (arith, signed_arith, nat_le, chosen, later, weekday_after, falls_on_place, next_allowed_after)
 
 -- the same by the days after the Monday of its week, from the parts between noon of the Saturday before and the molad
-abbrev pub days_from_monday : Bool → Bool → ℕ → ℕ
-days_from_monday leap after_leap time =
-    if nat_lt time (if after_leap then 49_189 else 51_840) then 0
-    else (if nat_lt time (if leap then 77_760 else 68_244) then 1 else (if nat_lt time 129_600 then 3 else 5))
-
 IsWeekBy : Bool → Bool → (d q t w : ℕ) → Type 0
 IsWeekBy leap after_leap d q t w =
     d + 1 ≡ 7 * q + w → 7 * (q + (25_920 * w + t + 6_480) / 181_440)

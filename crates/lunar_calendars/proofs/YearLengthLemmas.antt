@@ -10,8 +10,8 @@ use Rattle.day_numbers.proofs.RulesLemmas.{years_zero, years_suc}
 use Rattle.day_numbers.proofs.SignedArithmeticLemmas.{signed_arith}
 use Rattle.lunar_calendars.specs.Hebrew.{IsYearLength, is_leap_year, epoch, new_year_of, days_in_year, months_by_length}
 use Rattle.lunar_calendars.specs.Hebrew.{months_of_year, year_lengths, hebrew_rules}
-use Rattle.lunar_calendars.specs.HebrewOpenings.{IsOpening}
-use Rattle.lunar_calendars.proofs.NewYearLemmas.{days_from_monday, opens_by_week, parts_after}
+use Rattle.lunar_calendars.specs.HebrewOpenings.{IsOpening, days_from_monday}
+use Rattle.lunar_calendars.proofs.NewYearLemmas.{opens_by_week, parts_after}
 use Rattle.lunar_calendars.proofs.NewYearLemmas.{new_year_after, new_year_is, first_new_year, new_year_bounds}
 
 -- n lies from low to high above m
@@ -27,60 +27,46 @@ year_by_weeks : (leap after_leap next_leap : Bool) (x y : ℕ) → y ≡ x + 765
 year_by_weeks false after_leap next_leap x y e = grind (arith, signed_arith, nat_tests)
 year_by_weeks true after_leap next_leap x y e = grind (arith, signed_arith, nat_tests)
 
-from_same : (low high m n i j : ℕ) → m ≡ i → n ≡ j → IsFrom low high m n → IsFrom low high i j
-from_same low high m n i j p q s = rw (← p, ← q) s
-
 -- the parts from a molad to the next year's
-parts_step : (n : ℕ) (leap : Bool) → is_leap_year (suc n) ≡ leap
-    → parts_after (suc n) ≡ parts_after n + 765_433 * (if leap then 13 else 12)
-parts_step n leap e = grind (arith, nat_tests, e)
+parts_step : (n : ℕ) → parts_after (suc n) ≡ parts_after n + 765_433 * (if is_leap_year (suc n) then 13 else 12)
+parts_step n = grind (arith, nat_tests)
 
 by_week : (n : ℕ) → 7 * ((32_400 + parts_after n) / 181_440)
     + days_from_monday (is_leap_year (suc n)) (is_leap_year n) ((32_400 + parts_after n) % 181_440) ≡ new_year_after n
 unfolding new_year_after
 by_week n = opens_by_week (is_leap_year (suc n)) (is_leap_year n) (parts_after n)
 
-step_by : (n : ℕ) (leap : Bool) → is_leap_year (suc n) ≡ leap
-    → IsFrom (if leap then 383 else 353) (if leap then 385 else 355) (new_year_after n) (new_year_after (suc n))
-unfolding new_year_after
-step_by n leap e =
-    let next_leap = is_leap_year (suc (suc n)) in
-    let days =
-    year_by_weeks leap (is_leap_year n) next_leap (32_400 + parts_after n) (32_400 + parts_after (suc n))
-    (omega (arith, parts_step n leap e)) in
-    rw e (from_same _ _ _ _ _ _ (opens_by_week leap (is_leap_year n) (parts_after n))
-    (opens_by_week next_leap leap (parts_after (suc n))) days)
-
 year_grows : (n : ℕ) → IsFrom (if is_leap_year (suc n) then 383 else 353) (if is_leap_year (suc n) then 385 else 355)
     (new_year_after n) (new_year_after (suc n))
-year_grows n = step_by n (is_leap_year (suc n)) refl
+year_grows n =
+    rw (← by_week n, ← by_week (suc n)) (year_by_weeks (is_leap_year (suc n)) (is_leap_year n)
+    (is_leap_year (suc (suc n))) (32_400 + parts_after n) (32_400 + parts_after (suc n)) (omega (arith, parts_step n)))
 
 -- so the days from a new year to the next are a difference of whole numbers
-difference : (x y : ℤ) (m n : ℕ) → m ≤ n → x ≡ epoch +ℤ pos m → y ≡ epoch +ℤ pos n → y -ℤ x ≡ pos (n - m)
-difference x y m n h p q = omega (arith, signed_arith, h, p, q)
-
 days_more : (n : ℕ) → new_year_after n + days_in_year (suc n) ≡ new_year_after (suc n)
 days_more n =
-    let more : new_year_after n ≤ new_year_after (suc n) = omega (arith, (year_grows n).least) in
     let next : suc n + 1 ≡ suc (suc n) = omega arith in
-    rw (next, difference _ _ (new_year_after n) (new_year_after (suc n)) more (new_year_is n) (new_year_is (suc n)))
-    (omega (arith, more))
+    let days : new_year_of (suc (suc n)) -ℤ new_year_of (suc n) ≡ pos (new_year_after (suc n) - new_year_after n) =
+    omega (arith, signed_arith, (year_grows n).least, new_year_is n, new_year_is (suc n)) in
+    rw (next, days) (omega (arith, (year_grows n).least))
 
-length_of : (n : ℕ) → IsYearLength (is_leap_year (suc n)) (days_in_year (suc n))
-length_of n = (omega (arith, (year_grows n).least, days_more n), omega (arith, (year_grows n).most, days_more n))
+pub length_of_year : (year : ℕ) → 1 ≤ year → IsYearLength (is_leap_year year) (days_in_year year)
+length_of_year zero low = absurd (omega arith)
+length_of_year (suc n) low =
+    (omega (arith, (year_grows n).least, days_more n), omega (arith, (year_grows n).most, days_more n))
 
 -- the months of a year fill it
 pub total_by : (leap : Bool) (days : ℕ) → IsYearLength leap days → total_days (months_by_length leap days) ≡ days
 total_by false days h = grind (arith, nat_tests)
 total_by true days h = grind (arith, nat_tests)
 
-total_of : (n : ℕ) → total_days (months_of_year (suc n)) ≡ days_in_year (suc n)
-total_of n = total_by (is_leap_year (suc n)) (days_in_year (suc n)) (length_of n)
+pub total : (year : ℕ) → 1 ≤ year → total_days (months_of_year year) ≡ days_in_year year
+total year low = total_by (is_leap_year year) (days_in_year year) (length_of_year year low)
 
 -- so the sum of the lengths of the years before is the new year by the postponements
 days_before : (n : ℕ) → days_of_years (λ year. total_days (months_of_year (unsigned_abs year))) n ≡ new_year_after n
 days_before zero = years_zero _ ∙ sym first_new_year
-days_before (suc n) = grind (arith, signed_arith, years_suc, unsigned_abs, total_of, days_more, days_before n)
+days_before (suc n) = grind (arith, signed_arith, years_suc, unsigned_abs, total, days_more, days_before n)
 
 -- the same facts of a year from 1 on
 pub year_start_is : (year : ℕ) → 1 ≤ year → new_year_of year ≡ year_start hebrew_rules (pos year)
@@ -95,21 +81,12 @@ pub day_at : (year day place m d : ℕ) (n : ℤ) → 1 ≤ year → epoch +ℤ 
 day_at year day place m d n low opens sum e =
     omega (arith, signed_arith, year_start_is year low, opens, e)
 
-end_by : (x y : ℤ) (m n days : ℕ) → y ≡ epoch +ℤ pos n → x ≡ epoch +ℤ pos m → m + days ≡ n → y ≡ x +ℤ pos days
-end_by x y m n days p q h = omega (arith, signed_arith, p, q, h)
-
-pub length_of_year : (year : ℕ) → 1 ≤ year → IsYearLength (is_leap_year year) (days_in_year year)
-length_of_year zero low = absurd (omega arith)
-length_of_year (suc n) low = length_of n
-
-pub total : (year : ℕ) → 1 ≤ year → total_days (months_of_year year) ≡ days_in_year year
-total zero low = absurd (omega arith)
-total (suc n) low = total_of n
-
 pub end_of_year : (year : ℕ) → 1 ≤ year → new_year_of (year + 1) ≡ new_year_of year +ℤ pos (days_in_year year)
 end_of_year zero low = absurd (omega arith)
 end_of_year (suc n) low =
-    end_by _ _ _ _ _ (grind (arith, new_year_is (suc n))) (new_year_is n) (days_more n)
+    let next : suc n + 1 ≡ suc (suc n) = omega arith in
+    let days = days_more n in
+    rw next (omega (arith, signed_arith, new_year_is n, new_year_is (suc n), rw next at days))
 
 -- the year of a day is this estimate or the one before
 pub estimate : (days year : ℕ) → year ≡ (days + 29) * 98_496 / 35_975_351 + 1
@@ -141,18 +118,14 @@ days_by zero day monday part time weeks rest more e r low o w h m q k = absurd (
 days_by (suc n) day monday part time weeks rest more e r low o w h m q k =
     let after : suc n + 1 ≡ suc (suc n) = omega arith in
     let opens : day ≡ new_year_after n = omega (arith, signed_arith, o.0, new_year_is n) in
-    let step = parts_step n (is_leap_year (suc n)) refl in
+    let step = parts_step n in
     let week = one_more more (time + rest) m (omega (arith, o.3, h)) in
     let next_time : time + rest - more * 181_440 ≡ (32_400 + parts_after (suc n)) % 181_440 =
     omega (arith, step, o.3, w, week) in
     omega (arith, opens, o.1, rw (after, next_time) at q, k, by_week (suc n), days_more n)
 
-days_bound : (leap : Bool) (days : ℕ) → IsYearLength leap days → days ≤ 385
-days_bound false days h = omega (arith, h)
-days_bound true days h = omega (arith, h)
-
 pub days_at_most : (year : ℕ) → 1 ≤ year → days_in_year year ≤ 385
-days_at_most year low = days_bound (is_leap_year year) (days_in_year year) (length_of_year year low)
+days_at_most year low = grind (arith, nat_tests, length_of_year year low)
 
 -- a day before a new year is not before year 1
 pub after_year_one : (year day n : ℕ) → 1 ≤ year → epoch +ℤ pos n ≡ new_year_of year → day < n → 2 ≤ year

@@ -1,12 +1,12 @@
 //! The Hebrew calendar: new years by the molad and what puts them off, and the months from one to the next.
 
 ghost use Rattle.std.specs.Prelude.{◌≡◌, ◌≤◌, ◌<◌, ◌+◌, ◌*◌, pos, ◌+ℤ◌, ◌-ℤ◌, ◌<ℤ◌, IsTrue, length};
-ghost use Rattle.std.specs.Prelude.{ℕ, Contains, nat_lt, if◌then◌else◌, slice_index, take};
+ghost use Rattle.std.specs.Prelude.{ℕ, Contains, if◌then◌else◌, slice_index, take};
 ghost use Rattle.day_numbers.specs.Rules.{total_days, are_months, year_start, days_of_month, days_before_month};
 ghost use Rattle.day_numbers.proofs.DateLemmas.{rules_one_to_one};
 ghost use Rattle.lunar_calendars.specs.Hebrew.{is_leap_year, epoch, new_year_of, days_in_year, year_lengths};
 ghost use Rattle.lunar_calendars.specs.Hebrew.{IsYearLength, months_by_length, hebrew_rules};
-ghost use Rattle.lunar_calendars.specs.HebrewOpenings.{IsOpening};
+ghost use Rattle.lunar_calendars.specs.HebrewOpenings.{IsOpening, days_from_monday as days_spec};
 
 use day_numbers::by_rules::CalendarByRules;
 use day_numbers::months;
@@ -38,8 +38,7 @@ const PARTS_OF_MONTH: u64 = 765_433;
 /// Tuesday in a common year, which would have 356 days, at 9 hours and 204 parts, and for a Monday after a leap year,
 /// which would have had 382 days, at 15 hours and 589 parts.
 fn days_from_monday(leap: bool, after_leap: bool, time: u64) -> u32
-    ensures { result ≡ (if nat_lt time (if after_leap then 49_189 else 51_840) then 0
-        else if nat_lt time (if leap then 77_760 else 68_244) then 1 else if nat_lt time 129_600 then 3 else 5) }
+    ensures { result ≡ days_spec leap after_leap time }
 {
     let monday = if after_leap { 49_189 } else { 2 * PARTS_OF_DAY };
     let tuesday = if leap { 3 * PARTS_OF_DAY } else { 68_244 };

@@ -5,6 +5,7 @@ use Rattle.std.proofs.lemmas.Bool.Decides.{nat_tests}
 use Rattle.std.proofs.lemmas.Int.{ints}
 use Rattle.maya_calendars.specs.Rounds.{epoch, round_number, StepsOnEachDay}
 use Rattle.maya_calendars.specs.HaabNames.{haab_after, haab_before, haab_of}
+use Rattle.maya_calendars.specs.Laws.{HaabDaysInRange}
 use Rattle.maya_calendars.proofs.RoundLemmas.{after_days_are, each_day_from_epoch, place_in, place_below, place_next}
 use Rattle.maya_calendars.proofs.RoundLemmas.{round_number_is}
 
@@ -40,3 +41,6 @@ haab_is day number place d m e f g h =
     let by = round_number_is 365 348 349 day refl (omega arith) in
     let placed : place ≡ place_in 365 ((day -ℤ epoch) +ℤ pos 348) = omega (arith, e, f, by) in
     named ∙ ap haab_at placed ∙ sym (after_days_are haab_after haab_before haab_by by_each_day by_undone (day -ℤ epoch))
+
+pub haab_days : HaabDaysInRange
+haab_days day = grind (arith, haab_is)

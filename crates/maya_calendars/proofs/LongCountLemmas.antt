@@ -1,6 +1,6 @@
 -- A long count is known by its day.
-use Rattle.std.proofs.Common.{◌≡◌, ℕ, ◌+◌, ◌*◌, ◌≤◌, Option, Some, None, IsSome, IfSome, ◌↔◌, sym, ◌∙◌, ◌≤ℤ◌, subst, ap}
-use Rattle.std.proofs.Common.{arith, ℤ}
+use Rattle.std.proofs.Common.{◌≡◌, ℕ, ◌+◌, ◌*◌, ◌≤◌, ◌≤ℤ◌}
+use Rattle.std.proofs.Common.{arith}
 use Rattle.std.proofs.Props.{props}
 use Rattle.std.proofs.lemmas.Int.{ints}
 use Rattle.day_numbers.proofs.DateLemmas.{same_made}
@@ -31,10 +31,3 @@ one_long_count c d h g e = grind (arith, ints, same_places, same_numbers)
 
 pub day_since_epoch : (c : LongCount) → epoch ≤ℤ long_day c
 day_since_epoch c = omega (arith, ints)
-
--- the long count of a day is the only one
-pub only_long_count : (o : Option LongCount) (day : ℤ) → IsSome o ↔ (epoch ≤ℤ day)
-    → IfSome o (λ c. IsLongCount c × (long_day c ≡ day)) → (c : LongCount) → IsLongCount c → long_day c ≡ day
-    → o ≡ Some c
-only_long_count None day some value c h e = absurd (cc (some.1 (subst (λ z. epoch ≤ℤ z) e (day_since_epoch c))))
-only_long_count (Some x) day some value c h e = ap Some (one_long_count x c value.0 h (value.1 ∙ sym e))

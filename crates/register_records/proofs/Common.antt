@@ -9,7 +9,7 @@ unfoldable pub use Rattle.csv.specs.Records.{cut_from, field_at}
 pub use Rattle.csv.specs.Writing.{needs_byte, needs_quotes}
 unfoldable pub use Rattle.csv.specs.Writing.{escaped, fields_text}
 pub use Rattle.csv.specs.declared.reader.Reader.{Reader}
-pub use Rattle.date_texts.proofs.TextWords.{all_digits, value_after}
+pub use Rattle.date_texts.proofs.ReadingLemmas.{all_digits, value_after}
 pub use Rattle.date_texts.specs.Calendars.{all_targets, calendar_name, default_targets, target_name}
 pub use Rattle.date_texts.specs.Cells.{is_plain}
 pub use Rattle.date_texts.specs.DateText.{IsDateText}

@@ -1,16 +1,6 @@
 -- Gregorian years in closed form, and jiff's dates by the rules.
 use Rattle.std.proofs.Common.{◌≡◌, ◌↔◌, ℕ, zero, suc, ◌+◌, ◌-◌, ◌*◌, ◌/◌, ◌≤◌, ◌<◌, Bool, refl, cond, arith, ℤ, pos}
 use Rattle.std.proofs.Common.{negsuc, neg_ℤ, ◌+ℤ◌, ◌-ℤ◌, ◌*ℤ◌, ◌≤ℤ◌}
-use Rattle.std.proofs.lemmas.Bool.Decides.{nat_tests}
-use Rattle.std.specs.Int.{int_div_euclid}
-use Rattle.day_numbers.specs.Dates.{IsBetween}
-use Rattle.day_numbers.specs.Days.{IsDayNumber}
-use Rattle.day_numbers.specs.Rules.{with_zero, HasYear, IsDateOf, year_length, year_start, days_of_month}
-use Rattle.day_numbers.specs.Rules.{days_before_month, day_number_of}
-use Rattle.day_numbers.proofs.RulesLemmas.{any_year, next_is, next_year, start_is, start_is_from, start_next}
-use Rattle.day_numbers.proofs.SignedArithmeticLemmas.{signed_arith}
-use Rattle.solar_calendars.specs.TwelveMonths.{twelve_months}
-use Rattle.solar_calendars.specs.Gregorian.{gregorian_rules, is_gregorian_leap}
 use Rattle.jiff_core.specs.Calendar.{is_leap_year, days_in_year, days_in_month, days_of_months, day_count}
 use Rattle.jiff_core.specs.Calendar.{days_from_civil, IsDate}
 use Rattle.jiff_core.specs.declared.civil.date.Date.{Date}
@@ -19,6 +9,10 @@ use Rattle.jiff_core.proofs.DateLemmas.{epoch_day_range}
 use Rattle.jiff_core.proofs.CalendarLemmas.{day_count-next_year, days_from_civil-day_count, days_of_months_table}
 use Rattle.jiff_core.proofs.CalendarLemmas.{day_count-day_of_year}
 use Rattle.jiff_core.proofs.MarchLemmas.{day_count-early}
+use Rattle.day_numbers.proofs.RulesLemmas.{any_year, next_is, next_year, start_is, start_is_from, start_next}
+use Rattle.solar_calendars.proofs.Common.{day_number_of, days_before_month, days_of_month, gregorian_rules, HasYear}
+use Rattle.solar_calendars.proofs.Common.{int_div_euclid, is_gregorian_leap, IsBetween, IsDateOf, IsDayNumber}
+use Rattle.solar_calendars.proofs.Common.{nat_tests, signed_arith, twelve_months, with_zero, year_length, year_start}
 
 abbrev pub closed : ℤ → ℤ
 closed y =
@@ -28,11 +22,8 @@ closed y =
 pub length_is : (y : ℤ) → year_length gregorian_rules y ≡ 365 + cond (is_gregorian_leap y) 1 0
 length_is y = grind arith
 
-leap_small : (y : ℤ) → cond (is_gregorian_leap y) 1 0 ≤ 1
-leap_small y = grind arith
-
 pub year_short : (y : ℤ) → year_length gregorian_rules y ≤ 366
-year_short y = omega (arith, length_is y, leap_small y)
+year_short y = grind arith
 
 -- a leap day goes with a quotient that steps
 leap_early : (m : ℕ) → cond (is_gregorian_leap (negsuc m)) 1 0 + m / 4 + suc m / 100 + m / 400
@@ -85,9 +76,9 @@ jiff_one = day_count-early (pos 1) 10000 1 1 refl (omega arith) (omega arith) (o
 abbrev jiff_start : ℤ → ℤ
 jiff_start y = days_from_civil y 1 1 +ℤ pos 719_163
 
-jiff_next : (y : ℤ) → HasYear with_zero y → negsuc 9999 ≤ℤ y
+jiff_next : (y : ℤ) → negsuc 9999 ≤ℤ y
     → jiff_start (y +ℤ pos 1) ≡ jiff_start y +ℤ pos (year_length gregorian_rules y)
-jiff_next y h low =
+jiff_next y low =
     omega (
       arith,
       signed_arith,
@@ -100,7 +91,7 @@ jiff_next y h low =
 pub jiff_start_is : (y : ℤ) → negsuc 9999 ≤ℤ y → jiff_start y ≡ year_start gregorian_rules y
 jiff_start_is y low =
     start_is_from _ _ jiff_start 9999 (omega (arith, signed_arith, days_from_civil-day_count, jiff_one))
-    (λ y low. jiff_next y (any_year y) low) y low
+    jiff_next y low
 
 -- the months are jiff's
 month_days : (y : ℤ) (m : ℕ) → 1 ≤ m → m ≤ 12
@@ -122,22 +113,18 @@ pub first_is : (y n a z : ℤ) → n ≡ y -ℤ pos 1 → year_start gregorian_r
     → z ≡ pos 365 *ℤ n +ℤ a +ℤ pos 1 → z ≡ year_start gregorian_rules y
 first_is y n a z e p s = grind (arith, signed_arith)
 
--- jiff's dates are the rules' dates
-valid_month : (y : ℤ) (m d : ℕ) → (1 ≤ m) × (m ≤ 12)
-    → d ≤ days_of_month (twelve_months (is_gregorian_leap y)) m ↔ d ≤ days_in_month y m
-valid_month y m d h = rw (month_days y m h.0 h.1) (λ a. a, λ a. a)
-
 -- a month of the rules is one from 1 to 12
 pub month_in : (leap : Bool) (m d : ℕ) → 1 ≤ d → d ≤ days_of_month (twelve_months leap) m → (1 ≤ m) × (m ≤ 12)
 month_in leap m d a b = grind (arith, nat_tests)
 
+-- jiff's dates are the rules' dates
 pub jiff_valid : (y : ℤ) (m d : ℕ) → IsBetween (neg_ℤ (pos 9_999)) (pos 9_999) y
     → IsDate y (pos m) (pos d) ↔ IsDateOf gregorian_rules y m d
 jiff_valid y m d near = (
   λ h. let low : (1 ≤ m) × (m ≤ 12) = omega (arith, signed_arith, h.1) in
-      (any_year y, omega (arith, signed_arith, h.2), (valid_month y m d low).1 (omega (arith, signed_arith, h.2))),
+      (any_year y, omega (arith, signed_arith, h.2), omega (arith, signed_arith, h.2, month_days y m low.0 low.1)),
   λ h. let low = month_in (is_gregorian_leap y) m d h.1 h.2 in
-      (near, omega (arith, signed_arith, low), omega (arith, signed_arith, h.1, (valid_month y m d low).0 h.2)),
+      (near, omega (arith, signed_arith, low), omega (arith, signed_arith, h.1, h.2, month_days y m low.0 low.1)),
 )
 
 -- and jiff's day numbers are theirs, counted from another day

@@ -1,20 +1,9 @@
 -- Each day lies in the year of weeks of its week's Thursday.
-use Rattle.std.proofs.Common.{◌≡◌, ℕ, ◌+◌, ◌*◌, ◌/◌, ◌≤◌, ◌<◌, Option, Some, None, IsSome, IfSome}
-use Rattle.std.proofs.Common.{sym, ap, ◌∙◌, arith, ℤ, pos, ◌+ℤ◌, ◌≤ℤ◌, ◌<ℤ◌}
-use Rattle.day_numbers.specs.Rules.{year_start, year_length}
-use Rattle.day_numbers.specs.declared.ymd.Ymd.{Ymd}
-use Rattle.day_numbers.proofs.SignedArithmeticLemmas.{signed_arith}
-use Rattle.solar_calendars.specs.Gregorian.{gregorian_rules}
+use Rattle.std.proofs.Common.{◌≡◌, ℕ, ◌+◌, ◌*◌, ◌/◌, ◌≤◌, ◌<◌, arith}
+use Rattle.std.proofs.Common.{ℤ, pos, ◌+ℤ◌, ◌≤ℤ◌, ◌<ℤ◌}
 use Rattle.solar_calendars.specs.IsoWeek.{monday_on_or_before, week_year_start, IsWeekDate, week_day_number}
-use Rattle.solar_calendars.specs.IsoWeekLaw.{one_week_date}
+use Rattle.solar_calendars.proofs.Common.{gregorian_rules, signed_arith, year_length, year_start}
 use Rattle.solar_calendars.proofs.GregorianLemmas.{january, length_is}
-
--- the week date on a day is the only one
-pub only_week_date : (o : Option Ymd) (n : ℤ) → IsSome o
-    → IfSome o (λ e. IsWeekDate e.year e.month e.day × (week_day_number e.year e.month e.day ≡ n)) → (d : Ymd)
-    → IsWeekDate d.year d.month d.day → week_day_number d.year d.month d.day ≡ n → o ≡ Some d
-only_week_date None n some value d h e = absurd (cc)
-only_week_date (Some x) n some value d h e = ap Some (one_week_date x d value.0 h (value.1 ∙ sym e))
 
 -- the code's first day of a year of weeks, three days after 1 January
 pub week_year_is : (y f m z : ℤ) → f ≡ year_start gregorian_rules y → m ≡ f +ℤ pos 3 → z ≡ monday_on_or_before m

@@ -1,16 +1,11 @@
 -- Julian years in closed form.
-use Rattle.std.proofs.Common.{◌≡◌, ◌==◌, ℕ, zero, suc, ◌+◌, ◌*◌, ◌/◌, ◌%◌, ◌≤◌, refl, ap, arith}
-use Rattle.std.proofs.Common.{ℤ, pos, negsuc, neg_ℤ, ◌+ℤ◌, ◌-ℤ◌, ◌*ℤ◌}
-use Rattle.std.proofs.lemmas.Bool.Decides.{nat_tests}
-use Rattle.std.specs.Int.{int_div_euclid}
-use Rattle.day_numbers.specs.Dates.{IsBetween}
-use Rattle.day_numbers.specs.Rules.{without_zero, HasYear, year_length, year_start, days_of_month}
-use Rattle.day_numbers.specs.Rules.{days_before_month, IsDateOf, day_number_of}
-use Rattle.day_numbers.proofs.RulesLemmas.{next_year, start_is, date_at_place}
-use Rattle.day_numbers.proofs.SignedArithmeticLemmas.{signed_arith}
-use Rattle.solar_calendars.specs.Julian.{julian_rules, years_before, is_julian_leap}
+use Rattle.std.proofs.Common.{◌≡◌, ◌==◌, ℕ, zero, suc, ◌+◌, ◌*◌, ◌/◌, ◌%◌, ◌≤◌, refl, ap, arith, ℤ, pos, negsuc, neg_ℤ}
+use Rattle.std.proofs.Common.{◌+ℤ◌, ◌-ℤ◌, ◌*ℤ◌}
 use Rattle.solar_calendars.specs.Remainder.{remainder}
-use Rattle.solar_calendars.specs.TwelveMonths.{twelve_months}
+use Rattle.day_numbers.proofs.RulesLemmas.{date_at_place, next_year, start_is}
+use Rattle.solar_calendars.proofs.Common.{day_number_of, days_before_month, days_of_month, HasYear, int_div_euclid}
+use Rattle.solar_calendars.proofs.Common.{is_julian_leap, IsBetween, IsDateOf, julian_rules, nat_tests, signed_arith}
+use Rattle.solar_calendars.proofs.Common.{twelve_months, without_zero, year_length, year_start, years_before}
 
 abbrev pub closed : ℤ → ℤ
 closed y = pos 365 *ℤ years_before y +ℤ int_div_euclid (years_before y) (pos 4) -ℤ pos 1

@@ -1,13 +1,11 @@
 -- The definitions computed on dates that are known from elsewhere.
 use Rattle.std.proofs.Common.{◌≡◌, refl, arith, pos, neg_ℤ}
-use Rattle.day_numbers.specs.Rules.{IsDateOf, day_number_of, start_of_year, days_of_years}
-use Rattle.solar_calendars.specs.Gregorian.{gregorian_rules}
-use Rattle.solar_calendars.specs.Julian.{julian_rules}
+use Rattle.day_numbers.specs.Rules.{start_of_year, days_of_years}
 use Rattle.solar_calendars.specs.IsoWeek.{week_year_start, week_day_number}
 use Rattle.solar_calendars.specs.ThirteenMonths.{coptic_rules, ethiopic_rules, egyptian_rules, armenian_rules}
 use Rattle.solar_calendars.specs.Roman.{roman_day_number}
-use Rattle.solar_calendars.specs.declared.roman_date.RomanName.TheVariants.{Kalends, SecondSixth}
 use Rattle.solar_calendars.specs.French.{french_rules, republican_rules}
+use Rattle.solar_calendars.proofs.Common.{day_number_of, gregorian_rules, IsDateOf, julian_rules, Kalends, SecondSixth}
 
 -- 29 February of year 0, and the day of the Ethiopic epoch
 gregorian_days : (day_number_of gregorian_rules (pos 0) 2 29 ≡ neg_ℤ (pos 306))

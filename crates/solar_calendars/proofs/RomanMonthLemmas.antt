@@ -1,17 +1,15 @@
--- Months one after the other, and their Kalends.
+-- Months one after the other, and their principal days, the Kalends, Nones and Ides.
 use Rattle.std.proofs.Common.{inl, inr, ◌≡◌, ℕ, zero, suc, ◌+◌, ◌-◌, ◌≤◌, Bool, true, false, refl, subst, ap, arith, ℤ}
-use Rattle.std.proofs.Common.{pos, negsuc, ◌+ℤ◌, ◌-ℤ◌, List, [], ◌∷◌, if◌then◌else◌, ◌==◌, ◌&&◌, ne_eqb}
-use Rattle.std.proofs.lemmas.Bool.{cases_eq}
-use Rattle.std.proofs.lemmas.Bool.Decides.{nat_tests}
-use Rattle.day_numbers.specs.Rules.{without_zero, HasYear, numbered_from, days_before_month, days_of_month}
-use Rattle.day_numbers.specs.Rules.{total_days, year_start, year_length}
-use Rattle.day_numbers.proofs.RulesLemmas.{next_year, start_next}
-use Rattle.day_numbers.proofs.SignedArithmeticLemmas.{signed_arith}
-use Rattle.solar_calendars.specs.Julian.{julian_rules, is_julian_leap}
-use Rattle.solar_calendars.specs.TwelveMonths.{twelve_months}
-use Rattle.solar_calendars.specs.Roman.{day_of_ides, has_two_sixths}
+use Rattle.std.proofs.Common.{pos, negsuc, ◌+ℤ◌, ◌-ℤ◌, List, [], ◌∷◌, if◌then◌else◌, ◌==◌, ◌&&◌, ne_eqb, ◌↔◌, ◌<◌, ◌≤ℤ◌}
+use Rattle.std.proofs.Common.{◌<ℤ◌, unsigned_abs, IsTrue}
+use Rattle.solar_calendars.specs.Roman.{roman_day_number, IsRomanDate, day_of_ides, has_two_sixths, principal_day}
 use Rattle.solar_calendars.specs.RomanPlaces.{kalends, month_length, year_before, month_before, year_of_month_before}
-use Rattle.solar_calendars.specs.RomanPlaces.{next_month, year_of_next_month}
+use Rattle.solar_calendars.specs.RomanPlaces.{nones, ides, preceding_day, prior_length, prior_ides}
+use Rattle.day_numbers.proofs.RulesLemmas.{date_unique, next_year, start_next}
+use Rattle.solar_calendars.proofs.Common.{by_lt_z, cases_eq, day_number_of, days_before_month, days_of_month, HasYear}
+use Rattle.solar_calendars.proofs.Common.{Ides, is_julian_leap, IsDateOf, julian_rules, Kalends, nat_tests, Nones}
+use Rattle.solar_calendars.proofs.Common.{numbered_from, RomanName, SecondSixth, signed_arith, total_days}
+use Rattle.solar_calendars.proofs.Common.{twelve_months, without_zero, year_length, year_start}
 
 first_before : (ds : List ℕ) (k : ℕ) → days_before_month (numbered_from k ds) k ≡ 0
 first_before [] k = refl
@@ -73,11 +71,9 @@ ides_small m = grind (arith, nat_tests)
 abbrev pub IsMonth : ℤ → ℕ → Type 0
 IsMonth y m = HasYear without_zero y × (1 ≤ m) × (m ≤ 12)
 
--- the month before a month: the way back to the month, and how far the Kalends lie apart
+-- the month before a month: how far the Kalends lie apart, and which of the two has the leap day
 pub record Follows (y : ℤ) (m : ℕ) (py : ℤ) (pm : ℕ) : Type 0 where
   pub is_month : IsMonth py pm
-  pub year_on : year_of_next_month py pm ≡ y
-  pub month_on : next_month pm ≡ m
   pub starts : kalends y m ≡ kalends py pm +ℤ pos (month_length py pm)
   pub leaps : has_two_sixths y m ≡ ((pm == 2) && is_julian_leap py)
 
@@ -87,16 +83,157 @@ follows y m h a b =
     elim (cases_eq m 1) [
       | inl e ↦ rw e (record {
         is_month = ((before_is y h).0, omega arith, omega arith);
-        year_on = (before_is y h).1;
-        month_on = refl;
         starts = january y h;
         leaps = refl;
       })
       | inr n ↦ rw (ne_eqb m 1 n) (record {
         is_month = (h, omega arith, omega arith);
-        year_on = rw (ne_eqb (m - 1) 12 (λ q. omega arith)) refl;
-        month_on = rw (ne_eqb (m - 1) 12 (λ q. omega arith)) (omega arith);
         starts = omega (arith, signed_arith, months_follow (is_julian_leap y) m (omega arith) b);
         leaps = grind (arith, nat_tests);
       })
     ]
+
+-- ---- principal days
+-- the Kalends of a month, by the Ides of the month before
+pub ides_are : (y : ℤ) (m : ℕ) → HasYear without_zero y → 1 ≤ m → m ≤ 12
+    → kalends y m ≡ ides (year_of_month_before y m) (month_before m) +ℤ pos (prior_length y m + 1 - prior_ides m)
+ides_are y m h a b =
+    let f = follows y m h a b in
+    omega (
+      arith,
+      signed_arith,
+      f.starts,
+      ides_small (month_before m),
+      months_small (is_julian_leap (year_of_month_before y m)) (month_before m) f.is_month.1 f.is_month.2,
+    )
+
+-- the month before is longer than its Ides are far
+pub small_prior : (y : ℤ) (m : ℕ) → HasYear without_zero y → 1 ≤ m → m ≤ 12
+    → (1 ≤ prior_length y m + 1 - prior_ides m) × (prior_ides m + 13 ≤ prior_length y m) × (13 ≤ prior_ides m)
+    × (prior_length y m ≤ 31)
+small_prior y m h a b = grind (arith, signed_arith, follows, months_small, ides_small)
+
+-- the day of the month of a principal day
+abbrev pub day_in_month : ℕ → RomanName → ℕ
+day_in_month m (Nones k) = day_of_ides m - 8
+day_in_month m (Ides k) = day_of_ides m
+day_in_month m name = 1
+
+pub principal_is : (y : ℤ) (m : ℕ) (name : RomanName) → IsMonth y m → IsDateOf julian_rules y m (day_in_month m name)
+    × (principal_day y m name ≡ day_number_of julian_rules y m (day_in_month m name))
+principal_is y m SecondSixth h =
+    ((h.0, omega arith, omega (arith, months_small (is_julian_leap y) m h.1 h.2)), refl)
+principal_is y m name h =
+    ((h.0, omega (arith, ides_small m), omega (arith, ides_small m, months_small (is_julian_leap y) m h.1 h.2)), refl)
+
+abs_is : (z : ℤ) → pos 0 ≤ℤ z → pos (unsigned_abs z) ≡ z
+abs_is (pos n) h = refl
+abs_is (negsuc n) h = absurd (omega (arith, signed_arith))
+
+-- a principal day among the days of a month is one of that month
+of_month : (y z : ℤ) (m k : ℕ) (other : RomanName) → IsMonth y m → IsMonth z k
+    → kalends y m ≤ℤ principal_day z k other
+    → principal_day z k other <ℤ (kalends y m +ℤ pos (month_length y m))
+    → principal_day z k other ≡ principal_day y m other
+of_month y z m k other h g low high =
+    let p = principal_is z k other g in
+    let far = unsigned_abs (principal_day z k other -ℤ kalends y m) in
+    let far_is : pos far ≡ principal_day z k other -ℤ kalends y m =
+    abs_is (principal_day z k other -ℤ kalends y m) (omega (arith, signed_arith)) in
+    let less : far < month_length y m = omega (arith, signed_arith, far_is) in
+    let same = date_unique julian_rules y z m k (suc far) (day_in_month k other) (h.0, omega arith, omega (arith, less))
+    p.0 (omega (arith, signed_arith, far_is, p.1)) in
+    rw (← same.0, ← same.1) refl
+
+-- the principal days of a month follow each other
+after_kalends : (y : ℤ) (m : ℕ) (x : RomanName) → kalends y m <ℤ principal_day y m x
+    → nones y m ≤ℤ principal_day y m x
+after_kalends y m SecondSixth lt = omega (arith, signed_arith)
+after_kalends y m x lt = omega (arith, signed_arith)
+
+after_nones : (y : ℤ) (m : ℕ) (x : RomanName) → nones y m <ℤ principal_day y m x → ides y m ≤ℤ principal_day y m x
+after_nones y m SecondSixth lt = omega (arith, signed_arith, ides_small m)
+after_nones y m x lt = omega (arith, signed_arith, ides_small m)
+
+up_to_ides : (y : ℤ) (m : ℕ) (x : RomanName) → principal_day y m x ≤ℤ ides y m
+up_to_ides y m SecondSixth = omega (arith, signed_arith, ides_small m)
+up_to_ides y m x = omega (arith, signed_arith, ides_small m)
+
+after_ides : (y z : ℤ) (m k : ℕ) (x : RomanName) → IsMonth y m → IsMonth z k
+    → ides (year_of_month_before y m) (month_before m) <ℤ principal_day z k x → kalends y m ≤ℤ principal_day z k x
+after_ides y z m k x h g lt =
+    let f = follows y m h.0 h.1 h.2 in
+    by_lt_z (principal_day z k x) (kalends y m)
+    (λ less. absurd (omega (
+      arith,
+      signed_arith,
+      of_month (year_of_month_before y m) z (month_before m) k x f.is_month g
+          (omega (arith, signed_arith, ides_small (month_before m)))
+          (omega (arith, signed_arith, f.starts)),
+      up_to_ides (year_of_month_before y m) (month_before m) x,
+    )))
+    (λ ge. ge)
+
+-- no principal day lies between that of a name and the one before it
+none_between : (y z : ℤ) (m k : ℕ) (name x : RomanName) → IsMonth y m → IsMonth z k
+    → preceding_day y m name <ℤ principal_day z k x → principal_day y m name ≤ℤ principal_day z k x
+none_between y z m k (Nones c) x h g lt =
+    by_lt_z (principal_day z k x) (nones y m)
+    (λ less.
+    let same = of_month y z m k x h g (omega (arith, signed_arith))
+    (omega (arith, signed_arith, ides_small m, months_small (is_julian_leap y) m h.1 h.2)) in
+    absurd (omega (arith, signed_arith, same, after_kalends y m x (rw same at lt))))
+    (λ ge. ge)
+none_between y z m k (Ides c) x h g lt =
+    by_lt_z (principal_day z k x) (ides y m)
+    (λ less.
+    let same = of_month y z m k x h g (omega (arith, signed_arith, ides_small m))
+    (omega (arith, signed_arith, ides_small m, months_small (is_julian_leap y) m h.1 h.2)) in
+    absurd (omega (arith, signed_arith, same, after_nones y m x (rw same at lt))))
+    (λ ge. ge)
+none_between y z m k name x h g lt = after_ides y z m k x h g lt
+
+-- the principal day before that of a name is one, and lies before it
+preceding_is : (y : ℤ) (m : ℕ) (name : RomanName) → IsMonth y m
+    → (z : ℤ) × (k : ℕ) × (x : RomanName) × IsMonth z k × (preceding_day y m name ≡ principal_day z k x)
+preceding_is y m (Nones c) h = (y, m, Kalends 1, h, refl)
+preceding_is y m (Ides c) h = (y, m, Nones 1, h, refl)
+preceding_is y m name h = (_, _, Ides 1, (follows y m h.0 h.1 h.2).is_month, refl)
+
+precedes : (y : ℤ) (m : ℕ) (name : RomanName) → IsMonth y m → preceding_day y m name <ℤ principal_day y m name
+precedes y m (Nones c) h = omega (arith, signed_arith, ides_small m)
+precedes y m (Ides c) h = omega (arith, signed_arith, ides_small m)
+precedes y m name h = omega (arith, signed_arith, ides_are y m h.0 h.1 h.2, (small_prior y m h.0 h.1 h.2).0)
+
+-- a name is valid where its day lies behind the principal day before that of the name, and up to this
+pub valid_is : (y : ℤ) (m : ℕ) (name : RomanName) → IsMonth y m
+    → IsRomanDate y m name ↔ ((name ≡ SecondSixth → IsTrue (has_two_sixths y m))
+    × (preceding_day y m name <ℤ roman_day_number y m name) × (roman_day_number y m name ≤ℤ principal_day y m name))
+unfolding IsRomanDate
+valid_is y m name h = (
+  λ r.
+      let (z, k, x, g, e) = preceding_is y m name h in
+      let last = (r.4 z k x g.0 g.1 g.2).1 (rw e at (precedes y m name h)) in
+      let own = (r.4 y m name h.0 h.1 h.2).0 in (
+        r.3,
+        rw e last,
+        by_lt_z (principal_day y m name) (roman_day_number y m name)
+            (λ lt. absurd (omega (arith, signed_arith, own lt))) (λ ge. ge),
+      ),
+  λ s. (
+    h.0,
+    h.1,
+    h.2,
+    s.0,
+    λ z k x a b c. (
+      λ lt. omega (arith, signed_arith, s.2, lt),
+      λ lt. by_lt_z (principal_day z k x) (roman_day_number y m name) (λ less. less)
+          (λ ge. absurd (omega (
+            arith,
+            signed_arith,
+            lt,
+            none_between y z m k name x h (a, b, c) (omega (arith, signed_arith, s.1, ge)),
+          ))),
+    ),
+  ),
+)

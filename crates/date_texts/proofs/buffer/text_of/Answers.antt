@@ -1,5 +1,5 @@
 use Rattle.std.proofs.lemmas.Str.{IsUtf8-from_ascii}
-use Rattle.date_texts.proofs.CellTextLemmas.{plain_ascii}
+use Rattle.date_texts.proofs.CellLemmas.{plain_ascii}
 use Rattle.date_texts.proofs.buffer.text_of.Goals as goal
 
 pub unreachable-requires : goal.unreachable-requires

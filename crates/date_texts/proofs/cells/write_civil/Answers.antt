@@ -1,6 +1,6 @@
 use Rattle.std.proofs.Common.{◌≡◌, ◌∙◌, refl, subst, take}
-use Rattle.date_texts.specs.Cells.{no_date}
 use Rattle.date_texts.specs.CivilText.{canonical_civil}
+use Rattle.date_texts.proofs.Common.{no_date}
 use Rattle.date_texts.proofs.CellLemmas.{civil_cell_is, since_first_in}
 use Rattle.date_texts.proofs.cells.write_civil.Goals as goal
 

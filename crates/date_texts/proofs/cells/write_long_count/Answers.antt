@@ -1,13 +1,7 @@
 use Rattle.std.proofs.Common.{◌≡◌, ◌≤◌, ℤ, arith, length, refl}
 use Rattle.maya_calendars.specs.LongCounts.{IsLongCount, long_day}
-use Rattle.maya_calendars.specs.declared.long_count.LongCount.{LongCount}
-use Rattle.date_texts.specs.Cells.{on_date}
-use Rattle.date_texts.specs.Laws.{CellsAreShort}
-use Rattle.date_texts.specs.declared.calendar.Calendar.TheVariants.{Longcount}
 use Rattle.date_texts.specs.declared.target.Target.TheVariants.{Date as DateTarget}
-use Rattle.date_texts.specs.declared.date.Date.TheVariants.{Long}
-use Rattle.date_texts.specs.DateText.{canonical_text}
-use Rattle.std.proofs.lemmas.Int.{ints}
+use Rattle.date_texts.proofs.Common.{canonical_text, CellsAreShort, ints, Long, LongCount, Longcount, on_date}
 use Rattle.date_texts.proofs.cells.write_long_count.Goals as goal
 
 short_text : CellsAreShort → (n : ℤ) (count : LongCount) → IsLongCount count → long_day count ≡ n

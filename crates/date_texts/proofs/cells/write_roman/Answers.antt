@@ -1,6 +1,5 @@
 use Rattle.std.proofs.Common.{refl}
-use Rattle.date_texts.specs.Cells.{on_date}
-use Rattle.date_texts.specs.declared.date.Date.TheVariants.{Roman}
+use Rattle.date_texts.proofs.Common.{on_date, Roman}
 use Rattle.date_texts.proofs.cells.write_roman.Goals as goal
 
 pub returns-clause-value : goal.returns-clause-value

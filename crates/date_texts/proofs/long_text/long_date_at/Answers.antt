@@ -1,6 +1,5 @@
 use Rattle.std.proofs.Common.{refl}
-use Rattle.date_texts.specs.declared.calendar.Calendar.TheVariants.{Longcount}
-use Rattle.date_texts.specs.declared.date.Date.TheVariants.{Long}
+use Rattle.date_texts.proofs.Common.{Long, Longcount}
 use Rattle.date_texts.proofs.DateTextLemmas.{none_says, some_says}
 use Rattle.date_texts.proofs.long_text.long_date_at.Goals as goal
 

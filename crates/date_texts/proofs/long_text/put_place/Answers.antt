@@ -1,6 +1,6 @@
 use Rattle.std.proofs.Common.{arith}
 use Rattle.byte_buffers.proofs.BufferLemmas.{put_same, put_then}
-use Rattle.date_texts.proofs.PlaceLemmas.{put_front, row_text}
+use Rattle.date_texts.proofs.WritingLemmas.{put_front, row_text}
 use Rattle.date_texts.proofs.long_text.put_place.Goals as goal
 
 pub returns-then-place-lt20 : goal.returns-then-place-lt20

@@ -1,9 +1,7 @@
 use Rattle.std.proofs.Common.{◌∙◌, ap, rules, tests}
-use Rattle.std.specs.Str.{str_to_ascii_lowercase}
 use Rattle.std.proofs.lemmas.Iterator.{YieldsList-from_slice}
 use Rattle.std.proofs.lemmas.Iterator.Search.{find_from_yields_List}
-use Rattle.date_texts.specs.Calendars.{all_targets}
-use Rattle.date_texts.specs.Trimmed.{trimmed}
+use Rattle.date_texts.proofs.Common.{all_targets, str_to_ascii_lowercase, trimmed}
 use Rattle.date_texts.proofs.TargetNameLemmas.{has_name, named_as_spelled, named_by_search, compared}
 use Rattle.date_texts.proofs.names.target_named.Goals as goal
 

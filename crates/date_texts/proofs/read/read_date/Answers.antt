@@ -1,8 +1,6 @@
 use Rattle.std.proofs.Common.{◌≡◌, ◌↔◌, ◌∙◌, Some, ap, subst}
-use Rattle.date_texts.specs.declared.date.Date.{Date}
 use Rattle.date_texts.specs.declared.refusal.Refusal.TheVariants.{DateText}
-use Rattle.date_texts.specs.Trimmed.{trimmed}
-use Rattle.date_texts.specs.DateText.{SaysDate, IsDateText}
+use Rattle.date_texts.proofs.Common.{Date, IsDateText, SaysDate, trimmed}
 use Rattle.date_texts.proofs.DateTextLemmas.{refused_where_none}
 use Rattle.date_texts.proofs.read.read_date.Goals as goal
 

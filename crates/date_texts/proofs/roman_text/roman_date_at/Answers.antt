@@ -1,6 +1,5 @@
 use Rattle.std.proofs.Common.{rules, to_z-of_z, FitsSigned, w32, refl}
-use Rattle.date_texts.specs.declared.calendar.Calendar.TheVariants.{Roman as RomanCalendar}
-use Rattle.date_texts.specs.declared.date.Date.TheVariants.{Roman}
+use Rattle.date_texts.proofs.Common.{Roman, RomanCalendar}
 use Rattle.date_texts.proofs.DateTextLemmas.{none_says, some_says}
 use Rattle.date_texts.proofs.roman_text.roman_date_at.Goals as goal
 

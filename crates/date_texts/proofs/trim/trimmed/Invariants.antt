@@ -1,5 +1,5 @@
 use Rattle.std.proofs.Common.{◌≡◌, length}
-use Rattle.date_texts.specs.Trimmed.{trimmed}
+use Rattle.date_texts.proofs.Common.{trimmed}
 use Rattle.date_texts.proofs.trim.trimmed.Given as goal
 
 abbrev pub invariant-loop-inner : goal.invariant-loop-inner

@@ -1,5 +1,5 @@
 use Rattle.std.proofs.Common.{arith}
-use Rattle.date_texts.specs.declared.date.Date.TheVariants.{Long}
+use Rattle.date_texts.proofs.Common.{Long}
 use Rattle.date_texts.proofs.CanonicalTextLemmas.{canonical_short}
 use Rattle.date_texts.proofs.write.put_date.Goals as goal
 

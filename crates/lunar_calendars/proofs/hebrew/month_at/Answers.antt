@@ -1,7 +1,6 @@
 use Rattle.std.proofs.Common.{arith, slice_index}
 use Rattle.lunar_calendars.specs.Hebrew.{months_by_length}
 use Rattle.lunar_calendars.proofs.MonthStartLemmas.{IsPlacedIn, month_of, index_of, placed_by}
-use Rattle.lunar_calendars.proofs.YearLengthLemmas.{total_by}
 use Rattle.lunar_calendars.proofs.hebrew.month_at.Goals as goal
 use Rattle.lunar_calendars.proofs.hebrew.month_at.Goals.{After-starts_of_length-starts}
 
@@ -10,9 +9,8 @@ placed : (c : After-starts_of_length-starts) → IsPlacedIn (months_by_length c.
     (month_of (months_by_length c.args.leap c.args.days)
     (index_of c.starts_of_length-starts.result.now c.args.place)).number
 placed c =
-    placed_by c.args.leap c.args.days c.starts_of_length-starts.result.now c.args.place
-    (rw c.months_of_length-months.ensures.value at c.months_of_length-months.ensures.numbered)
-    (rw (total_by c.args.leap c.args.days c.requires.length) c.requires.inside) c.starts_of_length-starts.ensures
+    placed_by c.args.leap c.args.days c.starts_of_length-starts.result.now c.args.place c.requires.length
+    c.requires.inside c.starts_of_length-starts.ensures
 
 pub overflow_sub-result : goal.overflow_sub-result
 overflow_sub-result c = (placed (goal.at.overflow_sub-result c).After-starts_of_length-starts).after

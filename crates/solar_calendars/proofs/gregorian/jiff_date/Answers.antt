@@ -1,7 +1,6 @@
 use Rattle.std.proofs.Common.{◌≡◌, ◌↔◌, ◌∙◌, sym, IsOk, arith, rules, pos, to_z, to_z-of_z, FitsSigned, w8, w16, w32}
-use Rattle.std.proofs.lemmas.Int.{ints}
 use Rattle.jiff_core.specs.Calendar.{IsDate}
-use Rattle.day_numbers.proofs.SignedArithmeticLemmas.{signed_arith}
+use Rattle.solar_calendars.proofs.Common.{ints, signed_arith}
 use Rattle.solar_calendars.proofs.GregorianLemmas.{jiff_valid}
 use Rattle.solar_calendars.proofs.gregorian.jiff_date.Goals as goal
 

@@ -1,5 +1,5 @@
 use Rattle.std.proofs.Common.{arith, pos, ◌-ℤ◌, to_z-of_z, FitsSigned, w64}
-use Rattle.day_numbers.proofs.SignedArithmeticLemmas.{signed_arith}
+use Rattle.solar_calendars.proofs.Common.{signed_arith}
 use Rattle.solar_calendars.proofs.GregorianLemmas.{jiff_day}
 use Rattle.solar_calendars.proofs.gregorian.jiff_date_on.Goals as goal
 

@@ -1,5 +1,5 @@
 use Rattle.std.proofs.Common.{arith}
-use Rattle.day_numbers.proofs.SignedArithmeticLemmas.{signed_arith}
+use Rattle.solar_calendars.proofs.Common.{signed_arith}
 use Rattle.solar_calendars.proofs.GregorianLemmas.{leap_days_are}
 use Rattle.solar_calendars.proofs.gregorian.leap_days.Goals as goal
 

@@ -1,5 +1,5 @@
 use Rattle.std.proofs.Common.{◌≡◌, arith, pos, ◌+ℤ◌, ◌-ℤ◌, to_z, of_z, w32, unsigned_abs}
-use Rattle.std.proofs.lemmas.Int.{ints}
+use Rattle.solar_calendars.proofs.Common.{ints}
 use Rattle.solar_calendars.proofs.GregorianLemmas.{in_years, year_short}
 use Rattle.solar_calendars.proofs.gregorian.year_and_days_before.Goals as goal
 

@@ -1,7 +1,7 @@
 use Rattle.std.proofs.Common.{◌≡◌, ◌+ℤ◌, pos, rules, to_z-of_z, FitsSigned, w64}
 use Rattle.solar_calendars.specs.IsoWeek.{week_day_number, week_year_start}
-use Rattle.solar_calendars.proofs.iso_week.number_of_week_date.Goals as goal
 use Rattle.solar_calendars.proofs.iso_week.number_of_week_date.Goals.{After-first_of_week_year}
+use Rattle.solar_calendars.proofs.iso_week.number_of_week_date.Goals as goal
 
 -- the number of the day, and that of the first day of the next year
 record Found (c : After-first_of_week_year) : Type 0 where

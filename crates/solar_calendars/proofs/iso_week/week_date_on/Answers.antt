@@ -1,6 +1,6 @@
 use Rattle.std.proofs.Common.{arith, rules, to_z-of_z, FitsSigned, w32, w64, ◌+ℤ◌, pos}
 use Rattle.std.proofs.lemmas.Option.{IfSome_then}
-use Rattle.day_numbers.proofs.SignedArithmeticLemmas.{signed_arith}
+use Rattle.solar_calendars.proofs.Common.{signed_arith}
 use Rattle.solar_calendars.proofs.IsoWeekLemmas.{week_date_is}
 use Rattle.solar_calendars.proofs.iso_week.week_date_on.Goals as goal
 

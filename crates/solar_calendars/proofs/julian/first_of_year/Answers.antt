@@ -1,5 +1,5 @@
 use Rattle.std.proofs.Common.{arith, rules, pos, ◌+ℤ◌, unsigned_abs, to_z-of_z, FitsSigned, w32, w64}
-use Rattle.std.proofs.lemmas.Int.{ints}
+use Rattle.solar_calendars.proofs.Common.{ints}
 use Rattle.solar_calendars.proofs.JulianLemmas.{julian_sum, before_near}
 use Rattle.solar_calendars.proofs.julian.first_of_year.Goals as goal
 

@@ -1,4 +1,4 @@
-use Rattle.solar_calendars.proofs.RomanDateLemmas.{one_roman_date}
+use Rattle.solar_calendars.proofs.RomanPlaceLemmas.{one_roman_date}
 use Rattle.solar_calendars.proofs.laws.one_roman_date.Goals as goal
 
 pub returns : goal.returns

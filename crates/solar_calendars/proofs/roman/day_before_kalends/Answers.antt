@@ -1,9 +1,9 @@
 use Rattle.std.proofs.Common.{arith, to_z-of_z, FitsSigned, w32}
-use Rattle.day_numbers.proofs.SignedArithmeticLemmas.{signed_casts}
+use Rattle.solar_calendars.proofs.Common.{signed_casts}
 use Rattle.solar_calendars.proofs.RomanPlaceLemmas.{other_day}
-use Rattle.solar_calendars.proofs.roman.day_before_kalends.Goals as goal
 use Rattle.solar_calendars.proofs.roman.day_before_kalends.Goals.{else-count-ge6-via-then-count-ge6+else-has_two_sixths}
 use Rattle.solar_calendars.proofs.roman.day_before_kalends.Goals.{else-count-ge6-via-else-count-ge6}
+use Rattle.solar_calendars.proofs.roman.day_before_kalends.Goals as goal
 
 pub returns-else-count-ge6 : goal.returns-else-count-ge6
 returns-else-count-ge6 c =

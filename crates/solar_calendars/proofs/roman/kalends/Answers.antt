@@ -1,5 +1,5 @@
 use Rattle.std.proofs.Common.{arith, to_z-of_z, FitsSigned, w32}
-use Rattle.day_numbers.proofs.SignedArithmeticLemmas.{signed_casts}
+use Rattle.solar_calendars.proofs.Common.{signed_casts}
 use Rattle.solar_calendars.proofs.roman.kalends.Goals as goal
 
 pub returns-clause-value : goal.returns-clause-value

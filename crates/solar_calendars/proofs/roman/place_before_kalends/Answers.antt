@@ -1,5 +1,5 @@
 use Rattle.std.proofs.Common.{rules, to_z-of_z}
-use Rattle.day_numbers.proofs.SignedArithmeticLemmas.{signed_casts}
+use Rattle.solar_calendars.proofs.Common.{signed_casts}
 use Rattle.solar_calendars.proofs.RomanPlaceLemmas.{kalends_far, kalends_near, kalends_place}
 use Rattle.solar_calendars.proofs.roman.place_before_kalends.Goals as goal
 

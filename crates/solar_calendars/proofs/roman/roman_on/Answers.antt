@@ -1,6 +1,6 @@
 use Rattle.std.proofs.Common.{arith, rules, to_z-of_z, FitsSigned, w32}
-use Rattle.day_numbers.proofs.SignedArithmeticLemmas.{signed_arith}
-use Rattle.solar_calendars.proofs.RomanDateLemmas.{year_near, names_day, only_roman}
+use Rattle.solar_calendars.proofs.Common.{signed_arith}
+use Rattle.solar_calendars.proofs.RomanPlaceLemmas.{year_near, names_day, only_roman}
 use Rattle.solar_calendars.proofs.roman.roman_on.Goals as goal
 
 pub roman_date-requires-clause-near : goal.roman_date-requires-clause-near

@@ -1,5 +1,5 @@
 use Rattle.std.proofs.Common.{arith, rules, to_z-of_z, FitsSigned, w32, w64}
-use Rattle.std.proofs.lemmas.Int.{ints}
+use Rattle.solar_calendars.proofs.Common.{ints}
 use Rattle.solar_calendars.proofs.JulianLemmas.{julian_date}
 use Rattle.solar_calendars.proofs.julian.JulianRuledCalendar.parts_on.Goals as goal
 

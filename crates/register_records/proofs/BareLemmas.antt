@@ -9,7 +9,6 @@ use Rattle.register_records.proofs.Common.{nat_tests, AllPass-from_list_all, lis
 use Rattle.std.proofs.lemmas.List.{drop-drop, take-append-drop}
 use Rattle.std.specs.Simd.{first_chunks}
 use Rattle.std.proofs.lemmas.Str.{is_utf8-from_IsUtf8, IsUtf8-from_ascii}
-use Rattle.std.specs.Result.{result_ok}
 use Rattle.date_texts.specs.declared.refusal.Refusal.TheVariants as refusal
 use Rattle.std.specs.Option.{option_map_or}
 use Rattle.std.proofs.lemmas.List.Folds.{list_all_more, list_all-append, list_any_none}
@@ -111,14 +110,6 @@ plain_by_chunks text chunks long is h k =
     let place : start + (end - start) ≡ end = omega arith in
     let back = rw (drop-drop (end - start) start text, place) at (plain_halves (end - start) (drop start text) h).1 in
     rw take-append-drop at (plain_join (take end text) (drop end text) front back)
-
--- the texts of a body that has plain ones need no quotes in a table
-pub unquoted : (d : ℕ) → is_delimiter d ≡ true → (body : Result Texts Refusal) → has_plain_texts body ≡ true
-    → (needs_quotes (writing d) (option_map_or (λ (t : Texts). t.id) (result_ok body) []) ≡ false)
-    × (needs_quotes (writing d) (option_map_or (λ (t : Texts). t.calendar) (result_ok body) []) ≡ false)
-    × (needs_quotes (writing d) (option_map_or (λ (t : Texts). t.date) (result_ok body) []) ≡ false)
-    × (needs_quotes (writing d) (option_map_or (λ (t : Texts). t.note) (result_ok body) []) ≡ false)
-unquoted d h body bare = search (rules, and_parts, bare_text)
 
 -- the steps of looking at a text chunk by chunk
 pub ruleset chunk_steps = (and_parts, plain_more, plain_by_chunks, take_all)

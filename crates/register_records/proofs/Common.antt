@@ -6,8 +6,8 @@ pub use Rattle.csv.proofs.WriteFacts.{appends-none, escaped-double, escaped-othe
 unfoldable pub use Rattle.csv.specs.Reading.{records_from, strip_bom}
 pub use Rattle.csv.specs.Records.{fields_of}
 unfoldable pub use Rattle.csv.specs.Records.{cut_from, field_at}
-pub use Rattle.csv.specs.Writing.{needs_byte, needs_quotes}
-unfoldable pub use Rattle.csv.specs.Writing.{escaped, fields_text}
+pub use Rattle.csv.specs.Writing.{field_text, needs_byte, needs_quotes, row_body}
+unfoldable pub use Rattle.csv.specs.Writing.{escaped, fields_text, is_blank}
 pub use Rattle.csv.specs.declared.reader.Reader.{Reader}
 pub use Rattle.date_texts.proofs.ReadingLemmas.{all_digits, value_after}
 pub use Rattle.date_texts.specs.Calendars.{all_targets, calendar_name, default_targets, target_name}
@@ -43,7 +43,7 @@ pub use Rattle.register_records.specs.SetupRules.{is_delimiter}
 pub use Rattle.register_records.specs.ShortLists.{items_in}
 pub use Rattle.register_records.specs.TableColumns.{entry_field, kind_name, kind_names, row_fields, text_shown}
 pub use Rattle.register_records.specs.Tables.{table_text}
-pub use Rattle.register_records.specs.TablesWritten.{IsNextRow, table_fault}
+pub use Rattle.register_records.specs.TablesWritten.{table_fault}
 pub use Rattle.register_records.specs.TargetRanks.{have_one_name, rank_of, ranks_in}
 pub use Rattle.register_records.specs.Views.{given_of, reader_failed, reading_of, reads_by, row_seen, row_targets}
 pub use Rattle.register_records.specs.Views.{tail_fields, targets_of, text_of}

@@ -2,22 +2,21 @@
 use Rattle.std.proofs.Common.{◌≡◌, ℕ, ◌+◌, ◌%◌, ◌^◌, ◌<◌, ◌≤◌, Bool, true, false, List, [], ◌∷◌, ◌++◌, map, length}
 use Rattle.std.proofs.Common.{get_or, take, drop, set, ℤ, if◌then◌else◌, ◌==◌, decimal, Result, flat_map, sym, refl, ap}
 use Rattle.std.proofs.Common.{◌∙◌, append_assoc, append-nil, arith, length-append, length-set, length-take-le, rules}
-use Rattle.register_records.proofs.Common.{escaped-double, escaped-other, fields-snoc, fields_text, needs_byte}
-use Rattle.register_records.proofs.Common.{needs_quotes, target_name, is_plain, Refusal, Target, IsDayNumber}
-use Rattle.register_records.proofs.Common.{has_plain_texts, Column, cell_columns, columns, entry_order, kind_columns}
-use Rattle.register_records.proofs.Common.{tail_order, Begins, GainsFields, writing, line_text, TableRow, Texts}
-use Rattle.register_records.proofs.Common.{is_delimiter, entry_field, kind_name, kind_names, row_fields, text_shown}
-use Rattle.register_records.proofs.Common.{take-append-add, and_parts, nat_tests, ints, map-append, take_more}
-use Rattle.register_records.proofs.Common.{AllPass-from_list_all, signed_decimal, list_all}
+use Rattle.register_records.proofs.Common.{escaped-double, escaped-other, fields-snoc, field_text, fields_text}
+use Rattle.register_records.proofs.Common.{is_blank, needs_byte, needs_quotes, row_body, target_name, is_plain, Refusal}
+use Rattle.register_records.proofs.Common.{Target, IsDayNumber, has_plain_texts, Column, cell_columns, columns}
+use Rattle.register_records.proofs.Common.{entry_order, kind_columns, tail_order, Begins, GainsFields, writing}
+use Rattle.register_records.proofs.Common.{line_text, TableRow, Texts, is_delimiter, entry_field, kind_name, kind_names}
+use Rattle.register_records.proofs.Common.{row_fields, text_shown, take-append-add, and_parts, nat_tests, ints}
+use Rattle.register_records.proofs.Common.{map-append, take_more, AllPass-from_list_all, signed_decimal, list_all}
 use Rattle.std.proofs.lemmas.Fmt.{length-decimal-le, decimal_by_steps}
 use Rattle.std.proofs.lemmas.List.{at_drop_more, flat_map_more, take_more_set, take-append-le}
 use borrow.Rule.Slice.PartMut.{put_mid}
 use Rattle.register_records.specs.LineRoom.{columns_room, number_room}
 use Rattle.register_records.specs.TableColumns.{tail_texts, row_with, heading, kind_fields, laid_out}
 use Rattle.register_records.specs.declared.table_columns.ColumnKind.{ColumnKind}
-use Rattle.register_records.specs.declared.table_columns.ColumnKind.TheVariants.{Cells, Id, Note, Calendar, Date}
-use Rattle.register_records.proofs.BareLemmas.{unquoted}
-use Rattle.csv.specs.Writing.{field_text, is_blank, row_body}
+use Rattle.register_records.specs.declared.table_columns.ColumnKind.TheVariants.{Cells}
+use Rattle.register_records.proofs.BareLemmas.{bare_text}
 use Rattle.std.proofs.lemmas.List.Folds.{list_any-append, list_any_none}
 use Rattle.std.proofs.lemmas.Grind.{flat_map-append}
 
@@ -81,17 +80,12 @@ room_for_rest room columns i e old new limit lt grows before =
     grind (arith, ints, at_drop_more (columns_room room) columns i e lt)
 
 -- those of one more column
-pub one_more_column : {X : Type 0} (f : ColumnKind → List X) (first : List X) (columns : List ColumnKind) (i : ℕ)
-    (e : ColumnKind) → i < length columns
-    → (first ++ flat_map f (take i columns)) ++ f (get_or columns i e) ≡ first ++ flat_map f (take (i + 1) columns)
-one_more_column f first columns i e lt =
-    grind (arith, ints, flat_map_more f first (take i columns) (get_or columns i e), take_more columns i e lt)
-
 pub one_column : (f : ColumnKind → List (List ℕ)) (d : ℕ) (before : List ℕ) (first : List (List ℕ))
     (columns : List ColumnKind) (i : ℕ) (e : ColumnKind) (new : List ℕ) → i < length columns
     → new ≡ before ++ body d ((first ++ flat_map f (take i columns)) ++ f (get_or columns i e))
     → new ≡ before ++ body d (first ++ flat_map f (take (i + 1) columns))
-one_column f d before first columns i e new lt is = cc (is, one_more_column f first columns i e lt)
+one_column f d before first columns i e new lt is =
+    cc (is, flat_map_more f first (take i columns) (get_or columns i e), take_more columns i e lt)
 
 -- more fields
 pub more_fields_text : (d : ℕ) (fields more : List (List ℕ))
@@ -158,11 +152,7 @@ map_of_all f g (x ∷ xs) = map-append f (g x) (flat_map g xs) ∙ cc (map_of_al
 -- the texts of an entry none of whose bytes calls for quotes
 pub plain_column : (d : ℕ) → is_delimiter d ≡ true → (body : Result Texts Refusal) → has_plain_texts body ≡ true
     → (column : ColumnKind) → needs_quotes (writing d) (text_shown body column) ≡ false
-plain_column d h body bare Id = (unquoted d h body bare).0
-plain_column d h body bare Calendar = (unquoted d h body bare).1
-plain_column d h body bare Date = (unquoted d h body bare).2
-plain_column d h body bare Note = (unquoted d h body bare).3
-plain_column d h body bare kind = refl
+plain_column d h body bare column = search (rules, and_parts, bare_text)
 
 -- what a function gives of the columns of a table: of those of an entry, of which each is one, and of those of a tail
 in_kinds : {X : Type 0} (f : Column → X) (notes : Bool) (ts : List Target)

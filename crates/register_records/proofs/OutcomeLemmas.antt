@@ -1,8 +1,7 @@
 -- The outcome of a record: that it has one, and one only, so that every accepted text has one table; and what the calls
 -- that read its texts say of it.
-use Rattle.std.proofs.Common.{◌≡◌, ℕ, ◌+◌, Bool, true, false, ◌↔◌, List, [], ◌∷◌, map, length, ℤ, IfOk, if◌then◌else◌}
-use Rattle.std.proofs.Common.{IsOk, nat_lt, Some, None, Ok, Err, Option, Result, sym, refl, ◌∙◌, subst, inl, inr, arith}
-use Rattle.std.proofs.Common.{rules}
+use Rattle.std.proofs.Common.{◌≡◌, ℕ, ◌+◌, Bool, ◌↔◌, List, [], ◌∷◌, map, length, ℤ, IfOk, if◌then◌else◌, IsOk, nat_lt}
+use Rattle.std.proofs.Common.{Some, None, Ok, Err, Option, Result, sym, refl, ◌∙◌, subst, inl, inr, arith, rules}
 use Rattle.register_records.proofs.Common.{calendar_name, IsDateText, OneCalendar, OneCell, OneDateText, IsNamed}
 use Rattle.register_records.proofs.Common.{Refusal, Target, IsDayNumber, Day, HaveOneDate, Numbered, entries_from}
 use Rattle.register_records.proofs.Common.{record_limit, AreCells, IsOutcome, IsRowOf, Says, TableRow, accepted}
@@ -69,8 +68,7 @@ AreInOrder k entries = map (λ (entry : Numbered). entry.number) entries ≡ ran
 
 numbered_if : (b : Bool) (k : ℕ) (entry : Numbered) (entries : List Numbered) → entry.number ≡ k
     → AreInOrder (k + 1) entries → AreInOrder k (if b then entry ∷ entries else [])
-numbered_if true k entry entries is rest = cc (is, rest)
-numbered_if false k entry entries is rest = refl
+numbered_if b k entry entries is rest = grind arith
 
 pub numbered : (form : Form) (k : ℕ) (records : List Fields) → AreInOrder (k + 1) (entries_from form k records)
 unfolding entries_from

@@ -111,15 +111,14 @@ texts_placed : (form : Form) (number : ℕ) (body : Result Texts Refusal) (outco
     → row ≡ record { number = number; body = body; outcome = outcome; cells = cells }
     → map (entry_field (placed_row form row)) (entry_order (has_notes form))
     ≡ map (entry_field row) (entry_order (has_notes form))
-texts_placed Plain number (Ok t) outcome cells row is = rw is refl
-texts_placed Plain number (Err r) outcome cells row is = rw is refl
-texts_placed Sealed number body outcome cells row is = refl
+texts_placed form number body outcome cells row is = search rules
 
 fields_placed : (form : Form) (targets : List Target) (row : TableRow)
     → row_fields (has_notes form) targets (placed_row form row) ≡ row_fields (has_notes form) targets row
 fields_placed form targets row =
     let texts = texts_placed form row.number row.body row.outcome row.cells row refl in
-    cc (fields_in_parts (has_notes form) targets row, fields_in_parts (has_notes form) targets (placed_row form row), texts)
+    let parts = fields_in_parts (has_notes form) targets in
+    cc (parts row, parts (placed_row form row), texts)
 
 lines_placed : (form : Form) (layout : Layout) → layout.writing.has_notes ≡ has_notes form → (rows : List TableRow)
     → lines_text layout (map (placed_row form) rows) ≡ lines_text layout rows

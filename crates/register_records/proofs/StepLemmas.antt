@@ -1,6 +1,6 @@
 -- What the reads of one entry, or of the end, say of the records that were left.
-use Rattle.std.proofs.Common.{◌≡◌, ℕ, Bool, true, false, List, [], ◌∷◌, IfSome, IsErrAnd, IfErr, Some, None, Ok, Err}
-use Rattle.std.proofs.Common.{Option, Result, sym, refl, ◌∙◌, arith, rules}
+use Rattle.std.proofs.Common.{◌≡◌, ℕ, Bool, true, false, List, [], ◌∷◌, IfSome, IsErrAnd, IfErr, Ok, Err, Option}
+use Rattle.std.proofs.Common.{Result, sym, refl, ◌∙◌, arith, rules}
 use Rattle.register_records.proofs.Common.{Reader, Fields, Agrees, is_seal, Entry, EntryFault, Form, Sealed}
 use Rattle.register_records.specs.ReadingState.{Ends, HasEntry, IsNoSeal, LacksSeal, Reads, TakesFirst, records_left}
 use Rattle.register_records.specs.ReadingState.{EndsBehind, ReadsEntry}
@@ -55,9 +55,7 @@ seal_ends left mid form count f e t is agrees last = rw e (f ∷ [], (f, refl, i
   where
     taken_last : (left mid : Option (List Fields)) → TakesFirst left mid f → IfSome mid (λ records. records ≡ [])
         → IfSome left (λ records. records ≡ f ∷ [])
-    taken_last None mid t last = tt
-    taken_last (Some records) None t last = absurd t
-    taken_last (Some records) (Some rest) t last = rw (t, last) refl
+    taken_last left mid t last = search rules
 
 -- what was found behind a seal, where there is no entry
 no_entry : {P : Type 0} → ◌≡◌ {A = Result Bool EntryFault} (Ok false) (Ok true) → P

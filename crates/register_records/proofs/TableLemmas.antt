@@ -4,14 +4,14 @@ use Rattle.std.proofs.Common.{is_some, IfSome, Some, None, Err, Contains, Option
 use Rattle.std.proofs.Common.{append_assoc, append-nil, arith, length-append, rules}
 use Rattle.register_records.proofs.Common.{Target, entry_fault_cause, AreNumberedFrom, HasAllEntries, HasEntries}
 use Rattle.register_records.proofs.Common.{HasFirstEntries, HasTooMany, IsNotSealed, Numbered, Reading, record_limit}
-use Rattle.register_records.proofs.Common.{IsRowOf, TableRow, entry_seen, table_text, IsNextRow, table_fault, given_of}
+use Rattle.register_records.proofs.Common.{IsRowOf, TableRow, entry_seen, table_text, table_fault, given_of}
 use Rattle.register_records.proofs.Common.{reader_failed, reading_of, reads_by, row_seen, row_targets, text_of, Entry}
 use Rattle.register_records.proofs.Common.{EntryFault, Row, ∥∥₁_elim, ∥∥₁_map, ∥∥₁_prop, false_from_ne_true, length-map}
 use Rattle.register_records.proofs.Common.{map-append, Appends, append_known, AllZip, range_with_len}
 use Rattle.std.proofs.lemmas.List.Elements.{Contains-append_right, Contains-push_cases}
 use Rattle.register_records.specs.TableStates.{fault_of, lines_waiting, lost_output, is_of_table}
 use Rattle.register_records.specs.Tables.{Layout, heading_line, journal_of, lines_text, refusal_notes, row_line}
-use Rattle.register_records.specs.TablesWritten.{HasEnded, Holds, IsSameTable, IsTableSoFar, entries_seen}
+use Rattle.register_records.specs.TablesWritten.{IsNextRow, HasEnded, Holds, IsSameTable, IsTableSoFar, entries_seen}
 use Rattle.register_records.specs.TablesWritten.{has_lost_output, is_headed, made_by, made_for, rows_seen, waiting_of}
 use Rattle.register_records.specs.Views.{layout_of, line_of, waiting_in, writes_by}
 use Rattle.register_records.specs.declared.tables.TableState.{TableState}
@@ -26,7 +26,6 @@ use Rattle.register_records.specs.declared.ends.Cause.TheVariants as cause
 use Rattle.register_records.specs.declared.ends.SourceEnd.TheVariants as end
 use Rattle.register_records.specs.declared.outputs.Output as outputs
 use Rattle.register_records.specs.declared.reading.EntryFault.TheVariants as entry
-use Rattle.register_records.specs.declared.tables.TableState.TheVariants as state
 use Rattle.register_records.specs.declared.ends.Cause.{Cause}
 use Rattle.register_records.specs.declared.ends.SourceEnd.{SourceEnd}
 use Rattle.register_records.specs.declared.setups.Setup.{Setup}
@@ -60,24 +59,18 @@ no_notes = refl
 appends_heading : (given output new : Option (List ℕ)) (pending heading lines : List ℕ) → output ≡ given
     → Appends output new heading → pending ≡ [] → lines ≡ []
     → Appends given (append_known new pending) (heading ++ lines)
-appends_heading None output new pending heading lines e h p l = tt
-appends_heading (Some xs) output None pending heading lines e h p l = subst (λ o. Appends o None heading) e h
-appends_heading (Some xs) output (Some ys) pending heading lines e h p l =
-    grind (arith, append-nil ys, append-nil heading)
+appends_heading given output new pending heading lines e h p l = grind (arith, append-nil)
 
 appends_more : (given output : Option (List ℕ)) (pending line table : List ℕ)
     → Appends given (append_known output pending) table
     → Appends given (append_known output (pending ++ line)) (table ++ line)
-appends_more None output pending line table h = tt
-appends_more (Some xs) None pending line table h = h
-appends_more (Some xs) (Some ys) pending line table h = cc (append_assoc ys pending line, append_assoc xs table line)
+appends_more given output pending line table h = grind (arith, append_assoc)
 
 -- no heading was written
 pub stands_none : {W : Type 0} (o : outputs.Ghosts W) (layout : Layout) (given output : W) (w : Option RowWriter)
     (rows : List Row) → is_some w ≡ false → IsTableSoFar o layout given output w rows
     → IsTableSoFar o layout given output None rows
-stands_none o layout given output None rows e h = h
-stands_none o layout given output (Some w) rows e h = absurd (cc)
+stands_none o layout given output w rows e h = search rules
 
 module _ {W : Type 0} (o : outputs.Ghosts W) (layout : Layout) (given : W) where
   -- the heading was written
@@ -144,13 +137,10 @@ numbers_are k (entry ∷ entries) numbered = let rest = numbers_are (k + 1) entr
 -- known bytes, where none wait
 appends_waited : (given output : Option (List ℕ)) (pending table : List ℕ) → pending ≡ []
     → Appends given (append_known output pending) table → Appends given output table
-appends_waited None output pending table e h = tt
-appends_waited (Some xs) None pending table e h = h
-appends_waited (Some xs) (Some ys) pending table e h = sym (append-nil ys) ∙ ap (λ p. ys ++ p) (sym e) ∙ h
+appends_waited given output pending table e h = grind (arith, append-nil)
 
 appends_nothing : (given output : Option (List ℕ)) → output ≡ given → Appends given output []
-appends_nothing None output e = tt
-appends_nothing (Some xs) output e = subst (λ o. Appends (Some xs) o []) (sym e) (sym (append-nil xs))
+appends_nothing given output e = grind (arith, append-nil)
 
 -- the faults of reading that these causes are
 pub only_many : (f : EntryFault) (c : Cause) → c ≡ entry_fault_cause f → c ≡ cause.TooManyRecords
@@ -177,8 +167,7 @@ ends_whole (end.Whole rows refused journal) table reading layout text old now is
 ends_whole (end.Broken c) table reading layout text old now is h = tt
 
 pub ends_so : (e : SourceEnd) (IsSo : Type 0) → IsSo → IfWhole e (λ rows refused journal. IsSo)
-ends_so (end.Whole rows refused journal) IsSo is = is
-ends_so (end.Broken c) IsSo is = tt
+ends_so e IsSo is = search rules
 
 -- which faults there are
 pub other_cause : (f : Option Cause) (c d : Cause) → f ≡ Some c → (c ≡ d → ⊥) → f ≢ Some d
@@ -186,18 +175,13 @@ other_cause f c d e other is = other (cc)
 
 -- a table that goes on has its output
 pub faultless : (s : TableState) → fault_of s ≡ None → lost_output s ≡ false
-faultless state.Open e = refl
-faultless (state.Halted c) e = refl
-faultless (state.OutputFailed c) e = absurd (cc)
+faultless s e = search rules
 
 pub fault_cases : (f : Option Cause) → (f ≡ None) ⊎ (f ≢ None)
-fault_cases None = inl refl
-fault_cases (Some c) = inr (λ e. cc)
+fault_cases f = search rules
 
 waited : (s : TableState) (w : RowWriter) → lost_output s ≡ false → lines_waiting s (Some w) ≡ [] → waiting_in w ≡ []
-waited state.Open w good sent = sent
-waited (state.Halted c) w good sent = sent
-waited (state.OutputFailed c) w good sent = absurd (cc)
+waited s w good sent = search rules
 
 -- a table of which no line waits
 module _ {W : Type 0} (o : outputs.Ghosts W) (table : Table W) (output : W) (rows : List Row)
@@ -354,8 +338,7 @@ fewer_left given more entry n e number =
 -- a table that goes on does not end as broken
 pub unbroken : {W : Type 0} (e : SourceEnd) (table : Table W) (IsSo : Cause → Type 0) → table_fault table ≡ None
     → IfBroken e (λ c. table_fault table ≡ Some c) → IfBroken e IsSo
-unbroken (end.Whole rows refused journal) table IsSo open_ is = tt
-unbroken (end.Broken c) table IsSo open_ is = let clash = sym open_ ∙ is in absurd (cc)
+unbroken e table IsSo open_ is = search rules
 
 module _ {W : Type 0} (o : outputs.Ghosts W) (start : W) (setup : Setup) (text : Option (List ℕ))
     (given : List Numbered) (table : Table W) (output : W) where

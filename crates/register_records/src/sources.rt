@@ -35,6 +35,7 @@ use std::io::Read;
 /// let table = output.into_inner();
 /// assert!(rt; end.is_whole() && table.ends_with(b",639797,Thursday,1752-09-03,\n"));
 /// ```
+#[tactic(auto, using(crate::proofs::TableLemmas::ends_so, crate::proofs::TableLemmas::unbroken))]
 pub fn convert_source<R: Read + Drop, W: Output>(
     alloc: Global,
     reader: R,

@@ -15,8 +15,8 @@ three c =
     let two = c.put_column.ensures.grows.0 ∙ one in
     let id = (rw one at c.put_column.ensures.value) _ (number ∷ []) (omega arith) c.begin_by_number.ensures.value in
     let calendar = (rw two at c.put_column-2.ensures.value) _ (number ∷ text Id ∷ []) (omega arith) id in
-    (rw (c.put_column-2.ensures.grows.0 ∙ two) at c.put_column-3.ensures.value) _ (number ∷ text Id ∷ text Calendar ∷ [])
-    (omega arith) calendar
+    let three = c.put_column-2.ensures.grows.0 ∙ two in
+    (rw three at c.put_column-3.ensures.value) _ (number ∷ text Id ∷ text Calendar ∷ []) (omega arith) calendar
 
 pub returns-else-has_notes-clause-value : goal.returns-else-has_notes-clause-value
 returns-else-has_notes-clause-value c =

@@ -1,6 +1,6 @@
 use Rattle.std.proofs.Common.{◌≡◌, ℕ, ◌+◌, ◌≢◌, [], ◌∷◌, ◌++◌, length, Some, None, sym, refl, ap, ◌∙◌, inl, inr, rules}
-use Rattle.register_records.proofs.Common.{entry_fault_cause, HasEntries, HasFirstEntries, entry_seen, IsNextRow}
-use Rattle.register_records.proofs.Common.{table_fault, given_of, targets_of, text_of, Row, length-map, map-append}
+use Rattle.register_records.proofs.Common.{entry_fault_cause, HasEntries, HasFirstEntries, entry_seen, table_fault}
+use Rattle.register_records.proofs.Common.{given_of, targets_of, text_of, Row, length-map, map-append}
 use Rattle.register_records.specs.declared.ends.Cause.TheVariants as cause
 use Rattle.register_records.proofs.TableLemmas.{broken_by_reader, broken_by_table, fewer_left, of_row, Follows}
 use Rattle.register_records.proofs.TableLemmas.{faultless, flushed, kept, marked, of_reader, other_cause, whole_rows}
@@ -29,8 +29,8 @@ returns-in-Some-clause-broken g c =
     (marked _ _ _ _ _ _ _ from) (λ other. from)
 
 -- the row that was read is the next one of the table
-next_row : (g : Over) (c : Then-branch g) → IsNextRow c.entries.table c.read_next.new.self
-next_row g c =
+pub put_next-requires-clause-next : goal.put_next-requires-clause-next
+put_next-requires-clause-next g c =
     let inv = c.entries.invariant in let f = inv.follows in
     let read = c.in_ok-read_next.ensures in
     let found = c.if-branch.true in
@@ -40,9 +40,6 @@ next_row g c =
       ((rw found at read.reads.number) refl).0 ∙ ap (λ (n : ℕ). n + 1) counted,
       (rw found at read.targets) refl ∙ sym (ap targets_of f.same.1),
     )
-
-pub put_next-requires-clause-next : goal.put_next-requires-clause-next
-put_next-requires-clause-next g c = next_row g (goal.at.put_next-requires-clause-next g c).Then-branch
 
 pub entries-smaller : goal.entries-smaller
 entries-smaller g c =

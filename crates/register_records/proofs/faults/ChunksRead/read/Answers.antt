@@ -14,7 +14,8 @@ given_more : (b more copy rest : List ℕ) (given n : ℕ) → n ≤ length b - 
     → copy ≡ take ((given + n) - given) (drop given b)
     → drop given b ++ more ≡ take n (copy ++ rest) ++ (drop (given + n) b ++ more)
 given_more b more copy rest given n few cp =
-    grind (arith, length-take-le, take_at, take-append-drop n (drop given b), drop-drop n given b, append_assoc, length-drop)
+    let halves = take-append-drop n (drop given b) in
+    grind (arith, halves, length-take-le, take_at, drop-drop n given b, append_assoc, length-drop)
 
 -- where there is room and a chunk is not spent, some bytes are given
 gives_some : (b copy buf : List ℕ) (given n : ℕ) → length copy ≡ length (take n buf)

@@ -7,11 +7,12 @@ cells-init c = search (rules, no_cell)
 
 pub cells-preserved : goal.cells-preserved
 cells-preserved c =
+    let inv = c.cells.invariant in
+    let self = c.args.self.now in
     let more = take_more c.args.targets.now c.cells.target-index _ c.cells-test.true in
     record {
-      made = rw more
-          (one_more_cell _ c.cells_are_plain.ensures c.args.self.now.separated c.cells.invariant.made c.put_cell-end.ensures.value);
-      room = omega (arith, c.put_cell-end.ensures.grows, c.cells.invariant.room);
+      made = rw more (one_more_cell _ c.cells_are_plain.ensures self.separated inv.made c.put_cell-end.ensures.value);
+      room = omega (arith, c.put_cell-end.ensures.grows, inv.room);
     }
 
 pub returns-clause-value : goal.returns-clause-value

@@ -21,4 +21,5 @@ returns-clause-value c =
     let bytes : c.passed.bytes.now
     ≡ fields_text (writing c.args.lines.now.delimiter) (drop c.args.passed (tail_fields row)) =
     cc (c.passed.invariant.behind, all, c.requires.same) in
-    rw (tail_alike (row_seen row) (row_targets row)) (c.written.ensures.value (drop c.args.passed (tail_fields row)) bytes)
+    rw (tail_alike (row_seen row) (row_targets row))
+    (c.written.ensures.value (drop c.args.passed (tail_fields row)) bytes)

@@ -1,20 +1,14 @@
 -- What the arguments of this program mean is one thing: what `MeaningLemmas` of `command_lines` wants to be shown.
 use Rattle.std.proofs.Common.{◌≡◌, ◌∙◌, List, sym, rules, Option, Some, None}
-use Rattle.clap.specs.Words.{IsAmong, Text, fault_of}
-use Rattle.clap.specs.declared.error.kind.ErrorKind.{ErrorKind}
+use Rattle.clap.specs.Words.{Text}
 use Rattle.date_texts.specs.Laws.{OneTarget}
 use Rattle.date_texts.specs.declared.target.Target.{Target}
 use Rattle.command_lines.proofs.KindLemmas.{lone_app, one_of}
-use Rattle.command_lines.proofs.MeaningLemmas.{AllPass, AreSound, IsClear, IsSound, one_asked, one_byte, one_number}
+use Rattle.command_lines.proofs.MeaningLemmas.{IsClear, IsSound, one_asked, one_byte, one_number}
 use Rattle.command_lines.proofs.MeaningLemmas.{sound_files, sound_option}
-use Rattle.register_arguments.specs.CommandLine.{Values, command_line, values_of}
-use Rattle.register_arguments.specs.Requests.{AreTargetsOf, Ask, Task, register_line, target_check, value_checks}
+use Rattle.register_arguments.specs.CommandLine.{Values, values_of}
+use Rattle.register_arguments.specs.Requests.{AreTargetsOf, Ask, Task, register_line, target_check}
 use Rattle.register_arguments.proofs.ListLemmas.{asks_no_fault, asks_one, one_fault}
-
--- arguments have one kind of fault at most
-one_kind : (arguments : List Text) (k l : ErrorKind) → IsAmong k (fault_of command_line arguments)
-    → IsAmong l (fault_of command_line arguments) → k ≡ l
-one_kind arguments k l = search (rules, one_of, lone_app)
 
 module _ (one : OneTarget) where
   one_list : (value : Option Text) (targets others : List Target) → AreTargetsOf value targets
@@ -29,13 +23,6 @@ module _ (one : OneTarget) where
     none = λ fault asked. asks_no_fault one list asked.0 fault asked.1;
   }
 
-  sound_checks : (values : Values) → AreSound (value_checks values)
-  sound_checks values = search (rules, sound_targets, sound_option, sound_files)
-
--- values that ask for a task pass each check
-all_pass : (values : Values) (task : Task) → Ask values task → AllPass (value_checks values)
-all_pass values task asks = search rules
-
 -- values ask for one task at most
 one_task : (values : Values) (a b : Task) → OneTarget → Ask values a → Ask values b → a ≡ b
 one_task values a b one asked same = search (rules, one_asked, one_byte, one_list, one_number)
@@ -43,8 +30,8 @@ one_task values a b one asked same = search (rules, one_asked, one_byte, one_lis
 -- so arguments mean one thing
 pub is_clear : OneTarget → IsClear register_line
 is_clear one = record {
-  kinds = one_kind;
-  sound = λ found. sound_checks one (values_of found);
-  passes = λ found. all_pass (values_of found);
+  kinds = λ arguments k l. search (rules, one_of, lone_app);
+  sound = λ found. search (rules, sound_targets, sound_option, sound_files);
+  passes = λ found task asks. search rules;
   one = λ found a b. one_task (values_of found) a b one;
 }

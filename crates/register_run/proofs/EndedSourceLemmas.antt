@@ -24,13 +24,6 @@ use Rattle.register_run.proofs.GivenLemmas.{first_of_first, front_all, rows_fron
 listed : (c : Cause) → Contains causes_of_reading c → is_of_reading c ≡ true
 listed c h = search rules
 
--- the causes of reading are higher than those of a table
-high : (c : Cause) → is_of_reading c ≡ true → 5 ≤ cause_number c
-high c e = grind arith
-
-low : (c : Cause) → is_of_table c ≡ true → cause_number c ≤ 4
-low c e = grind arith
-
 -- the threads gave up for this cause of reading; the table has the rows of all entries that were read, and no heading
 -- without a row
 abbrev IsReadingMet : Findings → Cause → Type 0
@@ -48,7 +41,7 @@ module _ (met : Findings) (c : Cause) (of_table : IfSome met.fault (λ f. is_of_
 
   module _ (lowest : IsLowest (IsMet met) c) (reading : is_of_reading c ≡ true) where
     not_of_table : (d : Cause) → is_of_table d ≡ true → cause_number c ≤ cause_number d → ⊥
-    not_of_table d of below = let a = high c reading in let b = low d of in omega (arith, a, b, below)
+    not_of_table d of below = grind arith
 
     none_broke : (f : Option Cause) → met.fault ≡ f → f ≡ None
     none_broke f e = grind (arith, not_of_table)

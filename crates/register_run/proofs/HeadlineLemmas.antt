@@ -139,16 +139,12 @@ rings_of setup (stripe ∷ stripes) (suc n) is =
     All-cons (HasRing setup.ring) stripe stripes (stripe.room ∙ ring, stripe.room_for_rows ∙ ring)
     (rings_of setup stripes n others)
 
--- the lowest of causes of which one is 1 or 2
-lowest_two : (c : Cause) → cause_number c ≤ 2 → (c ≡ cause.NoMemory) ⊎ (c ≡ cause.NoThread)
-lowest_two c low = grind arith
-
 module _ (setup : Setup) (met : Findings) (journal : List Note)
     (of_table : IfSome met.fault (λ f. is_of_table f ≡ true)) where
   low_end : (e : SourceEnd) (c : Cause) → cause_number c ≤ 2 → met.sent.outcome ≡ Err c
       → IfWhole e (HasMetNone met journal) → IfBroken e (IsLowest (IsMet met))
       → (e ≡ end.Broken cause.NoMemory) ⊎ (e ≡ end.Broken cause.NoThread)
-  low_end e c low outcome whole lowest = grind (arith, lowest_two)
+  low_end e c low outcome whole lowest = grind arith
 
   pub threads_of : (ran : Ran) (e : SourceEnd) → ran.findings.value ≡ met
       → AreStaffed setup met.sent.outcome ran.stripes.value.items

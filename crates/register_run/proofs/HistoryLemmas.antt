@@ -1,12 +1,12 @@
 -- The machine: lanes that carried what it deals have the histories of its lanes, and its law over every schedule.
-use Rattle.std.proofs.Common.{is_ok, nat_lt, lt-ltb, if◌then◌else◌}
+use Rattle.std.proofs.Common.{is_ok, nat_lt, lt-ltb}
 use Rattle.register_run.proofs.Common.{rules, ◌≡◌, ◌∙◌, ◌+◌, ◌<◌, ℕ, List, [], ◌∷◌, true, false, ap, arith, map, refl}
 use Rattle.register_run.proofs.Common.{sym, Bool, Err, IfOk, Ok, Option, Result, length, replicate, leb-true}
-use Rattle.register_run.proofs.Common.{length-replicate, Fields, body_of, HaveHistories, HasSent, ∥∥₁_map, and_parts}
+use Rattle.register_run.proofs.Common.{length-replicate, Fields, HaveHistories, HasSent, ∥∥₁_map, and_parts}
 use Rattle.register_run.proofs.Common.{length-map, AllZip-long, Closed, AreNumberedFrom, Numbered, Entry, reading_of}
 use Rattle.register_run.proofs.Common.{Setup, Cause, Actor, start, AnyTook, HasPassedOn, HavePassedOn, feeding_lane}
 use Rattle.register_run.proofs.Common.{stripe_setup, WereDealt, dealt, Carries, AreOfLanes, World, Stripe, AllZip}
-use Rattle.register_run.proofs.Common.{HasFirstEntries, Reading, record_limit, numbers}
+use Rattle.register_run.proofs.Common.{HasFirstEntries, Reading, numbers}
 use mathlib.Core.Bool.{beq}
 use Rattle.striped_lanes.specs.Histories.{entries_over, rows_over}
 use Rattle.striped_lanes.specs.Places.{table_rows, HaveNumbersFrom, KeepNumbers}
@@ -90,18 +90,12 @@ joined_of_machine text setup stripes closed n (Ok count) false complete same is 
 
 -- ---- the law of the machine, for the worlds of texts: their entries are numbered from 1, and so are their rows
 
-numbered_if : (b : Bool) (k : ℕ) (x : Numbered) (entries : List Numbered) → x.number ≡ k
-    → HaveNumbersFrom numbers (k + 1) entries → HaveNumbersFrom numbers k (if b then x ∷ entries else [])
-numbered_if b k x entries first rest = grind arith
-
 -- the entries of a text are numbered from 1, and their rows have their numbers
 entries_numbered : (form : Form) (k : ℕ) (records : List Fields)
     → HaveNumbersFrom numbers (k + 1) (entries_from form k records)
 unfolding entries_from
 entries_numbered form k [] = tt
-entries_numbered form k (r ∷ records) =
-    numbered_if (nat_lt k record_limit) (k + 1) (record { number = k + 1; body = body_of form r })
-    (entries_from form (k + 1) records) refl (entries_numbered form (k + 1) records)
+entries_numbered form k (r ∷ records) = grind (arith, entries_numbered form (k + 1) records)
 
 first_entries_numbered : (reading : Reading) (text : Option (List ℕ)) (entries : List Numbered)
     → HasFirstEntries reading text entries → HaveNumbersFrom numbers 1 entries

@@ -7,12 +7,9 @@ use Rattle.clap.specs.Words.{ReadsOne, Text}
 use Rattle.command_lines.specs.Rules.{is_set}
 use Rattle.command_lines.proofs.arguments.is_given.Goals as goal
 
-same_if : (a b : Bool) → ((a ≡ true) ↔ (b ≡ true)) → a ≡ b
-same_if a b is = grind arith
-
 -- a flag that is given exactly where its text is `true` is set as its text says
 set_by_text : (b : Bool) (text : Option Text) → ((b ≡ true) ↔ (text ≡ Some (codes "true"))) → b ≡ is_set text
-set_by_text b text is = grind (arith, same_if, bytes_eq-Decides)
+set_by_text b text is = grind (arith, bytes_eq-Decides)
 
 flag_read : (E : Type 0) (text : Option Text) (read : Option Bool) → (text ≡ None → read ≡ None)
     → ((t : Text) → text ≡ Some t → ReadsOne {T = Bool} {E = E} ParsesBool t read)

@@ -21,7 +21,7 @@ pub const MAX_DATES: usize = 8;
 pub const MAX_COLUMNS: usize = MAX_TARGETS + 2;
 
 /// Where the id of a record is. A place is that of a field, from 0; a record that has none there has an empty one.
-#[derive(Clone, Copy, PartialEq, Eq, Debug)]
+#[derive(Clone, Copy, PartialEq, Eq)]
 pub enum IdField {
     /// In a column.
     Column(u32),
@@ -30,7 +30,7 @@ pub enum IdField {
 }
 
 /// Where the calendar of a date is.
-#[derive(Clone, Copy, PartialEq, Eq, Debug)]
+#[derive(Clone, Copy, PartialEq, Eq)]
 pub enum CalendarField {
     /// In a column.
     Column(u32),
@@ -39,7 +39,7 @@ pub enum CalendarField {
 }
 
 /// A column of dates.
-#[derive(Clone, Copy, PartialEq, Eq, Debug)]
+#[derive(Clone, Copy, PartialEq, Eq)]
 pub struct DateColumn {
     /// Where the dates are.
     pub date: u32,
@@ -48,7 +48,7 @@ pub struct DateColumn {
 }
 
 /// A column that is asked for each column of dates.
-#[derive(Clone, Copy, PartialEq, Eq, Debug)]
+#[derive(Clone, Copy, PartialEq, Eq)]
 pub enum AskedColumn {
     /// The number of the day.
     DayNumber,

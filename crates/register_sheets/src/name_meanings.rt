@@ -13,7 +13,7 @@ use written_dates::{Mark, Meaning};
 const MAX_NUMBER: u32 = 999_999_999;
 
 /// What a name means.
-#[derive(Clone, Copy, PartialEq, Eq, Debug)]
+#[derive(Clone, Copy, PartialEq, Eq)]
 pub enum Means {
     /// This, in dates.
     InDates(Meaning),

@@ -24,7 +24,7 @@ pub enum SheetCause {
 }
 
 /// How a sheet ended.
-#[derive(Clone, Copy, PartialEq, Eq, Debug)]
+#[derive(Clone, Copy, PartialEq, Eq)]
 pub enum SheetEnd {
     /// The output has gained the sheet with the columns asked. So many records stand below the names, and so many of
     /// them were refused for each column of dates, in the order of these; behind them stands 0. Of all dates so many

@@ -11,7 +11,7 @@ use csv::ByteRecord;
 use date_texts::Calendar;
 
 /// How many dates of a sheet were not read.
-#[derive(Clone, Copy, PartialEq, Eq, Debug)]
+#[derive(Clone, Copy, PartialEq, Eq)]
 pub struct UnreadDates {
     /// How many were stopped by a name that is not known: that of a calendar, or a word of the date.
     pub stopped: u64,

@@ -6,7 +6,7 @@ use crate::calendars::{CALENDARS, place_of};
 use date_texts::Calendar;
 
 /// The day of a Roman month that a date counts back from.
-#[derive(Clone, Copy, PartialEq, Eq, Debug)]
+#[derive(Clone, Copy, PartialEq, Eq)]
 pub enum Mark {
     /// The first day.
     Kalends,
@@ -17,7 +17,7 @@ pub enum Mark {
 }
 
 /// What a name means in a date.
-#[derive(Clone, Copy, PartialEq, Eq, Debug)]
+#[derive(Clone, Copy, PartialEq, Eq)]
 pub enum Meaning {
     /// Nothing.
     Nothing,
@@ -30,7 +30,7 @@ pub enum Meaning {
 }
 
 /// The calendars in which a name means something.
-#[derive(Clone, Copy, PartialEq, Eq, Debug)]
+#[derive(Clone, Copy, PartialEq, Eq)]
 pub struct Calendars {
     /// Whether each calendar is one of them, by its place in `Calendar::ALL`.
     pub held: [bool; CALENDARS],

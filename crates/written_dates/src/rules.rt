@@ -10,7 +10,7 @@ use crate::items::{Item, Number};
 use crate::meanings::Mark;
 
 /// In which order a year, a month and a day stand.
-#[derive(Clone, Copy, PartialEq, Eq, Debug)]
+#[derive(Clone, Copy, PartialEq, Eq)]
 pub enum Order {
     /// Year, month, day.
     YearFirst,

@@ -20,7 +20,7 @@ use itoa::Buffer;
 use std::alloc::AllocError;
 
 /// What is done with short years.
-#[derive(Clone, Copy, PartialEq, Eq, Debug)]
+#[derive(Clone, Copy, PartialEq, Eq)]
 pub enum Short {
     /// The date is left empty.
     Refuse,
@@ -31,7 +31,7 @@ pub enum Short {
 }
 
 /// How dates are read.
-#[derive(Clone, Copy, PartialEq, Eq, Debug)]
+#[derive(Clone, Copy, PartialEq, Eq)]
 pub struct Choice {
     /// In which order three numbers stand.
     pub order: Order,

@@ -17,7 +17,7 @@ use Rattle.written_dates.proofs.KindLemmas.{none_picked}
 use Rattle.written_dates.proofs.TokenLemmas.{single}
 
 -- the token in front is of the kind of the first character
-abbrev Begins : Kind → List Piece → Type 0
+abbrev pub Begins : Kind → List Piece → Type 0
 Begins kind ts = (text : List ℕ) × (rest : List Piece) × (ts ≡ record { kind = kind; text = text } ∷ rest)
 
 begins_by : (j : Bool) (a b : Piece) (rest : List Piece)
@@ -30,7 +30,7 @@ unfolding in_front
 begins a [] = (a.text, [], refl)
 begins a (b ∷ rest) = begins_by (joins a.kind b.kind) a b rest
 
-front : (c : ℕ) (cs : List ℕ) → Begins (first c cs).0 (tokens 0 (c ∷ cs))
+pub front : (c : ℕ) (cs : List ℕ) → Begins (first c cs).0 (tokens 0 (c ∷ cs))
 unfolding tokens
 front c cs = begins (record { kind = (first c cs).0; text = c ∷ take (first c cs).1 cs }) (tokens (first c cs).1 cs)
 

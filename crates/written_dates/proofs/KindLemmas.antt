@@ -22,7 +22,7 @@ one_more is a [] h k = or_from _ _ h k
 one_more is a (b ∷ rest) h k = in_front_by is (joins a.kind b.kind) a b rest h k
 
 -- the kind of the first character, by its tests
-abbrev picked : Kind → Bool → Bool → Bool → Bool → Kind × ℕ
+abbrev pub picked : Kind → Bool → Bool → Bool → Bool → Kind × ℕ
 picked l a b c d = cond a (Blank, 1) (cond b (Blank, 2) (cond c (Dash, 2) (cond d (Dash, 2) (l, 0))))
 
 pub none_picked : (is : Kind → Bool) → is Blank ≡ false → is Dash ≡ false → (l : Kind) (a b c d : Bool)

@@ -19,10 +19,10 @@ use Rattle.written_dates.specs.Laws.{AreDigits, RegisterDatesStay, MinusDatesSta
 use Rattle.written_dates.specs.Written.{joined, numbers, short_rule, stood}
 use Rattle.written_dates.proofs.TokenLemmas.{alone}
 
-abbrev piece_of : Kind → List ℕ → Piece
+abbrev pub piece_of : Kind → List ℕ → Piece
 piece_of k x = record { kind = k; text = x }
 
-digit_first : (c : ℕ) (cs : List ℕ) → is_ascii_digit c ≡ true → first c cs ≡ (Digit, 0)
+pub digit_first : (c : ℕ) (cs : List ℕ) → is_ascii_digit c ≡ true → first c cs ≡ (Digit, 0)
 digit_first c cs h =
     let a : (c == 194) ≡ false = grind (arith, nat_tests) in
     let b : (c == 226) ≡ false = grind (arith, nat_tests) in
@@ -50,7 +50,7 @@ digits_token (c ∷ d ∷ ds) rest some all stop =
     let next = digits_token (d ∷ ds) rest (omega arith) both.1 stop in
     rw (digit_first c (d ∷ ds ++ rest) both.0, next) refl
 
-hyphen_token : (rest : List ℕ) → tokens 0 (45 ∷ rest) ≡ piece_of Hyphen (45 ∷ []) ∷ tokens 0 rest
+pub hyphen_token : (rest : List ℕ) → tokens 0 (45 ∷ rest) ≡ piece_of Hyphen (45 ∷ []) ∷ tokens 0 rest
 unfolding tokens
 hyphen_token rest = alone Hyphen (45 ∷ []) (tokens 0 rest) refl
 
@@ -104,7 +104,7 @@ kept_by choice calendar kept (Some y) (Some m) None h = refl
 kept_by choice calendar kept (Some y) (Some m) (Some d) h = rw (h y refl) refl
 
 -- a year of more than three digits is kept
-long_kept : (choice : Choice) (calendar : Calendar) (year : Number) → 3 < year.digits
+pub long_kept : (choice : Choice) (calendar : Calendar) (year : Number) → 3 < year.digits
     → short_rule choice calendar year ≡ Keep
 long_kept choice Gregorian year long = grind (arith, nat_tests)
 long_kept choice Julian year long = grind (arith, nat_tests)

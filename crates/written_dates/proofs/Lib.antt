@@ -8,7 +8,12 @@ pub mod UnknownLemmas
 pub mod KeyLemmas
 pub mod KeyedLemmas
 pub mod FieldLemmas
+pub mod DayLemmas
+pub mod FeastRuleLemmas
 pub mod RuleLemmas
 pub mod RomanLawLemmas
+pub mod UseLemmas
 pub mod LawLemmas
+pub mod MinusLemmas
+pub mod ReadLawLemmas
 pub mod NameLawLemmas

@@ -1,5 +1,5 @@
--- The items of a text: numbers, months and marks.
-use Rattle.std.specs.Prelude.{ℕ, zero, suc, ◌+◌, ◌-◌, ◌*◌, ◌&&◌, ◌==◌, nat_le, nat_lt}
+-- The items of a text: numbers, months, marks, and what names a day by a feast.
+use Rattle.std.specs.Prelude.{ℕ, zero, suc, ◌+◌, ◌-◌, ◌*◌, Bool, ◌&&◌, ◌||◌, ◌==◌, nat_le, nat_lt}
 use Rattle.std.specs.Prelude.{if◌then◌else◌, List, [], ◌∷◌, ◌++◌, length, fold, Option, Some, None}
 use Rattle.std.specs.Char.{is_ascii_digit}
 use Rattle.std.specs.List.{list_all}
@@ -37,12 +37,20 @@ number_of_kind _ text = bare_number (roman text)
 abbrev pub number_of : Piece → Option Number
 number_of p = number_of_kind p.kind p.text
 
+-- three digits or more, or, Roman or named, 100 or more
+abbrev pub is_long : Number → Bool
+is_long n = nat_le 3 n.digits || ((n.digits == 0) && nat_le 100 n.value)
+
 -- what a name means in a date
 abbrev pub meant : Meaning → List Item
 meant meaning.Nothing = []
 meant (meaning.Month m) = item.Month m ∷ []
 meant (meaning.Number n) = item.Number (record { value = n; digits = 0 }) ∷ []
 meant (meaning.Mark m) = item.Mark m ∷ []
+meant (meaning.Weekday w) = item.Weekday w ∷ []
+meant (meaning.Relation r) = item.Relation r ∷ []
+meant (meaning.Feast f) = item.Feast f ∷ []
+meant (meaning.Sundays s) = item.Sundays s ∷ []
 
 -- of the best so far, with how many parts it has, and the names that stand in front, the one with the most parts; the
 -- first of those that have as many

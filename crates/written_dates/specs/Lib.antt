@@ -3,12 +3,16 @@ pub mod Roman
 pub mod Parts
 pub mod Items
 pub mod Signs
+pub mod FeastRules
 pub mod Rules
 pub mod Calendars
 pub mod Names
 pub mod Keys
 pub mod SignViews
 pub mod Fields
+pub mod Weekdays
 pub mod Written
 pub mod Unknown
 pub mod Laws
+pub mod ReadLaws
+pub mod Stops

@@ -7,6 +7,11 @@ use Rattle.written_dates.specs.declared.meanings.Mark.{Mark}
 use Rattle.written_dates.specs.declared.meanings.Mark.TheVariants.{Kalends, Nones, Ides}
 use Rattle.written_dates.specs.declared.meanings.Meaning.{Meaning}
 use Rattle.written_dates.specs.declared.meanings.Meaning.TheVariants.{Nothing, Month, Number, Mark as Marked}
+use Rattle.written_dates.specs.declared.meanings.Meaning.TheVariants.{Weekday, Relation as Related, Feast, Sundays}
+use Rattle.written_dates.specs.declared.meanings.Relation.{Relation}
+use Rattle.written_dates.specs.declared.meanings.Relation.TheVariants.{After, Before, Eve, Morrow, Octave}
+use Rattle.church_year.specs.Weekdays.{number_of}
+use Rattle.church_year.specs.Same.{number_of_season, same_feast}
 use Rattle.written_dates.specs.declared.meanings.Name.{Name}
 use Rattle.written_dates.specs.declared.names.NameFault.{NameFault}
 use Rattle.written_dates.specs.declared.names.NameFault.TheVariants.{Character, NoWord, NoMeaning, TwoMeanings}
@@ -39,11 +44,22 @@ same_mark Nones Nones = true
 same_mark Ides Ides = true
 same_mark a b = false
 
+abbrev pub number_of_relation : Relation → ℕ
+number_of_relation After = 0
+number_of_relation Before = 1
+number_of_relation Eve = 2
+number_of_relation Morrow = 3
+number_of_relation Octave = 4
+
 abbrev pub same_meaning : Meaning → Meaning → Bool
 same_meaning Nothing Nothing = true
 same_meaning (Month a) (Month b) = a == b
 same_meaning (Number a) (Number b) = a == b
 same_meaning (Marked a) (Marked b) = same_mark a b
+same_meaning (Weekday a) (Weekday b) = number_of a == number_of b
+same_meaning (Related a) (Related b) = number_of_relation a == number_of_relation b
+same_meaning (Feast a) (Feast b) = same_feast a b
+same_meaning (Sundays a) (Sundays b) = number_of_season a == number_of_season b
 same_meaning a b = false
 
 -- one name means two things in one calendar

@@ -5,22 +5,22 @@ use Rattle.written_dates.specs.declared.meanings.Mark.{Mark}
 use Rattle.written_dates.specs.declared.meanings.Mark.TheVariants.{Kalends}
 use Rattle.written_dates.specs.declared.items.Number.{Number as Numeral}
 use Rattle.written_dates.specs.declared.items.Item.{Item}
-use Rattle.written_dates.specs.declared.items.Item.TheVariants.{Number, Month, Mark as Marked}
+use Rattle.written_dates.specs.declared.items.Item.TheVariants.{Number, Month, Mark as Marked, Weekday}
 use Rattle.written_dates.specs.declared.rules.Order.{Order}
 use Rattle.written_dates.specs.declared.rules.Order.TheVariants.{YearFirst, DayFirst, MonthFirst}
 use Rattle.written_dates.specs.declared.rules.Reading.{Reading}
 use Rattle.written_dates.specs.declared.rules.Reading.TheVariants.{Civil, Roman}
-
--- three digits or more, or, Roman or named, 100 or more
-abbrev pub is_long : Numeral → Bool
-is_long n = nat_le 3 n.digits || ((n.digits == 0) && nat_le 100 n.value)
+use Rattle.written_dates.specs.declared.rules.InYear.TheVariants.{Day, NumberedWeekday, Feast}
+use Rattle.written_dates.specs.declared.feast_rules.Naming.{Naming}
+use Rattle.written_dates.specs.Items.{is_long}
+use Rattle.written_dates.specs.FeastRules.{feast_naming}
 
 -- the number stands in digits, and not as a Roman one or a name
 abbrev pub in_digits : Numeral → Bool
 in_digits n = nat_lt 0 n.digits
 
 abbrev pub civil : Numeral → ℕ → ℕ → Option Reading
-civil year month day = Some (Civil year month day)
+civil year month day = Some (Civil year (Day month day))
 
 -- three numbers in an order
 abbrev pub in_order : Order → Numeral → Numeral → Numeral → Option Reading
@@ -32,19 +32,20 @@ abbrev pub is_year_first : Order → Bool
 is_year_first YearFirst = true
 is_year_first _ = false
 
--- a number, a month by name, a number: two long numbers say nothing; one is the year; else the order says which
+-- a number, a month, a number: two long numbers say nothing; one is the year; else the order says which
 abbrev pub month_between : Order → Numeral → ℕ → Numeral → Option Reading
 month_between order a month c =
     if is_long a && is_long c then None
     else if is_long a || (not (is_long c) && is_year_first order) then civil a month c.value
     else civil c month a.value
 
--- a month by name, and two numbers: two long ones say nothing; one is the year; else the last is
+-- a month by name, a day that is not long, and the year
 abbrev pub month_in_front : ℕ → Numeral → Numeral → Option Reading
-month_in_front month a c =
-    if is_long a && is_long c then None
-    else if is_long a then civil a month c.value
-    else civil c month a.value
+month_in_front month a c = if is_long a then None else civil c month a.value
+
+-- of three numbers only the middle one is Roman or a name: it is the month
+abbrev pub is_month_between : Numeral → Numeral → Numeral → Bool
+is_month_between a b c = in_digits a && not (in_digits b) && in_digits c
 
 -- three numbers, of which one at most is long, and not the middle one: where the first is, or none is and they are
 -- digits with dashes between them, the year is first; else the order says, which must not be year first where the last
@@ -52,17 +53,45 @@ month_in_front month a c =
 abbrev pub three_numbers : Bool → Order → Numeral → Numeral → Numeral → Option Reading
 three_numbers dashes order a b c =
     if is_long b || (is_long a && is_long c) then None
+    else if is_month_between a b c then month_between order a b.value c
     else if is_long a then in_order YearFirst a b c
     else if is_long c then (if is_year_first order then None else in_order order a b c)
     else if dashes && in_digits a && in_digits b && in_digits c then in_order YearFirst a b c
     else in_order order a b c
 
--- what items say as a year, a month and a day
+-- what three items say as a year, a month and a day
+abbrev pub plain_reading : Bool → Order → List Item → Option Reading
+plain_reading dashes order (Number a ∷ Month m ∷ Number c ∷ []) = month_between order a m c
+plain_reading dashes order (Month m ∷ Number a ∷ Number c ∷ []) = month_in_front m a c
+plain_reading dashes order (Number a ∷ Number b ∷ Number c ∷ []) = three_numbers dashes order a b c
+plain_reading dashes order _ = None
+
+-- the items behind a weekday, or three items before one
+abbrev pub beside_weekday : List Item → List Item
+beside_weekday (Weekday w ∷ rest) = rest
+beside_weekday (a ∷ b ∷ c ∷ Weekday w ∷ []) = a ∷ b ∷ c ∷ []
+beside_weekday items = items
+
+-- the weekday of a number in a month by name, and the year
+abbrev pub weekday_in_month : List Item → Option Reading
+weekday_in_month (Number n ∷ Weekday w ∷ Month m ∷ Number year ∷ []) =
+    if is_long n then None else Some (Civil year (NumberedWeekday n.value w m))
+weekday_in_month items = None
+
+abbrev pub named_reading : Option Naming → Option Reading
+named_reading None = None
+named_reading (Some n) = Some (Civil n.year (Feast n.feast n.place))
+
+abbrev pub or_reading : Option Reading → Option Reading → Option Reading
+or_reading None other = other
+or_reading (Some reading) other = Some reading
+
+-- what items say as a day of a year: by a month and a day, beside a weekday or alone; by a weekday in a month; or by a
+-- feast
 abbrev pub civil_reading : Bool → Order → List Item → Option Reading
-civil_reading dashes order (Number a ∷ Month m ∷ Number c ∷ []) = month_between order a m c
-civil_reading dashes order (Month m ∷ Number a ∷ Number c ∷ []) = month_in_front m a c
-civil_reading dashes order (Number a ∷ Number b ∷ Number c ∷ []) = three_numbers dashes order a b c
-civil_reading dashes order _ = None
+civil_reading dashes order items =
+    or_reading (plain_reading dashes order (beside_weekday items))
+    (or_reading (weekday_in_month items) (named_reading (feast_naming items)))
 
 abbrev pub is_kalends : Mark → Bool
 is_kalends Kalends = true

@@ -1,5 +1,5 @@
 -- What the signs of a text say, and dates as registers have them.
-use Rattle.std.specs.Prelude.{ℕ, Bool, true, false, ◌&&◌, ◌==◌, List, [], ◌∷◌, Option, Some, None}
+use Rattle.std.specs.Prelude.{ℕ, Bool, true, false, ◌&&◌, ◌||◌, ◌==◌, List, [], ◌∷◌, Option, Some, None}
 use Rattle.std.specs.List.{list_any, count_by}
 use Rattle.written_dates.specs.declared.tokens.Kind.{Kind}
 use Rattle.written_dates.specs.declared.tokens.Kind.TheVariants.{Blank, Hyphen, Dash, Sign, Digit, Other}
@@ -44,6 +44,29 @@ bare (p ∷ rest) = behind_blank p.kind (bare rest) (p ∷ rest)
 abbrev pub begins_with_dash : List Piece → Bool
 begins_with_dash [] = false
 begins_with_dash (p ∷ rest) = is_dash p.kind
+
+abbrev pub is_digit : Kind → Bool
+is_digit Digit = true
+is_digit _ = false
+
+abbrev pub begins_with_digit : List Piece → Bool
+begins_with_digit [] = false
+begins_with_digit (p ∷ rest) = is_digit p.kind
+
+-- blanks and signs part what stands between them
+abbrev pub is_between : Kind → Bool
+is_between Blank = true
+is_between kind = is_sign kind
+
+-- a dash that may be a minus: behind a blank or a sign, and directly before digits
+abbrev pub has_minus_behind : Kind → List Piece → Bool
+has_minus_behind before [] = false
+has_minus_behind before (p ∷ rest) =
+    (is_between before && is_dash p.kind && begins_with_digit rest) || has_minus_behind p.kind rest
+
+-- the text's beginning is like a blank
+abbrev pub has_minus : List Piece → Bool
+has_minus tokens = has_minus_behind Blank tokens
 
 infixl 10 ◌>>=◌
 abbrev pub ◌>>=◌ : {A B : Type 0} → Option A → (A → Option B) → Option B

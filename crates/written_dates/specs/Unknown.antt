@@ -12,7 +12,7 @@ use Rattle.written_dates.specs.Calendars.{form}
 use Rattle.written_dates.specs.Items.{item_in_front}
 use Rattle.written_dates.specs.Names.{names_in}
 use Rattle.written_dates.specs.Parts.{parts}
-use Rattle.written_dates.specs.Signs.{bare, begins_with_dash, has_other}
+use Rattle.written_dates.specs.Signs.{bare, begins_with_dash, has_minus, has_other}
 use Rattle.written_dates.specs.Tokens.{Piece, tokens}
 
 abbrev pub or_behind : Option (ℕ × List Item) → Piece → (ℕ → Option Piece) → Option Piece
@@ -41,10 +41,11 @@ is_never_read forms.Other = true
 is_never_read form = false
 
 -- the first part of a date that means nothing in its calendar, where this is a word; none where the date stays for
--- another reason, as a dash in front or a character that no date has
+-- another reason, as a dash in front, a minus or a character that no date has
 unfoldable pub unknown_word : Calendar → List Name → List ℕ → Option (List ℕ)
 unknown_word calendar names text =
-    if is_never_read (form calendar) || has_other (tokens 0 text) || begins_with_dash (bare (tokens 0 text)) then None
+    if is_never_read (form calendar) || has_other (tokens 0 text) || has_minus (tokens 0 text)
+    || begins_with_dash (bare (tokens 0 text)) then None
     else word_in (first_unknown (names_in calendar names) 0 (parts text))
 
 -- a text that was returned, without where it lies in memory

@@ -1,29 +1,41 @@
 -- What is written for a text: the rules of this project for dates as people write them.
-use Rattle.std.specs.Prelude.{ℕ, ◌+◌, Bool, not, ◌&&◌, ◌||◌, nat_le, nat_lt, if◌then◌else◌}
+use Rattle.std.specs.Prelude.{ℕ, ◌+◌, Bool, true, not, ◌&&◌, ◌||◌, nat_le, nat_lt, if◌then◌else◌}
 use Rattle.std.specs.Prelude.{List, [], ◌∷◌, ◌++◌, length, Option, Some, None}
 use Rattle.std.specs.Fmt.{decimal}
+use Rattle.std.specs.List.{list_all}
 use Rattle.date_texts.specs.declared.calendar.Calendar.{Calendar}
-use Rattle.date_texts.specs.declared.calendar.Calendar.TheVariants.{Gregorian, Julian, Hebrew}
+use Rattle.date_texts.specs.declared.calendar.Calendar.TheVariants.{Gregorian, Julian, Hebrew, French, Republican}
 use Rattle.written_dates.specs.declared.calendars.Form.{Form}
 use Rattle.written_dates.specs.declared.calendars.Form.TheVariants as forms
 use Rattle.written_dates.specs.declared.meanings.Mark.{Mark}
 use Rattle.written_dates.specs.declared.meanings.Mark.TheVariants.{Kalends, Nones, Ides}
 use Rattle.written_dates.specs.declared.meanings.Name.{Name}
 use Rattle.written_dates.specs.declared.items.Item.{Item}
+use Rattle.written_dates.specs.declared.items.Item.TheVariants.{Weekday}
 use Rattle.written_dates.specs.declared.items.Number.{Number}
 use Rattle.written_dates.specs.declared.rules.Order.{Order}
 use Rattle.written_dates.specs.declared.rules.Reading.{Reading}
 use Rattle.written_dates.specs.declared.rules.Reading.TheVariants.{Civil, Roman}
+use Rattle.written_dates.specs.declared.rules.InYear.{InYear}
+use Rattle.written_dates.specs.declared.rules.InYear.TheVariants.{Day, NumberedWeekday, Feast}
+use Rattle.written_dates.specs.declared.written.Answer.{Answer}
+use Rattle.written_dates.specs.declared.written.Answer.TheVariants.{Stays, OtherWeekday, Refused, Date, RomanDate}
 use Rattle.written_dates.specs.declared.written.Short.{Short}
 use Rattle.written_dates.specs.declared.written.Short.TheVariants.{Refuse, Keep, Add}
 use Rattle.written_dates.specs.declared.written.Choice.{Choice}
+use Rattle.church_year.specs.declared.churches.Church.{Church}
+use Rattle.church_year.specs.declared.churches.Church.TheVariants as churches
+use Rattle.church_year.specs.declared.feasts.Feast.{Feast as Festival}
+use Rattle.church_year.specs.declared.feasts.Place.{Place}
+use Rattle.church_year.specs.FeastDates.{feast_date_in}
 use Rattle.written_dates.specs.Calendars.{form}
 use Rattle.written_dates.specs.Tokens.{tokens}
 use Rattle.written_dates.specs.Parts.{parts}
 use Rattle.written_dates.specs.Items.{items, number_of_digits}
 use Rattle.written_dates.specs.Names.{names_in}
-use Rattle.written_dates.specs.Signs.{◌>>=◌, has_other, has_two_dashes, bare, begins_with_dash, three_runs}
+use Rattle.written_dates.specs.Signs.{◌>>=◌, has_other, has_minus, has_two_dashes, bare, begins_with_dash, three_runs}
 use Rattle.written_dates.specs.Signs.{runs_behind_minus}
+use Rattle.written_dates.specs.Weekdays.{is_on, numbered_weekday}
 use Rattle.written_dates.specs.Rules.{is_year_first, civil_reading, roman_reading}
 
 -- what is done with a year: years under 100 of at most two digits, and Hebrew ones under 1000 of at most three, are
@@ -57,12 +69,73 @@ letter Kalends = 75
 letter Nones = 78
 letter Ides = 73
 
--- what is written for what the text says; for nothing the text as it is
-abbrev pub said : Choice → Calendar → List ℕ → Option Reading → List ℕ
-said choice calendar text None = text
-said choice calendar text (Some (Civil year month day)) =
-    by_rule (short_rule choice calendar year) (dated year.value month day) year.value month day
-said choice calendar text (Some (Roman year month mark count)) =
+-- the church that reckons in a calendar
+abbrev pub church_of : Calendar → Option Church
+church_of Gregorian = Some churches.Gregorian
+church_of Julian = Some churches.Julian
+church_of calendar = None
+
+abbrev pub feast_of : Option Church → ℕ → Festival → Place → Option (ℕ × ℕ)
+feast_of None year feast place = None
+feast_of (Some church) year feast place = feast_date_in church year feast place
+
+abbrev pub in_month : ℕ → Option ℕ → Option (ℕ × ℕ)
+in_month month None = None
+in_month month (Some day) = Some (month, day)
+
+-- the month and the day of a day that is named in a year, if the year has it
+abbrev pub month_and_day : Calendar → ℕ → InYear → Option (ℕ × ℕ)
+month_and_day calendar year (Day month day) = Some (month, day)
+month_and_day calendar year (NumberedWeekday n weekday month) =
+    in_month month (numbered_weekday calendar year month weekday n)
+month_and_day calendar year (Feast feast place) = feast_of (church_of calendar) year feast place
+
+-- a year in words: the French Republic had none over 99
+abbrev pub has_year : Calendar → ℕ → Bool
+has_year French year = nat_le year 99
+has_year Republican year = nat_le year 99
+has_year calendar year = true
+
+abbrev pub date_or_stays : ℕ → Option (ℕ × ℕ) → Answer
+date_or_stays year None = Stays
+date_or_stays year (Some found) = Date year found.0 found.1
+
+-- the date of a day that is named in this year
+abbrev pub date_in : Calendar → ℕ → InYear → Answer
+date_in calendar year day =
+    if has_year calendar year then date_or_stays year (month_and_day calendar year day) else Stays
+
+-- the same by the rule for the year
+abbrev pub date_by_rule : Short → Calendar → ℕ → InYear → Answer
+date_by_rule Refuse calendar year day = Refused
+date_by_rule Keep calendar year day = date_in calendar year day
+date_by_rule (Add more) calendar year day = date_in calendar (year + more) day
+
+-- the date that a reading says
+abbrev pub date_of : Choice → Calendar → Option Reading → Answer
+date_of choice calendar None = Stays
+date_of choice calendar (Some (Civil year day)) =
+    date_by_rule (short_rule choice calendar year) calendar year.value day
+date_of choice calendar (Some (Roman year month mark count)) = RomanDate year month mark count
+
+-- a weekday that is named is that of the date
+abbrev pub agrees : Calendar → ℕ → ℕ → ℕ → Item → Bool
+agrees calendar year month day (Weekday weekday) = is_on calendar year month day weekday
+agrees calendar year month day item = true
+
+-- every weekday among the items has to be that of the date which is found
+abbrev pub if_agreed : Calendar → List Item → Answer → Answer
+if_agreed calendar found (Date year month day) =
+    if list_all (agrees calendar year month day) found then Date year month day else OtherWeekday
+if_agreed calendar found answer = answer
+
+-- what is written for it
+abbrev pub answer_text : List ℕ → Answer → List ℕ
+answer_text text Stays = text
+answer_text text OtherWeekday = text
+answer_text text Refused = []
+answer_text text (Date year month day) = dated year month day
+answer_text text (RomanDate year month mark count) =
     joined (decimal year) (decimal month) (letter mark ∷ decimal count)
 
 -- the numbers that three runs of digits spell, if none has over nine digits
@@ -85,12 +158,22 @@ reading_by forms.Civil choice dashes found = civil_reading dashes choice.order f
 reading_by forms.Roman choice dashes found = roman_reading choice.charters found
 reading_by forms.Other choice dashes found = None
 
--- what a text says; nothing where a dash is in front or a character stands that no date has
-unfoldable pub reading : Choice → Calendar → List Name → List ℕ → Option Reading
-reading choice calendar names text =
-    if has_other (tokens 0 text) || begins_with_dash (bare (tokens 0 text)) then None
-    else items (names_in calendar names) 0 (parts text)
-    >>= reading_by (form calendar) choice (has_two_dashes (tokens 0 text))
+-- the date that items say
+abbrev pub items_answer : Choice → Calendar → Bool → List Item → Answer
+items_answer choice calendar dashes found =
+    if_agreed calendar found (date_of choice calendar (reading_by (form calendar) choice dashes found))
+
+abbrev pub answer_by : Option (List Item) → (List Item → Answer) → Answer
+answer_by None say = Stays
+answer_by (Some found) say = say found
+
+-- the date that a text says; none where a dash or a minus stands in it, in front or later, or a character that no date
+-- has
+unfoldable pub answer : Choice → Calendar → List Name → List ℕ → Answer
+answer choice calendar names text =
+    if has_other (tokens 0 text) || has_minus (tokens 0 text) || begins_with_dash (bare (tokens 0 text)) then Stays
+    else answer_by (items (names_in calendar names) 0 (parts text))
+    (items_answer choice calendar (has_two_dashes (tokens 0 text)))
 
 -- where the order is not year first, the last of three runs is long and the first is not, the year is last
 abbrev pub is_turned : Order → List ℕ → List ℕ → Bool
@@ -108,13 +191,13 @@ abbrev pub written_by : Choice → Calendar → List Name → List ℕ → Optio
 written_by choice calendar names text (Some runs) below = 45 ∷ joined runs.0 runs.1 runs.2
 written_by choice calendar names text None (Some runs) =
     stood choice calendar (joined runs.0 runs.1 runs.2) (numbers runs)
-written_by choice calendar names text None None = said choice calendar text (reading choice calendar names text)
+written_by choice calendar names text None None = answer_text text (answer choice calendar names text)
 
 abbrev pub written_form : Form → Choice → Calendar → List Name → List ℕ → List ℕ
 written_form forms.Civil choice calendar names text =
     written_by choice calendar names text (runs_behind_minus (tokens 0 text))
     (unless_turned choice.order (three_runs (tokens 0 text)))
-written_form form choice calendar names text = said choice calendar text (reading choice calendar names text)
+written_form form choice calendar names text = answer_text text (answer choice calendar names text)
 
 -- what is written for a text: where no calendar is known, the text as it is
 abbrev pub written : Choice → Option Calendar → List Name → List ℕ → List ℕ

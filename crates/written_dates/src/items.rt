@@ -1,4 +1,4 @@
-//! The items of a text: numbers, months and marks.
+//! The items of a text: numbers, months, marks, and what names a day by a feast.
 
 ghost use Rattle.std.specs.Prelude.{◌≡◌, ◌<◌, ◌≤◌, ◌+◌, ◌∷◌, [], ◌++◌, true, false, drop, length, Some, None, IfSome, IfNone, List};
 ghost use Rattle.std.specs.Prelude.{option_to_list};
@@ -7,16 +7,18 @@ ghost use Rattle.written_dates.specs.Keys.{first_text};
 ghost use Rattle.written_dates.specs.Names.{names_in};
 ghost use Rattle.written_dates.specs.Parts.{parts};
 ghost use Rattle.written_dates.specs.Items.{number_of_digits as digits_spec, number_of as number_spec};
-ghost use Rattle.written_dates.specs.Items.{longest as longest_spec, items, before, meant};
+ghost use Rattle.written_dates.specs.Items.{longest as longest_spec, is_long as long_spec, items, before, meant};
 ghost use Rattle.written_dates.specs.Unknown.{first_unknown};
 
-use crate::meanings::{Mark, Meaning, Name};
+use crate::meanings::{Mark, Meaning, Name, Relation};
 use crate::names::{Names, key_of_word};
 use crate::parts::{next_part, stands};
 use crate::roman::roman_number;
 use crate::tokens::{Kind, Token};
 use arrayvec::ArrayVec;
+use church_year::{Feast, Season};
 use date_texts::Calendar;
+use day_numbers::Weekday;
 
 /// A number, and with how many digits it stands; none where it is a Roman one or a name.
 #[derive(Clone, Copy)]
@@ -36,6 +38,14 @@ pub(crate) enum Item {
     Month(u8),
     /// A mark.
     Mark(Mark),
+    /// A day of the week.
+    Weekday(Weekday),
+    /// Which day is meant where a feast is named.
+    Relation(Relation),
+    /// A feast.
+    Feast(Feast),
+    /// Sundays that are numbered.
+    Sundays(Season),
 }
 
 /// The number that one to nine digits spell.
@@ -123,6 +133,13 @@ fn longest<'a>(
     (count, meaning, rest)
 }
 
+/// Whether a number can be no day and no month.
+pub(crate) fn is_long(number: Number) -> bool
+    ensures { result ≡ long_spec number }
+{
+    number.digits >= 3 || (number.digits == 0 && number.value >= 100)
+}
+
 /// The item that a name means, if it means one.
 fn item_of(meaning: Meaning) -> Option<Item>
     ensures { option_to_list result ≡ meant meaning }
@@ -132,6 +149,10 @@ fn item_of(meaning: Meaning) -> Option<Item>
         Meaning::Month(month) => Some(Item::Month(month)),
         Meaning::Number(value) => Some(Item::Number(Number { value, digits: 0 })),
         Meaning::Mark(mark) => Some(Item::Mark(mark)),
+        Meaning::Weekday(weekday) => Some(Item::Weekday(weekday)),
+        Meaning::Relation(relation) => Some(Item::Relation(relation)),
+        Meaning::Feast(feast) => Some(Item::Feast(feast)),
+        Meaning::Sundays(season) => Some(Item::Sundays(season)),
     }
 }
 
@@ -171,9 +192,9 @@ impl Default for Item {
 }
 
 /// Adds an item, if there is one, and says whether there was room.
-fn add_item(found: &mut ArrayVec<Item, 4>, item: Option<Item>) -> bool
+fn add_item(found: &mut ArrayVec<Item, 5>, item: Option<Item>) -> bool
     ensures room { result ≡ true → found.new.items ≡ found.old.items ++ option_to_list item }
-    ensures full { result ≡ false → 4 < length found.old.items + length (option_to_list item) }
+    ensures full { result ≡ false → 5 < length found.old.items + length (option_to_list item) }
 {
     let Some(item) = item else {
         return true;
@@ -181,14 +202,14 @@ fn add_item(found: &mut ArrayVec<Item, 4>, item: Option<Item>) -> bool
     found.try_push(item).is_ok()
 }
 
-/// The items of a text; nothing where a word is not known, or more than four items stand.
-pub(crate) fn items_of(text: &[u8], names: &Names, calendar: Calendar) -> Option<ArrayVec<Item, 4>>
+/// The items of a text; nothing where a word is not known, or more than five items stand.
+pub(crate) fn items_of(text: &[u8], names: &Names, calendar: Calendar) -> Option<ArrayVec<Item, 5>>
     ensures some { IfSome result (λ found.
         items (names_in calendar names.now.listed.now) 0 (parts text.now) ≡ Some found.items) }
     ensures none { IfNone result ((found : List Item)
-        → items (names_in calendar names.now.listed.now) 0 (parts text.now) ≡ Some found → 4 < length found) }
+        → items (names_in calendar names.now.listed.now) 0 (parts text.now) ≡ Some found → 5 < length found) }
 {
-    let mut found: ArrayVec<Item, 4> = ArrayVec::new();
+    let mut found: ArrayVec<Item, 5> = ArrayVec::new();
     let mut rest = text;
     'items: while let Some((part, after)) = next_part(rest) {
         let Some((item, behind)) = item_in_front(rest, part, after, names, calendar) else {

@@ -1,6 +1,10 @@
 //! Laws of what is written. The functions do nothing: their contracts are the laws.
 
 ghost use Rattle.written_dates.specs.Laws.{FoundIsLongest, FoundStands, MinusDatesStay, RegisterDatesStay};
+ghost use Rattle.written_dates.specs.ReadLaws.{WeekdaysAgree, WeekdaysOnlyTest, NumberedWeekdays, NothingIsLeftOver, LongNumbersAreYears};
+ghost use Rattle.written_dates.specs.Stops.{OtherWeekdaysStop};
+ghost use Rattle.written_dates.specs.ReadLaws.{MonthsAreMonths, HyphensAreMinuses, MinusesAreNotRead, MinusesStay, YearsOfTheRepublic};
+ghost use Rattle.written_dates.specs.ReadLaws.{DaysStandBehindMonths, RomanNumbersAreMonths};
 
 /// Year, month and day as registers have them stay, whatever the names, where the year is not last and is kept, or has a
 /// minus.
@@ -13,4 +17,33 @@ pub fn register_dates_stay()
 pub fn longest_names()
     ensures longest { FoundIsLongest }
     ensures stands { FoundStands }
+{}
+
+/// Of a text with a weekday only a date is read that is on it, and beside a date it changes nothing else; the second Sunday
+/// of a month is one of its second seven days; and where another weekday is the reason that nothing is read, the text says
+/// a date that is not on it.
+pub fn weekdays_agree()
+    ensures agree { WeekdaysAgree }
+    ensures test { WeekdaysOnlyTest }
+    ensures numbered { NumberedWeekdays }
+    ensures other { OtherWeekdaysStop }
+{}
+
+/// Each number and each month of a text of which a date is read is a part of this date; a number of four digits is its
+/// year and a month by name its month; behind a month the day stands before the year; a Roman number between two others is
+/// the month; and the French Republic had no year over 99.
+pub fn nothing_is_left_over()
+    ensures used { NothingIsLeftOver }
+    ensures years { LongNumbersAreYears }
+    ensures months { MonthsAreMonths }
+    ensures days { DaysStandBehindMonths }
+    ensures roman { RomanNumbersAreMonths }
+    ensures republic { YearsOfTheRepublic }
+{}
+
+/// A text in which a minus may stand is never read, and stays.
+pub fn minuses_stay()
+    ensures found { HyphensAreMinuses }
+    ensures unread { MinusesAreNotRead }
+    ensures stays { MinusesStay }
 {}

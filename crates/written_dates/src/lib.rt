@@ -2,6 +2,7 @@
 #![tactic(auto)]
 
 mod calendars;
+mod feast_rules;
 mod fields;
 mod items;
 mod keyed_names;
@@ -12,14 +13,17 @@ mod parts;
 mod roman;
 mod rules;
 mod signs;
+mod stops;
 mod tokens;
 mod unknown;
+mod weekdays;
 mod written;
 
 pub use fields::{CalendarName, CalendarNames, CalendarNamesError, without_blanks};
-pub use meanings::{Calendars, Mark, Meaning, Name};
+pub use meanings::{Calendars, Mark, Meaning, Name, Relation};
 pub use names::{ListFault, NameFault, Names, NamesError};
 pub use roman::roman_number;
 pub use rules::Order;
+pub use stops::{Stop, stop_of};
 pub use unknown::unknown_word;
 pub use written::{Choice, Short, write_date};

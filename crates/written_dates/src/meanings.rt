@@ -3,7 +3,9 @@
 ghost use Rattle.std.specs.Prelude.{◌≡◌, true, false, get_or, slice_set};
 
 use crate::calendars::{CALENDARS, place_of};
+use church_year::{Feast, Season};
 use date_texts::Calendar;
+use day_numbers::Weekday;
 
 /// The day of a Roman month that a date counts back from.
 #[derive(Clone, Copy, PartialEq, Eq)]
@@ -14,6 +16,21 @@ pub enum Mark {
     Nones,
     /// The thirteenth or fifteenth day.
     Ides,
+}
+
+/// Which day is meant where a feast is named.
+#[derive(Clone, Copy, PartialEq, Eq)]
+pub enum Relation {
+    /// The first day of a weekday after it, or the Sunday of a number after it.
+    After,
+    /// The last day of a weekday before it.
+    Before,
+    /// The day before it.
+    Eve,
+    /// The day after it.
+    Morrow,
+    /// The day seven days after it.
+    Octave,
 }
 
 /// What a name means in a date.
@@ -27,6 +44,14 @@ pub enum Meaning {
     Number(u32),
     /// A mark.
     Mark(Mark),
+    /// A day of the week.
+    Weekday(Weekday),
+    /// Which day is meant where a feast is named.
+    Relation(Relation),
+    /// A feast.
+    Feast(Feast),
+    /// Sundays that are numbered.
+    Sundays(Season),
 }
 
 /// The calendars in which a name means something.

@@ -8,12 +8,14 @@ ghost use Rattle.written_dates.specs.Keys.{IsIndexed, ahead, place_from, key, ke
 ghost use Rattle.written_dates.specs.Names.{conflict as conflict_spec, same_name as same_name_spec};
 ghost use Rattle.written_dates.specs.Names.{share_calendar as share_spec, same_meaning as same_meaning_spec};
 ghost use Rattle.written_dates.specs.Names.{same_mark as same_mark_spec, is_meaning as is_meaning_spec};
+ghost use Rattle.written_dates.specs.Names.{number_of_relation as relation_spec};
 ghost use Rattle.written_dates.specs.Names.{fault_of, first_fault};
 ghost use Rattle.written_dates.specs.Parts.{parts};
 
-use crate::meanings::{Mark, Meaning, Name};
+use crate::meanings::{Mark, Meaning, Name, Relation};
 use crate::parts::{next_part, stands};
 use crate::signs::signs_of;
+use church_year::{is_same_feast, number_of_season, number_of_weekday};
 use date_texts::Calendar;
 use date_texts::laws::all_calendars;
 use std::alloc::{AllocError, Global};
@@ -93,6 +95,18 @@ fn same_mark(a: Mark, b: Mark) -> bool
     }
 }
 
+fn number_of_relation(relation: Relation) -> u8
+    ensures { result ≡ relation_spec relation }
+{
+    match relation {
+        Relation::After => 0,
+        Relation::Before => 1,
+        Relation::Eve => 2,
+        Relation::Morrow => 3,
+        Relation::Octave => 4,
+    }
+}
+
 fn same_meaning(a: Meaning, b: Meaning) -> bool
     ensures { result ≡ same_meaning_spec a b }
 {
@@ -101,6 +115,12 @@ fn same_meaning(a: Meaning, b: Meaning) -> bool
         (Meaning::Month(a), Meaning::Month(b)) => a == b,
         (Meaning::Number(a), Meaning::Number(b)) => a == b,
         (Meaning::Mark(a), Meaning::Mark(b)) => same_mark(a, b),
+        (Meaning::Weekday(a), Meaning::Weekday(b)) => number_of_weekday(a) == number_of_weekday(b),
+        (Meaning::Relation(a), Meaning::Relation(b)) => {
+            number_of_relation(a) == number_of_relation(b)
+        }
+        (Meaning::Feast(a), Meaning::Feast(b)) => is_same_feast(a, b),
+        (Meaning::Sundays(a), Meaning::Sundays(b)) => number_of_season(a) == number_of_season(b),
         _ => false,
     }
 }

@@ -1,13 +1,19 @@
 //! What numbers, months and marks say together.
 
 ghost use Rattle.std.specs.Prelude.{◌≡◌};
-ghost use Rattle.written_dates.specs.Rules.{is_long as long_spec, in_digits as digits_spec, in_order as order_spec};
-ghost use Rattle.written_dates.specs.Rules.{month_between as between_spec};
+ghost use Rattle.written_dates.specs.FeastRules.{feast_naming};
+ghost use Rattle.written_dates.specs.Rules.{in_digits as digits_spec, civil as civil_spec, in_order as order_spec};
+ghost use Rattle.written_dates.specs.Rules.{month_between as between_spec, is_month_between as is_between_spec};
 ghost use Rattle.written_dates.specs.Rules.{month_in_front as front_spec, three_numbers as three_spec, civil_reading};
+ghost use Rattle.written_dates.specs.Rules.{plain_reading, beside_weekday as beside_spec, named_reading};
+ghost use Rattle.written_dates.specs.Rules.{weekday_in_month as in_month_spec};
 ghost use Rattle.written_dates.specs.Rules.{charter_year as charter_spec, roman_reading, is_year_first as first_spec};
 
-use crate::items::{Item, Number};
+use crate::feast_rules::naming_of;
+use crate::items::{Item, Number, is_long};
 use crate::meanings::Mark;
+use church_year::{Feast, Place};
+use day_numbers::Weekday;
 
 /// In which order a year, a month and a day stand.
 #[derive(Clone, Copy, PartialEq, Eq)]
@@ -20,20 +26,24 @@ pub enum Order {
     MonthFirst,
 }
 
+/// How a day is named in its year.
+#[derive(Clone, Copy)]
+pub(crate) enum InYear {
+    /// A month and a day.
+    Day(u32, u32),
+    /// The weekday of a number in a month: the number, the weekday and the month.
+    NumberedWeekday(u32, Weekday, u32),
+    /// A feast, and which day beside it.
+    Feast(Feast, Place),
+}
+
 /// What a text says.
 #[derive(Clone, Copy)]
 pub(crate) enum Reading {
-    /// A year, a month and a day.
-    Civil(Number, u32, u32),
+    /// A year, and a day in it.
+    Civil(Number, InYear),
     /// A year, a month, a mark and a count.
     Roman(u64, u32, Mark, u32),
-}
-
-/// Whether a number can be no day and no month.
-pub(crate) fn is_long(number: Number) -> bool
-    ensures { result ≡ long_spec number }
-{
-    number.digits >= 3 || (number.digits == 0 && number.value >= 100)
 }
 
 /// Whether a number stands in digits, and not as a Roman one or a name.
@@ -52,13 +62,19 @@ pub(crate) fn is_year_first(order: Order) -> bool
     }
 }
 
+fn civil(year: Number, month: u32, day: u32) -> Option<Reading>
+    ensures { result ≡ civil_spec year month day }
+{
+    Some(Reading::Civil(year, InYear::Day(month, day)))
+}
+
 fn in_order(order: Order, a: Number, b: Number, c: Number) -> Option<Reading>
     ensures { result ≡ order_spec order a b c }
 {
     match order {
-        Order::YearFirst => Some(Reading::Civil(a, b.value, c.value)),
-        Order::DayFirst => Some(Reading::Civil(c, b.value, a.value)),
-        Order::MonthFirst => Some(Reading::Civil(c, a.value, b.value)),
+        Order::YearFirst => civil(a, b.value, c.value),
+        Order::DayFirst => civil(c, b.value, a.value),
+        Order::MonthFirst => civil(c, a.value, b.value),
     }
 }
 
@@ -68,22 +84,27 @@ fn month_between(order: Order, a: Number, month: u32, c: Number) -> Option<Readi
     if is_long(a) && is_long(c) {
         None
     } else if is_long(a) || (!is_long(c) && is_year_first(order)) {
-        Some(Reading::Civil(a, month, c.value))
+        civil(a, month, c.value)
     } else {
-        Some(Reading::Civil(c, month, a.value))
+        civil(c, month, a.value)
     }
 }
 
 fn month_in_front(month: u32, a: Number, c: Number) -> Option<Reading>
     ensures { result ≡ front_spec month a c }
 {
-    if is_long(a) && is_long(c) {
+    if is_long(a) {
         None
-    } else if is_long(a) {
-        Some(Reading::Civil(a, month, c.value))
     } else {
-        Some(Reading::Civil(c, month, a.value))
+        civil(c, month, a.value)
     }
+}
+
+/// Whether the middle one of three numbers is the month, being the only Roman one.
+fn is_month_between(a: Number, b: Number, c: Number) -> bool
+    ensures { result ≡ is_between_spec a b c }
+{
+    in_digits(a) && !in_digits(b) && in_digits(c)
 }
 
 fn three_numbers(dashes: bool, order: Order, a: Number, b: Number, c: Number) -> Option<Reading>
@@ -91,6 +112,8 @@ fn three_numbers(dashes: bool, order: Order, a: Number, b: Number, c: Number) ->
 {
     if is_long(b) || (is_long(a) && is_long(c)) {
         None
+    } else if is_month_between(a, b, c) {
+        month_between(order, a, b.value, c)
     } else if is_long(a) {
         in_order(Order::YearFirst, a, b, c)
     } else if is_long(c) {
@@ -106,9 +129,9 @@ fn three_numbers(dashes: bool, order: Order, a: Number, b: Number, c: Number) ->
     }
 }
 
-/// What items say as a year, a month and a day.
-pub(crate) fn civil_of(dashes: bool, order: Order, items: &[Item]) -> Option<Reading>
-    ensures { result ≡ civil_reading dashes order items.now }
+/// What three items say as a year, a month and a day.
+fn plain_of(dashes: bool, order: Order, items: &[Item]) -> Option<Reading>
+    ensures { result ≡ plain_reading dashes order items.now }
 {
     let [first, second, Item::Number(c)] = items else {
         return None;
@@ -118,6 +141,63 @@ pub(crate) fn civil_of(dashes: bool, order: Order, items: &[Item]) -> Option<Rea
         (Item::Month(m), Item::Number(a)) => month_in_front(*m as u32, *a, *c),
         (Item::Number(a), Item::Number(b)) => three_numbers(dashes, order, *a, *b, *c),
         _ => None,
+    }
+}
+
+/// The items behind a weekday, or three items before one.
+fn beside_weekday(items: &[Item]) -> &[Item]
+    ensures { result.now ≡ beside_spec items.now }
+{
+    match items {
+        [Item::Weekday(_), ..] => &items[1..],
+        [_, _, _, Item::Weekday(_)] => &items[..3],
+        _ => items,
+    }
+}
+
+/// The weekday of a number in a month, and the year.
+fn weekday_in_month(items: &[Item]) -> Option<Reading>
+    ensures { result ≡ in_month_spec items.now }
+{
+    match items {
+        [
+            Item::Number(n),
+            Item::Weekday(weekday),
+            Item::Month(m),
+            Item::Number(year),
+        ] => {
+            if is_long(*n) {
+                return None;
+            }
+            Some(Reading::Civil(*year, InYear::NumberedWeekday(n.value, *weekday, *m as u32)))
+        }
+        _ => None,
+    }
+}
+
+/// What items say as a day that is named by a feast.
+fn named_of(items: &[Item]) -> Option<Reading>
+    ensures { result ≡ named_reading (feast_naming items.now) }
+{
+    match naming_of(items) {
+        Some(naming) => Some(Reading::Civil(
+            naming.year,
+            InYear::Feast(naming.feast, naming.place),
+        )),
+        None => None,
+    }
+}
+
+/// What items say as a day of a year.
+pub(crate) fn civil_of(dashes: bool, order: Order, items: &[Item]) -> Option<Reading>
+    ensures { result ≡ civil_reading dashes order items.now }
+{
+    match plain_of(dashes, order, beside_weekday(items)) {
+        Some(reading) => Some(reading),
+        None => match weekday_in_month(items) {
+            Some(reading) => Some(reading),
+            None => named_of(items),
+        },
     }
 }
 

@@ -1,10 +1,12 @@
 //! What the signs of a text say, and dates as registers have them.
 
-ghost use Rattle.std.specs.Prelude.{◌≡◌, ◌≤◌, ◌<◌, ◌∷◌, [], length, Some, None, ℕ, List, Option};
+ghost use Rattle.std.specs.Prelude.{◌≡◌, ◌&&◌, ◌≤◌, ◌<◌, ◌∷◌, [], length, Some, None, ℕ, List, Option};
 ghost use Rattle.std.specs.List.{count_by};
 ghost use Rattle.written_dates.specs.Tokens.{tokens};
 ghost use Rattle.written_dates.specs.Signs.{is_sign as sign_spec, is_dash as dash_spec, is_other as other_spec};
-ghost use Rattle.written_dates.specs.Signs.{has_other, has_two_dashes, bare as bare_spec, begins_with_dash as begins_spec};
+ghost use Rattle.written_dates.specs.Signs.{has_two_dashes, bare as bare_spec, begins_with_dash as begins_spec};
+ghost use Rattle.written_dates.specs.Signs.{is_digit as digit_spec, begins_with_digit as begins_digit_spec};
+ghost use Rattle.written_dates.specs.Signs.{is_between as between_spec, has_other, has_minus};
 ghost use Rattle.written_dates.specs.Signs.{digits_first as digits_spec, behind_hyphen as hyphen_spec};
 ghost use Rattle.written_dates.specs.Signs.{three_runs as runs_spec};
 ghost use Rattle.written_dates.specs.Signs.{runs_behind_minus as minus_spec};
@@ -58,22 +60,63 @@ pub(crate) fn may_be_blank(byte: u8) -> bool
     byte == b' ' || byte == b'\t' || byte == b'\n' || byte == b'\r' || byte >= 128
 }
 
-/// Whether a character stands in a text that no date has, and whether two dashes are its only signs.
-pub(crate) fn signs_of(text: &[u8]) -> (bool, bool)
+fn is_digit(kind: Kind) -> bool
+    ensures { result ≡ digit_spec kind }
+{
+    match kind {
+        Kind::Digit => true,
+        _ => false,
+    }
+}
+
+/// Whether such a character parts what stands between: a blank or a sign.
+fn is_between(kind: Kind) -> bool
+    ensures { result ≡ between_spec kind }
+{
+    match kind {
+        Kind::Blank => true,
+        _ => is_sign(kind),
+    }
+}
+
+/// Whether digits are in front.
+fn begins_with_digit(text: &[u8]) -> bool
+    ensures { result ≡ begins_digit_spec (tokens 0 text.now) }
+{
+    match next_token(text) {
+        Some((token, _)) => is_digit(token.kind),
+        None => false,
+    }
+}
+
+/// Whether a token may be a minus, behind a token of a kind and before the text that follows.
+fn is_minus(before: Kind, kind: Kind, after: &[u8]) -> bool
+    ensures { result ≡ (between_spec before && dash_spec kind && begins_digit_spec (tokens 0 after.now)) }
+{
+    is_between(before) && is_dash(kind) && begins_with_digit(after)
+}
+
+/// Whether a character stands in a text that no date has, whether a minus may, and whether two dashes are its only signs.
+pub(crate) fn signs_of(text: &[u8]) -> (bool, bool, bool)
     ensures other { result.0 ≡ has_other (tokens 0 text.now) }
-    ensures dashes { result.1 ≡ has_two_dashes (tokens 0 text.now) }
+    ensures minus { result.1 ≡ has_minus (tokens 0 text.now) }
+    ensures dashes { result.2 ≡ has_two_dashes (tokens 0 text.now) }
 {
     let mut other = false;
+    let mut minus = false;
     let mut dashes: usize = 0;
     let mut signs: usize = 0;
+    let mut before = Kind::Blank;
     let mut rest = text;
     'tokens: while let Some((token, after)) = next_token(rest) {
         other |= is_other(token.kind);
+        minus |= is_minus(before, token.kind, after);
         dashes += is_dash(token.kind) as usize;
         signs += is_sign(token.kind) as usize;
+        before = token.kind;
         rest = after;
     }
-    (other, signs == 2 && dashes == 2)
+    (other, minus, signs == 2 && dashes == 2)
 }
 
 /// The text from the first token on that is no blank.

@@ -1,20 +1,30 @@
 //! What is written for a text.
 
-ghost use Rattle.std.specs.Prelude.{◌≡◌, ◌++◌, ◌∷◌, ◌+◌, OnOk, Option};
+ghost use Rattle.std.specs.Prelude.{◌≡◌, ◌++◌, ◌∷◌, ◌+◌, OnOk, Option, Some};
 ghost use Rattle.std.specs.Fmt.{decimal};
+ghost use Rattle.std.specs.List.{list_all};
+ghost use Rattle.written_dates.specs.Calendars.{form as form_spec};
 ghost use Rattle.written_dates.specs.Tokens.{tokens};
 ghost use Rattle.written_dates.specs.Signs.{three_runs as runs_spec, runs_behind_minus as minus_spec};
 ghost use Rattle.written_dates.specs.SignViews.{seen_runs};
-ghost use Rattle.written_dates.specs.Written.{short_rule as rule_spec, joined, dated, letter, said, stood, numbers};
-ghost use Rattle.written_dates.specs.Written.{reading as reading_spec, is_turned as turned_spec, unless_turned};
+ghost use Rattle.written_dates.specs.Written.{short_rule as rule_spec, joined, dated, letter, stood, numbers};
+ghost use Rattle.written_dates.specs.Written.{is_turned as turned_spec, unless_turned};
+ghost use Rattle.written_dates.specs.Written.{church_of as church_spec, feast_of as feast_spec};
+ghost use Rattle.written_dates.specs.Written.{month_and_day as month_and_day_spec, has_year as has_year_spec};
+ghost use Rattle.written_dates.specs.Written.{date_in as date_in_spec, date_of as date_spec, agrees as agrees_spec};
+ghost use Rattle.written_dates.specs.Written.{if_agreed as agreed_spec, reading_by, items_answer as items_answer_spec};
+ghost use Rattle.written_dates.specs.Written.{answer as answer_spec, answer_text};
+ghost use Rattle.church_year.specs.FeastDates.{feast_date_in};
 ghost use Rattle.written_dates.specs.Written.{written_by, written as written_spec};
 
 use crate::calendars::{Form, form_of};
-use crate::items::{Number, items_of, number_of_digits};
+use crate::items::{Item, Number, items_of, number_of_digits};
 use crate::meanings::Mark;
 use crate::names::Names;
-use crate::rules::{Order, Reading, civil_of, is_year_first, roman_of};
+use crate::rules::{InYear, Order, Reading, civil_of, is_year_first, roman_of};
 use crate::signs::{begins_with_dash, runs_behind_minus, signs_of, three_runs};
+use crate::weekdays::{is_on, numbered_weekday};
+use church_year::{Church, Feast, Place, feast_date};
 use date_texts::Calendar;
 use itoa::Buffer;
 use std::alloc::AllocError;
@@ -41,6 +51,21 @@ pub struct Choice {
     pub short_hebrew_years: Short,
     /// Whether the year of a Roman date is that of its day.
     pub charters: bool,
+}
+
+/// What is found in a text.
+#[derive(Clone, Copy)]
+pub(crate) enum Answer {
+    /// No date: the text stays.
+    Stays,
+    /// A date that is not on a weekday which stands in the text too: the text stays.
+    OtherWeekday,
+    /// A date whose year is short, where these are refused.
+    Refused,
+    /// A year, a month and a day.
+    Date(u64, u32, u32),
+    /// A year, a month, a mark and a count.
+    RomanDate(u64, u32, Mark, u32),
 }
 
 fn short_rule(choice: &Choice, calendar: Calendar, year: Number) -> Short
@@ -90,25 +115,6 @@ fn push_dated(out: &mut Vec<u8>, year: u64, month: u32, day: u32) -> Result<(), 
         month_buffer.format(month).as_bytes(),
         day_buffer.format(day).as_bytes(),
     )
-}
-
-/// What a text says.
-#[tactic(auto, unfolding(crate::specs::Written::reading))]
-fn reading_of(choice: &Choice, calendar: Calendar, names: &Names, text: &[u8]) -> Option<Reading>
-    ensures { result ≡ reading_spec choice.now calendar names.now.listed.now text.now }
-{
-    let (other, dashes) = signs_of(text);
-    if other || begins_with_dash(text) {
-        return None;
-    }
-    match items_of(text, names, calendar) {
-        None => None,
-        Some(found) => match form_of(calendar) {
-            Form::Civil => civil_of(dashes, choice.order, found.as_slice()),
-            Form::Roman => roman_of(choice.charters, found.as_slice()),
-            Form::Other => None,
-        },
-    }
 }
 
 /// Whether the year is last of three runs of digits that a register would have first.
@@ -163,27 +169,179 @@ fn push_roman(
     Ok(())
 }
 
-/// Appends what is written for what a text says.
-fn push_said(
-    out: &mut Vec<u8>,
-    choice: &Choice,
-    calendar: Calendar,
-    text: &[u8],
-    reading: Option<Reading>,
-) -> Result<(), AllocError>
-    ensures { OnOk result (out.new.items ≡ out.old.items ++ said choice.now calendar text.now reading) }
+/// The church that reckons in a calendar.
+fn church_of(calendar: Calendar) -> Option<Church>
+    ensures { result ≡ church_spec calendar }
+{
+    match calendar {
+        Calendar::Gregorian => Some(Church::Gregorian),
+        Calendar::Julian => Some(Church::Julian),
+        _ => None,
+    }
+}
+
+/// The month and the day of a day named by a feast, where the year, which may be any number, has it.
+#[tactic(auto, using(crate::proofs::FeastRuleLemmas::never_named))]
+fn feast_in(church: Church, year: u64, feast: Feast, place: Place) -> Option<(u8, u8)>
+    ensures { result ≡ feast_date_in church year feast place }
+{
+    if year > 9_999 {
+        return None;
+    }
+    match feast_date(church, year as u16, feast, place) {
+        Some(date) => Some((date.month(), date.day())),
+        None => None,
+    }
+}
+
+/// The same in the church of a calendar, if one reckons in it.
+fn feast_of(church: Option<Church>, year: u64, feast: Feast, place: Place) -> Option<(u32, u32)>
+    ensures { result ≡ feast_spec church year feast place }
+{
+    let church = church?;
+    match feast_in(church, year, feast, place) {
+        Some((month, day)) => Some((month as u32, day as u32)),
+        None => None,
+    }
+}
+
+/// The month and the day of a day that is named in a year.
+fn month_and_day(calendar: Calendar, year: u64, day: InYear) -> Option<(u32, u32)>
+    ensures { result ≡ month_and_day_spec calendar year day }
+{
+    match day {
+        InYear::Day(month, day) => Some((month, day)),
+        InYear::NumberedWeekday(number, weekday, month) => {
+            match numbered_weekday(calendar, year, month, weekday, number) {
+                Some(day) => Some((month, day)),
+                None => None,
+            }
+        }
+        InYear::Feast(feast, place) => feast_of(church_of(calendar), year, feast, place),
+    }
+}
+
+/// Whether a calendar can have a year in words.
+fn has_year(calendar: Calendar, year: u64) -> bool
+    ensures { result ≡ has_year_spec calendar year }
+{
+    match calendar {
+        Calendar::French | Calendar::Republican => year <= 99,
+        _ => true,
+    }
+}
+
+/// The date of a day that is named in this year.
+fn date_in(calendar: Calendar, year: u64, day: InYear) -> Answer
+    ensures { result ≡ date_in_spec calendar year day }
+{
+    if !has_year(calendar, year) {
+        return Answer::Stays;
+    }
+    match month_and_day(calendar, year, day) {
+        Some((month, day)) => Answer::Date(year, month, day),
+        None => Answer::Stays,
+    }
+}
+
+/// The date that a reading says.
+fn date_of(choice: &Choice, calendar: Calendar, reading: Option<Reading>) -> Answer
+    ensures { result ≡ date_spec choice.now calendar reading }
 {
     match reading {
-        None => {
+        None => Answer::Stays,
+        Some(Reading::Civil(year, day)) => match short_rule(choice, calendar, year) {
+            Short::Refuse => Answer::Refused,
+            Short::Keep => date_in(calendar, year.value as u64, day),
+            Short::Add(more) => date_in(calendar, year.value as u64 + more as u64, day),
+        },
+        Some(Reading::Roman(year, month, mark, count)) => {
+            Answer::RomanDate(year, month, mark, count)
+        }
+    }
+}
+
+/// Whether a weekday that is named is that of a date.
+fn agrees(calendar: Calendar, year: u64, month: u32, day: u32, item: Item) -> bool
+    ensures { result ≡ agrees_spec calendar year month day item }
+{
+    match item {
+        Item::Weekday(weekday) => is_on(calendar, year, month, day, weekday),
+        _ => true,
+    }
+}
+
+/// Whether every weekday among the items is that of a date.
+fn all_agree(calendar: Calendar, year: u64, month: u32, day: u32, items: &[Item]) -> bool
+    ensures { result ≡ list_all (agrees_spec calendar year month day) items.now }
+{
+    items
+        .iter()
+        .all(|item| agrees(calendar, year, month, day, *item))
+}
+
+/// What is found, if every weekday among the items is that of the date.
+fn if_agreed(calendar: Calendar, items: &[Item], answer: Answer) -> Answer
+    ensures { result ≡ agreed_spec calendar items.now answer }
+{
+    match answer {
+        Answer::Date(year, month, day) => {
+            if all_agree(calendar, year, month, day, items) {
+                Answer::Date(year, month, day)
+            } else {
+                Answer::OtherWeekday
+            }
+        }
+        _ => answer,
+    }
+}
+
+/// What items say in a calendar.
+fn reading_of(choice: &Choice, calendar: Calendar, dashes: bool, items: &[Item]) -> Option<Reading>
+    ensures { result ≡ reading_by (form_spec calendar) choice.now dashes items.now }
+{
+    match form_of(calendar) {
+        Form::Civil => civil_of(dashes, choice.order, items),
+        Form::Roman => roman_of(choice.charters, items),
+        Form::Other => None,
+    }
+}
+
+/// The date that items say.
+fn items_answer(choice: &Choice, calendar: Calendar, dashes: bool, items: &[Item]) -> Answer
+    ensures { result ≡ items_answer_spec choice.now calendar dashes items.now }
+{
+    let reading = reading_of(choice, calendar, dashes, items);
+    if_agreed(calendar, items, date_of(choice, calendar, reading))
+}
+
+/// The date that a text says.
+#[tactic(auto, unfolding(crate::specs::Written::answer))]
+pub(crate) fn answer_of(choice: &Choice, calendar: Calendar, names: &Names, text: &[u8]) -> Answer
+    ensures { result ≡ answer_spec choice.now calendar names.now.listed.now text.now }
+{
+    let (other, minus, dashes) = signs_of(text);
+    if other || minus || begins_with_dash(text) {
+        return Answer::Stays;
+    }
+    match items_of(text, names, calendar) {
+        None => Answer::Stays,
+        Some(found) => items_answer(choice, calendar, dashes, found.as_slice()),
+    }
+}
+
+/// Appends what is written for what a text says.
+fn push_answer(out: &mut Vec<u8>, text: &[u8], answer: Answer) -> Result<(), AllocError>
+    ensures { OnOk result (out.new.items ≡ out.old.items ++ answer_text text.now answer) }
+{
+    match answer {
+        Answer::Stays | Answer::OtherWeekday => {
             out.extend_from_slice(text)?;
             Ok(())
         }
-        Some(Reading::Civil(year, month, day)) => match short_rule(choice, calendar, year) {
-            Short::Refuse => Ok(()),
-            Short::Keep => push_dated(out, year.value as u64, month, day),
-            Short::Add(more) => push_dated(out, year.value as u64 + more as u64, month, day),
-        },
-        Some(Reading::Roman(year, month, mark, count)) => push_roman(out, year, month, mark, count),
+        Answer::Refused => Ok(()),
+        Answer::Date(year, month, day) => push_dated(out, year, month, day),
+        Answer::RomanDate(year, month, mark, count) => push_roman(out, year, month, mark, count),
     }
 }
 
@@ -242,13 +400,7 @@ fn push_civil(
     if let Some((year, month, day)) = standing(choice.order, text) {
         return push_stood(out, choice, calendar, year, month, day);
     }
-    push_said(
-        out,
-        choice,
-        calendar,
-        text,
-        reading_of(choice, calendar, names, text),
-    )
+    push_answer(out, text, answer_of(choice, calendar, names, text))
 }
 
 /// Appends what is written for a date as people write it: the date as registers have it, nothing where its year is short
@@ -275,13 +427,7 @@ pub fn write_date(
     };
     match form_of(calendar) {
         Form::Civil => push_civil(out, choice, calendar, names, text),
-        Form::Roman => push_said(
-            out,
-            choice,
-            calendar,
-            text,
-            reading_of(choice, calendar, names, text),
-        ),
+        Form::Roman => push_answer(out, text, answer_of(choice, calendar, names, text)),
         // Such dates are never read.
         Form::Other => {
             out.extend_from_slice(text)?;

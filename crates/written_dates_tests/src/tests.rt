@@ -1,10 +1,12 @@
 //! Texts, and what is written for them, a line of a table each.
 
+use church_year::{Anchor, Feast, Season};
 use date_texts::{Calendar, calendar_named};
+use day_numbers::Weekday;
 use std::alloc::{AllocError, Global};
 use written_dates::{
-    Calendars, Choice, ListFault, Mark, Meaning, Name, NameFault, Names, NamesError, Order, Short,
-    roman_number, write_date,
+    Calendars, Choice, ListFault, Mark, Meaning, Name, NameFault, Names, NamesError, Order,
+    Relation, Short, Stop, roman_number, stop_of, write_date,
 };
 
 /// Names: a text, what it means, and the calendars in which it does, none for all.
@@ -45,9 +47,52 @@ an||
 er||
 den||
 le||
-Sonntag||
-Di||
-Mi||
+Sonntag|weekday 0|
+Montag|weekday 1|
+Dienstag|weekday 2|
+Mittwoch|weekday 3|
+Donnerstag|weekday 4|
+Freitag|weekday 5|
+Samstag|weekday 6|
+Dom|weekday 0|gregorian julian
+feria secunda|weekday 1|gregorian julian
+Ostern|easter 0|gregorian julian
+Oculi|easter -28|gregorian julian
+Quasimodogeniti|easter 7|gregorian julian
+Trin|easter 56|gregorian julian
+Trinitatis|easter 56|gregorian julian
+Epiph|feast 1-6|gregorian julian
+Michael|feast 9-29|gregorian julian
+Michaelis|feast 9-29|gregorian julian
+Nativitatis|feast 12-25|gregorian julian
+Advent|sundays advent|gregorian julian
+nach|after|gregorian julian
+post|after|gregorian julian
+p|after|gregorian julian
+vor|before|gregorian julian
+vigilia|eve|gregorian julian
+in octava|octave|gregorian julian
+in crastino|morrow|gregorian julian
+in festo||gregorian julian
+S||gregorian julian
+St||gregorian julian
+Mo|weekday 1|
+Di|weekday 2|
+Mi|weekday 3|
+Tuesday|weekday 2|
+dimanche|weekday 0|
+Jan|month 1|gregorian julian roman
+Feb|month 2|gregorian julian roman
+April|month 4|gregorian julian roman
+June|month 6|gregorian julian roman
+Brumaire|month 2|french republican
+im||
+of||
+th||
+nd||
+de||
+e||
+du||
 anno||
 anno domini||
 ";
@@ -60,11 +105,50 @@ fn number_of(text: &str) -> u32 {
     }
 }
 
+/// The days from Easter that a text is, or 0.
+fn days_of(text: &str) -> i16 {
+    match text.parse() {
+        Ok(days) => days,
+        Err(_) => 0,
+    }
+}
+
+fn weekday_of(number: u32) -> Weekday {
+    match number {
+        0 => Weekday::Sunday,
+        1 => Weekday::Monday,
+        2 => Weekday::Tuesday,
+        3 => Weekday::Wednesday,
+        4 => Weekday::Thursday,
+        5 => Weekday::Friday,
+        _ => Weekday::Saturday,
+    }
+}
+
 fn meaning_of(text: &str) -> Meaning {
     if let Some(number) = text.strip_prefix("month ") {
         return Meaning::Month((number_of(number) & 0xFF) as u8);
     }
+    if let Some(days) = text.strip_prefix("easter ") {
+        return Meaning::Feast(Feast::Day(Anchor::Easter, days_of(days)));
+    }
+    if let Some(day) = text.strip_prefix("feast ") {
+        if let Some((month, day)) = day.split_once('-') {
+            let month = (number_of(month) & 0xFF) as u8;
+            let day = (number_of(day) & 0xFF) as u8;
+            return Meaning::Feast(Feast::Day(Anchor::Fixed(month, day), 0));
+        }
+    }
+    if let Some(number) = text.strip_prefix("weekday ") {
+        return Meaning::Weekday(weekday_of(number_of(number)));
+    }
     match text {
+        "sundays advent" => Meaning::Sundays(Season::Advent),
+        "after" => Meaning::Relation(Relation::After),
+        "before" => Meaning::Relation(Relation::Before),
+        "eve" => Meaning::Relation(Relation::Eve),
+        "morrow" => Meaning::Relation(Relation::Morrow),
+        "octave" => Meaning::Relation(Relation::Octave),
         "" => Meaning::Nothing,
         "K" => Meaning::Mark(Mark::Kalends),
         "N" => Meaning::Mark(Mark::Nones),
@@ -136,7 +220,8 @@ May 12, 1806|1806-5-12
 12.\u{202f}5.\u{202f}1806|1806-5-12
 \u{a0}1806-05-12\u{a0}|1806-05-12
 \t1806-05-12\u{202f} |1806-05-12
-1806 -05-12|1806-5-12
+1806 -05-12|=
+1806- 05-12|1806-5-12
 012.05.1806|=
 XII.V.MDCCCVI|1806-5-12
 XII V 1806|1806-5-12
@@ -156,10 +241,13 @@ MDCCCVI.V.XII|1806-5-12
 12. MäRZ 1806|1806-3-12
 12ten Mai 1806|=
 den 12. Mai 1806|1806-5-12
-Sonntag, den 12. Mai 1806|1806-5-12
-Di 12.5.1806|1806-5-12
-DI 12.5.1806|1806-5-12
-Mi, 12 Mai 1806|1806-5-12
+Sonntag, den 12. Mai 1806|=
+Montag, den 12. Mai 1806|1806-5-12
+Di 12.5.1806|=
+Mo 12.5.1806|1806-5-12
+DI 12.5.1806|=
+MO 12.5.1806|1806-5-12
+Mi, 12 Mai 1806|=
 12er Mai 1806|1806-5-12
 le 12 septembre 1806|1806-9-12
 12 7bris 1806|1806-9-12
@@ -198,7 +286,7 @@ Mai 1806 1807|=
 500-12-806|=
 1806-5|=
 1806-5-12-3|=
-1806--5--12|1806-5-12
+1806--5--12|=
 1806-5-12.|1806-5-12
 -44-3-15|=
 \u{a0}-44-3-15 |-44-3-15
@@ -227,7 +315,7 @@ Mai 1806 1807|=
 12. Mai 1806 n. Chr.|=
 Mai 12 13|
 1806 12 Mai|=
-Mai 1806 12|1806-5-12
+Mai 1806 12|=
 12 1806 Mai|=
 12 Mai Mai 1806|=
 #gregorian year refuse refuse day-of-mark
@@ -285,6 +373,56 @@ Mai 1806|=
 12 Mai 1806?|=
 -44-3-15|=
 12. 10bris 1699|1699-12-12
+Dom. Oculi 1699|1699-3-12
+Freitag Oculi 1699|=
+Oculi|=
+Oculi 99|
+Ostern 1712|1712-4-20
+Ostern 0|
+Ostern 10000|=
+in festo S. Michaelis 1389|1389-9-29
+Freitag nach St. Michael 1389|1389-10-1
+Freitag vor St. Michael 1389|1389-9-24
+Freitag Michaelis 1389|=
+feria secunda post Oculi 1431|1431-3-5
+vigilia Nativitatis 1389|1389-12-24
+in crastino Nativitatis 1389|1389-12-26
+in octava Nativitatis 1389|=
+in octava Epiph. 1389|1389-1-13
+2. Sonntag nach Epiph. 1389|1389-1-17
+3 Oculi 1699|=
+3 post Oculi 1699|=
+post Oculi 1699|=
+Ostern Oculi 1699|=
+3 Mai Oculi 1699|=
+1699 Oculi|=
+Freitag in octava Epiph. 1389|=
+#gregorian day 1700 refuse day-of-mark
+Ostern 1712|1712-3-27
+Ostern 12|1712-3-27
+Ostern 1389|=
+Quasimodogeniti 1712|1712-4-3
+Dom. 3 p. Trin. 1723|1723-6-13
+3. Sonntag nach Trinitatis 1723|1723-6-13
+3. Freitag nach Trinitatis 1723|=
+Freitag nach Trinitatis 1723|1723-5-28
+3 p. Trin. 1723|1723-6-13
+27. Sonntag nach Trinitatis 1723|=
+27. Sonntag nach Trinitatis 1731|1731-11-25
+257 p. Trin. 1723|=
+1. Advent 1650|1650-11-27
+Dom. 1 Advent 1650|1650-11-27
+5. Advent 1650|=
+Advent 1650|=
+Montag, 12. Mai 1806|1806-5-12
+12. Mai 1806, Montag|1806-5-12
+Freitag, 12. Mai 1806|=
+12. Mai 1806, Freitag|=
+Freitag Freitag 12. Mai 1806|=
+Mittwoch 12.5.06|1706-5-12
+Freitag 12.5.06|=
+#hebrew day refuse refuse day-of-mark
+Ostern 5507|=
 #french day refuse refuse day-of-mark
 8-2-18|=
 8.2.18|18-2-8
@@ -359,6 +497,137 @@ Kal. Ian. 1499|1499-1-K1
 1 Kal Ian 1499|1499-1-K1
 XVI Kal Mai 1499|1499-5-K16
 IV Non Ian 1499|1499-1-N4
+#julian day refuse refuse day-of-mark
+12th of 5th mo. 1701|=
+Jan 1710/11|=
+1. Sonntag im Mai 1806|1806-5-6
+15.3.-144|=
+15. März -144|=
+15.3.144|144-3-15
+Samstag, 12. Mai 1806|1806-5-12
+Montag, 12. Mai 1806|=
+Feb 1735/6|=
+Mai 1806-12|=
+Donnerstag 29. Feb 1700|1700-2-29
+Freitag 29. Feb 1700|=
+#gregorian day refuse refuse day-of-mark
+1. Sonntag im Mai 1806|1806-5-4
+1. Sonntag Mai 1806|1806-5-4
+Sonntag 1. Mai 1806|=
+Donnerstag 1. Mai 1806|1806-5-1
+Donnerstag, den 1. Mai 1806|1806-5-1
+1. Mai 1806 Donnerstag|1806-5-1
+1. Mai 1806, Sonntag|=
+2nd Tuesday of June 1801|=
+1st Tuesday of June 1801|1801-6-2
+1 Tuesday of June 1801|1801-6-2
+3 Tuesday of June 1801|1801-6-16
+2e dimanche de mai 1790|=
+1e dimanche de mai 1790|1790-5-2
+3e dimanche de mai 1790|1790-5-16
+2e dimanche de mai 1791|1791-5-8
+5. Sonntag im Mai 1790|1790-5-30
+5. Sonntag im Mai 1806|=
+5. Donnerstag Mai 1806|1806-5-29
+5. Mittwoch Mai 1799|1799-5-29
+6. Sonntag im Mai 1806|=
+0 Sonntag im Mai 1806|=
+001 Sonntag im Mai 1806|=
+I. Sonntag im Mai 1806|1806-5-4
+1. Sonntag im Mai 06|
+12. Sonntag Mai 1806|=
+12. Montag Mai 1806|=
+12 Mai Montag 1806|=
+1806 Montag Mai 12|=
+Mai, 1. Sonntag 1806|=
+1. Sonntag 5. 1806|=
+1. Sonntag V 1806|=
+Montag Montag 12. Mai 1806|=
+Montag 12. Mai 1806 Montag|=
+Montag 1806 Mai 12|1806-5-12
+Montag Mai 12 1806|1806-5-12
+Montag, 1806-05-12|1806-5-12
+1806-05-12 Montag|1806-5-12
+Dienstag, 1806-05-12|=
+Montag 31. April 1801|=
+31. April 1801|1801-4-31
+Freitag 31.12.9999|9999-12-31
+Samstag 1.1.10000|=
+Montag 12. 5. 123456789|=
+Montag, Ostern 1712|=
+Sonntag, Ostern 1712|1712-3-27
+Jan 1710/11|=
+Feb 1735/6|=
+Mai 1806-12|=
+Mai 12, 1806|1806-5-12
+Mai 012 1806|=
+Mai C 1806|=
+Mai XII 1806|1806-5-12
+1806/5|=
+15.3.-144|=
+15. März -144|=
+15. März - 144|144-3-15
+15-März-144|144-3-15
+15.3. -144|=
+15.3.\u{2212}144|=
+15.3/\u{2013}144|=
+15 -3 144|=
+15 - 3 - 144|144-3-15
+15,-3,144|=
+12.V.1790|1790-5-12
+003 p. Trin. 1723|=
+#gregorian month refuse refuse day-of-mark
+12.V.1790|1790-5-12
+V.12.1790|1790-5-12
+12.5.1790|1790-12-5
+12 V 1790|1790-5-12
+1790.V.12|1790-5-12
+12.C.1790|=
+12.Mai.1790|1790-5-12
+1. Sonntag im Mai 1806|1806-5-4
+2nd Tuesday of June 1802|1802-6-8
+XII.V.1790|1790-12-5
+#gregorian year refuse refuse day-of-mark
+12.V.1790|1790-5-12
+1790.V.12|1790-5-12
+12. 5. 1790|=
+12 Mai 1790|1790-5-12
+Mai 12 1790|1790-5-12
+1. Sonntag im Mai 1806|1806-5-4
+Mai 1790 12|=
+#gregorian year keep refuse day-of-mark
+8-V-12|8-5-12
+#gregorian month keep refuse day-of-mark
+8-V-12|12-5-8
+#french day refuse refuse day-of-mark
+18 Brumaire 1799|=
+18 Brumaire an VIII|8-2-18
+18 Brumaire 99|99-2-18
+18 Brumaire 100|=
+18.2.1799|=
+1799-2-18|=
+18-2-1799|=
+Montag 15 Ventôse an VI|6-6-15
+Dienstag 15 Ventôse an VI|=
+#republican day refuse refuse day-of-mark
+18 Brumaire 1799|=
+18 Brumaire 8|8-2-18
+18.2.1799|=
+#hebrew day refuse refuse day-of-mark
+Montag 5 Tischri 5507|5507-7-5
+Dienstag 5 Tischri 5507|=
+1 Sonntag Tischri 5507|5507-7-4
+#hebrew day refuse 5000 day-of-mark
+Montag 5 Tischri 507|5507-7-5
+#islamic day refuse refuse day-of-mark
+Freitag 3 Ramadan 1200|1200-9-3
+Sonntag 3 Ramadan 1200|=
+#coptic day refuse refuse day-of-mark
+Mittwoch 1 Thout 1500|1500-1-1
+Montag 1 Thout 1500|=
+#roman day refuse refuse day-of-mark
+Sonntag III. Kal. Nov. 1582|=
+Kal. Ian. -45|=
 #iso day 1800 refuse day-of-mark
 1945-W46-1|=
 12.5.06|=
@@ -452,12 +721,17 @@ fn wrong_by_list<'a>(alloc: Global, list: &str, lines: &'a str) -> Option<&'a st
 }
 
 /// Lists of names, and dates by them. In the second the first of two names holds.
-static LISTED: [(&str, &str); 2] = [
+static LISTED: [(&str, &str); 3] = [
     (NAMES, DATES),
     (
         "Mai|month 4|gregorian\nMai|month 5|\nmai|month 6|",
         "#gregorian day refuse refuse day-of-mark\n12 Mai 1806|1806-4-12\n\
         #julian day refuse refuse day-of-mark\n12 Mai 1806|1806-5-12",
+    ),
+    (
+        "5th mo|month 7|julian\n1st mo|month 3|julian\nmo|weekday 1|julian\nth||\nof||",
+        "#julian month refuse refuse day-of-mark\n12th of 5th mo. 1701|1701-7-12\n\
+        5th mo. 12 1701|1701-7-12\n1st mo. 9th 1701|1701-3-9\n12th of 6th mo. 1701|=",
     ),
 ];
 
@@ -467,6 +741,74 @@ fn texts_become_dates(rt: HostRuntime) {
         let wrong = wrong_by_list(rt.alloc(), list, dates);
         assert!(rt; wrong.is_none(), "at {wrong:?}");
     }
+}
+
+/// Texts, and why no date is read of them in the Gregorian calendar, day first, where short years are refused; `read`
+/// where one is.
+static STOPS: &str = "\
+Sonntag, 12. Mai 1806|OtherWeekday
+Montag, 12. Mai 1806|read
+2. Donnerstag Mai 1799|NoDate
+Montag, Ostern 1712|OtherWeekday
+Sonntag, 31. April 1801|OtherWeekday
+15.3.-144|Minus
+15. März -144|Minus
+- 12. Mai 1806|Minus
+12. Mai 1806?|Character
+12. Mai 18o6|NoDate
+Jan 1710/11|NoDate
+12. Mai 06|ShortYear
+Montag 12.5.06|ShortYear
+12. Mai 1806|read
+";
+
+/// The name of a reason.
+fn name_of_stop(stop: Option<Stop>) -> &'static str {
+    match stop {
+        None => "read",
+        Some(Stop::Character) => "Character",
+        Some(Stop::Minus) => "Minus",
+        Some(Stop::NoDate) => "NoDate",
+        Some(Stop::OtherWeekday) => "OtherWeekday",
+        Some(Stop::ShortYear) => "ShortYear",
+    }
+}
+
+/// Whether the text on a line is not read for the reason that the line says.
+fn is_stopped(names: &Names, line: &str) -> bool {
+    let Some((text, wanted)) = line.split_once('|') else {
+        return false;
+    };
+    let choice = Choice {
+        order: Order::DayFirst,
+        short_years: Short::Refuse,
+        short_hebrew_years: Short::Refuse,
+        charters: false,
+    };
+    let stop = stop_of(text.as_bytes(), Calendar::Gregorian, names, &choice);
+    name_of_stop(stop) == wanted
+}
+
+/// The first line whose text is not read for another reason.
+fn wrong_stop(alloc: Global) -> Option<&'static str> {
+    let Ok(listed) = names_in(alloc, NAMES, '\n') else {
+        return Some("a list in memory");
+    };
+    let Ok(names) = Names::layered(alloc, listed.as_slice()) else {
+        return Some("names in memory");
+    };
+    for line in STOPS.lines() {
+        if !is_stopped(&names, line) {
+            return Some(line);
+        }
+    }
+    None
+}
+
+#[test]
+fn dates_are_stopped(rt: HostRuntime) {
+    let wrong = wrong_stop(rt.alloc());
+    assert!(rt; wrong.is_none(), "at {wrong:?}");
 }
 
 /// Names, as above, with a sign `;` between them, and the first fault of the list, with the place of the name that has

@@ -1,0 +1,21 @@
+use Rattle.written_dates.proofs.ReadLawLemmas.{nothing_is_left_over, long_numbers_are_years, months_are_months, years_of_the_republic}
+use Rattle.written_dates.proofs.ReadLawLemmas.{days_stand_behind_months, roman_numbers_are_months}
+use Rattle.written_dates.proofs.laws.nothing_is_left_over.Goals as goal
+
+pub returns-clause-used : goal.returns-clause-used
+returns-clause-used c = nothing_is_left_over
+
+pub returns-clause-years : goal.returns-clause-years
+returns-clause-years c = long_numbers_are_years
+
+pub returns-clause-months : goal.returns-clause-months
+returns-clause-months c = months_are_months
+
+pub returns-clause-republic : goal.returns-clause-republic
+returns-clause-republic c = years_of_the_republic
+
+pub returns-clause-days : goal.returns-clause-days
+returns-clause-days c = days_stand_behind_months
+
+pub returns-clause-roman : goal.returns-clause-roman
+returns-clause-roman c = roman_numbers_are_months

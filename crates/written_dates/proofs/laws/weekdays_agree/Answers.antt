@@ -1,0 +1,14 @@
+use Rattle.written_dates.proofs.ReadLawLemmas.{weekdays_agree, weekdays_only_test, numbered_weekdays, other_weekdays_stop}
+use Rattle.written_dates.proofs.laws.weekdays_agree.Goals as goal
+
+pub returns-clause-agree : goal.returns-clause-agree
+returns-clause-agree c = weekdays_agree
+
+pub returns-clause-numbered : goal.returns-clause-numbered
+returns-clause-numbered c = numbered_weekdays
+
+pub returns-clause-other : goal.returns-clause-other
+returns-clause-other c = other_weekdays_stop
+
+pub returns-clause-test : goal.returns-clause-test
+returns-clause-test c = weekdays_only_test

@@ -4,7 +4,8 @@ use Rattle.std.proofs.Common.{Bool, IsAscii, IsUtf8, bytes_eq, chars, flat_map, 
 use Rattle.std.proofs.Common.{ap₂}
 use Rattle.std.proofs.lemmas.List.{length-map}
 use Rattle.std.specs.Bool.{beq, Decides}
-use Rattle.std.specs.Cmp.{booleans_Decides}
+use Rattle.std.specs.Cmp.{IsEquivalence, bool_eq_equiv, booleans_Decides}
+use Rattle.std.proofs.lemmas.Cmp.{and_equiv, nat_list_eq_equiv, on_equiv}
 use Rattle.std.specs.Char.{to_ascii_lowercase}
 use Rattle.std.proofs.lemmas.Bool.{and_from, and_parts}
 use Rattle.std.specs.Str.{is_utf8, str_to_ascii_lowercase}
@@ -302,6 +303,10 @@ same_word-Decides a b =
           (flags.0 both.0, texts.0 both.1)),
       λ e. and_from _ _ (flags.1 e.0) (texts.1 e.1),
     )
+
+pub same_word_equiv : IsEquivalence same_word
+unfolding same_word
+same_word_equiv = and_equiv (on_equiv is_folded bool_eq_equiv) (on_equiv folded nat_list_eq_equiv)
 
 -- a test that says the same
 pub by_cases : (x y : Bool) → (x ≡ true → y ≡ true) → (y ≡ true → x ≡ true) → x ≡ y

@@ -1,6 +1,7 @@
 pub mod Sheets
 pub mod Reading
 pub mod LineViews
+pub mod NameMeanings
 pub mod NameLists
 pub mod Choices
 pub mod ChoiceViews

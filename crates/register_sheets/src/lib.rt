@@ -9,6 +9,7 @@ mod asked;
 mod asked_of_sheets;
 mod choices;
 mod converting;
+mod feast_names;
 mod lines;
 mod name_calendars;
 mod name_lists;

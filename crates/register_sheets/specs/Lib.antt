@@ -14,6 +14,7 @@ pub mod Headings
 pub mod AskedOfSheets
 pub mod HeadingViews
 pub mod Registers
+pub mod DateStops
 pub mod UnknownNames
 pub mod UnknownViews
 pub mod FoundViews

@@ -151,15 +151,23 @@ fn blamed(
     }
 }
 
-/// The number of what stops a text by the names of a list, and what is to blame.
-fn stopped(
+/// What stops a text: its number, and what is to blame.
+#[derive(Drop)]
+struct StopFound {
+    number: usize,
+    blame: Vec<u8>,
+}
+
+/// What stops a text by the names of a list.
+fn stop_found(
     alloc: Global,
     text: &[u8],
     calendar: Calendar,
     order: u8,
     list: &NameList,
-) -> Result<(usize, Vec<u8>), AllocError>
-    ensures { IfOk result (λ r. IsStopped list.now.lines.items (choice_by order) calendar text.now r.0 r.1.items) }
+) -> Result<StopFound, AllocError>
+    ensures { IfOk result (λ stop. IsStopped list.now.lines.items (choice_by order) calendar text.now stop.number
+        stop.blame.items) }
 {
     let names = list.names(alloc)?;
     let names = Names::layered(alloc, names.as_slice())?;
@@ -168,7 +176,10 @@ fn stopped(
     write_date(&mut date, text, Some(calendar), &names, &choice)?;
     let stop = stop_in(text, date.as_slice(), calendar, &names, &choice);
     let blame = blamed(alloc, text, calendar, &names, &choice, stop)?;
-    Ok((stop_number(stop), blame))
+    Ok(StopFound {
+        number: stop_number(stop),
+        blame,
+    })
 }
 
 /// Why a date is not read. A number that says nothing is 0.
@@ -221,11 +232,11 @@ pub extern "C" fn date_stop(
             return;
         }
     };
-    if let Ok((stop, blame)) = stopped(alloc, text, calendar, order, &list) {
+    if let Ok(stop) = stop_found(alloc, text, calendar, order, &list) {
         *report = StopReport {
             ending: 0,
-            length: copy_if_fits(blame.as_slice(), buffer),
-            stop,
+            length: copy_if_fits(stop.blame.as_slice(), buffer),
+            stop: stop.number,
         };
     }
 }

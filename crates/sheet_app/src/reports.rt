@@ -216,12 +216,7 @@ fn report_missing<E: Output>(
 }
 
 /// Reports the dates of a sheet with a sign, or a weekday, that is not theirs.
-fn report_signs<E: Output>(
-    alloc: Global,
-    errors: &mut E,
-    name: &str,
-    counts: &ReasonCounts,
-) -> bool
+fn report_signs<E: Output>(alloc: Global, errors: &mut E, name: &str, counts: &ReasonCounts) -> bool
     ensures lines { Says E.Output errors.old errors.new result (sign_lines name.now counts.now) }
     ensures mark { E.own_mark errors.new ≡ E.own_mark errors.old }
 {

@@ -17,8 +17,8 @@ use crate::sheet_faults::{SheetFault, fault_of_columns};
 use csv::ByteRecord;
 use register_records::{Output, send};
 use register_sheets::{
-    AskedByNames, AskedOfSheet, DateColumn, MAX_DATES, NameList, SheetEnd, SheetSetup,
-    UnreadDates, convert_sheet, head_record, unknown_names, write_register,
+    AskedByNames, AskedOfSheet, DateColumn, MAX_DATES, NameList, SheetEnd, SheetSetup, UnreadDates,
+    convert_sheet, head_record, unknown_names, write_register,
 };
 use sheet_arguments::Job;
 use std::alloc::Global;

@@ -71,7 +71,12 @@ fn list_of(alloc: Global, means: &str) -> Result<Result<NameList, NameListFault>
 fn meanings_are_said(rt: HostRuntime) -> Result<(), Fail> {
     for (text, meaning) in SAID {
         let list = list_of(rt.alloc(), text)?;
-        assert!(rt; list.is_ok_and(|list| list.lines.first().is_some_and(|line| line.means == Means::InDates(meaning))));
+        assert!(rt;
+            list.is_ok_and(|list| list
+                .lines
+                .first()
+                .is_some_and(|line| line.means == Means::InDates(meaning)))
+        );
     }
     Ok(())
 }

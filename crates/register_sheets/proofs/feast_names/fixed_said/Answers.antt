@@ -8,9 +8,9 @@ use Rattle.register_sheets.proofs.feast_names.fixed_said.Goals as goal
 pub returns-in_err-month-clause-none : goal.returns-in_err-month-clause-none
 returns-in_err-month-clause-none c none month day days (lm, hm, ld, hd, few, is) =
     let rest = c.in_ok-strip_prefix.field-0.now in
-    let text : rest ≡ decimal month ++ 45 ∷ day_name day days 
+    let text : rest ≡ decimal month ++ 45 ∷ day_name day days
     = (let (n, finds, dropped, len) = c.in_ok-strip_prefix.ensures.cases in
-      dropped ∙ ap (λ (k : ℕ). drop k c.args.field.now) finds.0 ∙ ap (drop 6) is) in
+    dropped ∙ ap (λ (k : ℕ). drop k c.args.field.now) finds.0 ∙ ap (drop 6) is) in
     let lack : Lacks 45 rest
     = rw c.in_err-month.was at (split_parts 45 rest c.split_once.result c.split_once.ensures.cases (omega arith)) in
     absurd (stands 45 (decimal month) (day_name day days) rest text lack)
@@ -18,9 +18,9 @@ returns-in_err-month-clause-none c none month day days (lm, hm, ld, hd, few, is)
 pub returns-in_err-month-2-clause-none : goal.returns-in_err-month-2-clause-none
 returns-in_err-month-2-clause-none c none month day days (lm, hm, ld, hd, few, is) =
     let rest = c.in_ok-strip_prefix.field-0.now in
-    let text : rest ≡ decimal month ++ 45 ∷ day_name day days 
+    let text : rest ≡ decimal month ++ 45 ∷ day_name day days
     = (let (n, finds, dropped, len) = c.in_ok-strip_prefix.ensures.cases in
-      dropped ∙ ap (λ (k : ℕ). drop k c.args.field.now) finds.0 ∙ ap (drop 6) is) in
+    dropped ∙ ap (λ (k : ℕ). drop k c.args.field.now) finds.0 ∙ ap (drop 6) is) in
     let (cut, lack) = rw c.in_ok-month.was at
     (split_parts 45 rest c.split_once.result c.split_once.ensures.cases (omega arith)) in
     let (front, behind) = first_same 45 _ (decimal month) _ (day_name day days) lack
@@ -30,9 +30,9 @@ returns-in_err-month-2-clause-none c none month day days (lm, hm, ld, hd, few, i
 pub returns-in_err-day-clause-none : goal.returns-in_err-day-clause-none
 returns-in_err-day-clause-none c none month day days (lm, hm, ld, hd, few, is) =
     let rest = c.in_ok-strip_prefix.field-0.now in
-    let text : rest ≡ decimal month ++ 45 ∷ day_name day days 
+    let text : rest ≡ decimal month ++ 45 ∷ day_name day days
     = (let (n, finds, dropped, len) = c.in_ok-strip_prefix.ensures.cases in
-      dropped ∙ ap (λ (k : ℕ). drop k c.args.field.now) finds.0 ∙ ap (drop 6) is) in
+    dropped ∙ ap (λ (k : ℕ). drop k c.args.field.now) finds.0 ∙ ap (drop 6) is) in
     let (cut, lack) = rw c.in_ok-month.was at
     (split_parts 45 rest c.split_once.result c.split_once.ensures.cases (omega arith)) in
     let (front, behind) = first_same 45 _ (decimal month) _ (day_name day days) lack

@@ -9,6 +9,6 @@ returns-then-number-least-clause-none c none number (low, high, is) =
     let same : c.in_ok-number.number ≡ number
     = decimal_injective c.in_ok-number.number number (omega arith) (omega arith) (sym c.in_ok-number.ensures.some ∙ is) in
     elim c.then-number-least.branch [
-      then-number-least-via-then-number-least w ↦ absurd (omega arith)
-    | then-number-least-via-else-number-least+then-number-most w ↦ absurd (omega arith)
+      | then-number-least-via-then-number-least w ↦ absurd (omega arith)
+      | then-number-least-via-else-number-least+then-number-most w ↦ absurd (omega arith)
     ]

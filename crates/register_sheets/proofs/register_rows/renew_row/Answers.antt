@@ -14,7 +14,7 @@ returns-clause-unread c =
     let fields = fields_of c.args.record.now in
     let stop = if_stop c.stop_by-stop.result in
     let is : IsStopOf choice (column, fields) stop
-    = subst (λ (called : Option Calendar). IsStopBy choice column fields called stop) c.calendar_of-calendar.ensures.called
+    = subst (λ (called : Option Calendar). IsStopBy choice column fields called stop) c.calendar_of-called.ensures.called
     c.stop_by-stop.ensures in
     let date = c.as_slice-2.ensures.value ∙ c.in_ok-put_date.ensures in
     let short : c.is_emptied.result ≡ is_short choice (column, fields)

@@ -4,11 +4,11 @@ use Rattle.std.specs.Prelude.{Option, None, Some, codes, count_by, filter, get_o
 use Rattle.std.specs.Fmt.{decimal}
 use Rattle.std.specs.List.{AllZip, flat_map, list_any}
 use Rattle.std.specs.Option.{option_eq}
-use Rattle.std.specs.Str.{str_eq_ignore_ascii_case}
 use Rattle.date_texts.specs.Calendars.{calendar_name}
 use Rattle.date_texts.specs.declared.calendar.Calendar.{Calendar}
 use Rattle.register_records.specs.Entries.{Fields, record_limit}
 use Rattle.written_dates.specs.Calendars.{place}
+use Rattle.written_dates.specs.Words.{same_word}
 use Rattle.register_sheets.specs.Choices.{date_text}
 use Rattle.register_sheets.specs.Converted.{below}
 use Rattle.register_sheets.specs.DateStops.{DateStop, IsStopOf, NameStop, SheetDate, count_of, is_for, name_in}
@@ -29,12 +29,12 @@ all_dates choice records = flat_map (dates_of choice) records
 abbrev pub names_in : List (Option DateStop) → List NameStop
 names_in stops = flat_map (λ stop. option_to_list (name_in stop)) stops
 
--- two stops are alike: in the same calendar, with names that are the same with A to Z as small letters
+-- two stops are alike: in the same calendar, with names that are the same to a reader
 abbrev pub is_same : Option Calendar → Option Calendar → Bool
 is_same a b = option_eq (λ x y. place x == place y) a b
 
 abbrev pub is_alike : NameStop → NameStop → Bool
-is_alike a b = is_same a.1 b.1 && str_eq_ignore_ascii_case a.0 b.0
+is_alike a b = is_same a.1 b.1 && same_word a.0 b.0
 
 -- of the stops that are alike the first ones, in order
 abbrev pub firsts : List NameStop → List NameStop

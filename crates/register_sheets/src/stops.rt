@@ -15,7 +15,7 @@ use crate::reasons::{Reason, reason_by};
 use csv::ByteRecord;
 use date_texts::{Calendar, read_date};
 use std::str;
-use written_dates::{Choice, Names, stop_of, unknown_word, without_blanks};
+use written_dates::{Choice, Names, is_same_word, stop_of, unknown_word, without_blanks};
 
 /// A name that is not known, and stopped a date.
 #[derive(Clone, Copy)]
@@ -49,7 +49,7 @@ fn is_same_calendar(a: Option<Calendar>, b: Option<Calendar>) -> bool
 pub(crate) fn is_alike(a: NameStop<'_>, b: NameStop<'_>) -> bool
     ensures { result ≡ is_alike (name_seen a.entry) (name_seen b.entry) }
 {
-    is_same_calendar(a.calendar, b.calendar) && a.name.eq_ignore_ascii_case(b.name)
+    is_same_calendar(a.calendar, b.calendar) && is_same_word(a.name, b.name)
 }
 
 /// Whether a text is no date as registers have it.

@@ -40,6 +40,8 @@ pub(crate) enum Item {
     Mark(Mark),
     /// A day of the week.
     Weekday(Weekday),
+    /// A day of the decade in the calendar of the French Republic.
+    DecadeDay(u8),
     /// Which day is meant where a feast is named.
     Relation(Relation),
     /// A feast.
@@ -150,6 +152,7 @@ fn item_of(meaning: Meaning) -> Option<Item>
         Meaning::Number(value) => Some(Item::Number(Number { value, digits: 0 })),
         Meaning::Mark(mark) => Some(Item::Mark(mark)),
         Meaning::Weekday(weekday) => Some(Item::Weekday(weekday)),
+        Meaning::DecadeDay(number) => Some(Item::DecadeDay(number)),
         Meaning::Relation(relation) => Some(Item::Relation(relation)),
         Meaning::Feast(feast) => Some(Item::Feast(feast)),
         Meaning::Sundays(season) => Some(Item::Sundays(season)),

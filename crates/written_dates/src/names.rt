@@ -27,7 +27,7 @@ pub enum NameFault {
     Character,
     /// It has no number and no word.
     NoWord,
-    /// A month that is not 1 to 13, or a number over 999,999,999.
+    /// A month that is not 1 to 13, a number over 999,999,999, or a day of the decade that is not 1 to 10.
     NoMeaning,
     /// A later name that is the same means another thing in the same calendar.
     TwoMeanings,
@@ -116,6 +116,7 @@ fn same_meaning(a: Meaning, b: Meaning) -> bool
         (Meaning::Number(a), Meaning::Number(b)) => a == b,
         (Meaning::Mark(a), Meaning::Mark(b)) => same_mark(a, b),
         (Meaning::Weekday(a), Meaning::Weekday(b)) => number_of_weekday(a) == number_of_weekday(b),
+        (Meaning::DecadeDay(a), Meaning::DecadeDay(b)) => a == b,
         (Meaning::Relation(a), Meaning::Relation(b)) => {
             number_of_relation(a) == number_of_relation(b)
         }
@@ -131,6 +132,7 @@ fn is_meaning(meaning: Meaning) -> bool
     match meaning {
         Meaning::Month(month) => 1 <= month && month <= 13,
         Meaning::Number(number) => number <= 999_999_999,
+        Meaning::DecadeDay(number) => 1 <= number && number <= 10,
         _ => true,
     }
 }

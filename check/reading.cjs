@@ -3,14 +3,14 @@
 "use strict";
 const { dayOf, dateIn, placed, sundayOf, weekdayOf } = require("./day_counts.cjs");
 
-const WITHOUT_WORDS = ["iso", "longcount"];
+const WITHOUT_WORDS = ["iso", "longcount"], CHURCHES = ["gregorian", "julian"], REPUBLICAN = ["french", "republican"];
 const BLANKS = " \\t\\r\\n\\u00a0\\u202f", DASHES = "\\-\\u2010-\\u2014\\u2212";
 const ENDS = new RegExp(`^[${BLANKS}]+|[${BLANKS}]+$`, "g");
 const OTHER = new RegExp(`[\\x00-\\x7f]`), KNOWN = new RegExp(`[A-Za-z0-9'.,/${DASHES}${BLANKS}]`);
 const PART = new RegExp(`[0-9]+|(?:[A-Za-z']|[^\\x00-\\x7f\\u00a0\\u202f\\u2010-\\u2014\\u2212])+`, "g");
 const BEGINS_WITH_DASH = new RegExp(`^[${DASHES}]`);
 const MINUS = new RegExp(`(?:^|[${BLANKS}.,/${DASHES}])[${DASHES}][0-9]`);
-const JOINED_NUMBERS = new RegExp(`[0-9][${BLANKS}]*[${DASHES}/][${BLANKS}]*[0-9]`);
+const BAR = new RegExp(`[0-9].*[/${DASHES}].*[0-9]`, "s");
 const SIGN = new RegExp(`[.,/${DASHES}]`, "g"), DASH = new RegExp(`[${DASHES}]`);
 
 const bareOf = text => text.replace(ENDS, "");
@@ -96,7 +96,7 @@ function monthBetween(rule, order, a, month, c) {
 }
 
 function monthInFront(text, [{ month }, day, year]) {
-  if (isLong(day) || !isLong(year) && JOINED_NUMBERS.test(text)) return null;
+  if (isLong(day) || !isLong(year) && BAR.test(text)) return null;
   return plain("month in front", year, month, day.value);
 }
 
@@ -162,7 +162,7 @@ function feastFinder(calendar, number, weekday, relation, { feast, season }) {
 
 function byFeast(calendar, items) {
   const parted = /^(wn|nw|w|n|)(r?)([fs])n$/.exec(formOf(items));
-  if (parted === null || !["gregorian", "julian"].includes(calendar)) return null;
+  if (parted === null || !CHURCHES.includes(calendar)) return null;
   const front = items.slice(0, parted[1].length), [last, year] = items.slice(-2);
   const number = front.find(it => "value" in it) || null, weekdays = front.filter(it => "weekday" in it);
   const weekday = weekdays.length > 0 ? weekdays[0].weekday : null;
@@ -193,13 +193,19 @@ function isOnWeekday(calendar, year, { month, day }, weekday) {
   return number !== null && weekdayOf(number) === weekday;
 }
 
+// A month of the Republic has three decades, but for the days behind the last month.
+function isDecadeDay(calendar, year, { month, day }, decade) {
+  const hasDecades = REPUBLICAN.includes(calendar) && month !== 13;
+  return hasDecades && dayOf(calendar, year, month, day) !== null && day % 10 === decade % 10;
+}
+
 // ---- the year, and what is written
 
 const stays = (text, reason) => ({ text, rule: null, reason });
 
 // What is done with a year: it is kept, the date is left empty, or years are added.
 function ruleOf({ value, digits }, choice, calendar) {
-  if (["gregorian", "julian"].includes(calendar) && value < 100 && digits <= 2) return choice.short;
+  if (CHURCHES.includes(calendar) && value < 100 && digits <= 2) return choice.short;
   return calendar === "hebrew" && value < 1000 && digits <= 3 ? choice.hebrew : "k";
 }
 
@@ -238,11 +244,11 @@ function missing(items) {
 function dated(text, calendar, choice, items, { rule, year: number, find }) {
   const year = byYear(number, choice, calendar);
   if (year === null) return stays("", "short year");
-  if (["french", "republican"].includes(calendar) && year > 99) return stays(text, "no such year");
+  if (REPUBLICAN.includes(calendar) && year > 99) return stays(text, "no such year");
   const date = find(year);
   if (date === null) return stays(text, "no date");
   const agrees = item => "weekday" in item ? isOnWeekday(calendar, year, date, item.weekday)
-    : dayOf(calendar, year, date.month, date.day) !== null && date.month !== 13 && date.day % 10 === item.decade % 10;
+    : isDecadeDay(calendar, year, date, item.decade);
   if (!items.filter(isBeside).every(agrees)) return stays(text, "another weekday");
   return { text: `${year}-${date.month}-${date.day}`, rule };
 }

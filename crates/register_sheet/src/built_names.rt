@@ -739,18 +739,18 @@ oku,,\nr,,\ndne,,\ndie,,\nde dato,,\nvan,,\nhet,,\ner,,\nère,,\nere,,\nème,,\n
 ,,\nyear of our Lord,,\nof our Lord,,\nour Lord,,\nJahr,,\nJahre,,\nJahres,,\nnach Christi Geburt,,\nn Chr,,\nanno Dni,\
 ,\nanno salutis,,\nanni,,\nannus,,\nAo Dni,,\nA°,,\nAº,,\njaar,,\njaer,,\ndo ano,,\nano,,\nannée de grâce,,\nl'an de gr\
 âce,,\nl’an de grâce,,\nl'an de grace,,\nl’an de grace,,\nгода,,\nгоду,,\nгодъ,,\nгода от Рождества Христова,,\nг,,\nле\
-та,,\når,,\naar,,\nár,,\nAnno Christi,,\nnell'anno,,\nnell’anno,,\nго,,\nого,,\njour de,,\nдня,,\nчисла,,\ndag,,\nTag d\
-es,,\ndì,,\na dì,,\nadì,,\naddì,,\nde la République,,french republican\nde la Republique,,french republican\nde la Répu\
-blique française,,french republican\nde la République francaise,,french republican\nde la République françoise,,french \
-republican\nde la Republique francaise,,french republican\nde la Republique françoise,,french republican\nde la Republi\
-que francoise,,french republican\nde la République une et indivisible,,french republican\nde la République française un\
-e et indivisible,,french republican\nder Republik,,french republican\nder fränkischen Republik,,french republican\nder \
-französischen Republik,,french republican\nder fränk. Republik,,french republican\nder frz. Republik,,french republican\
-\nrépublicain,,french republican\nrépublicaine,,french republican\nde l'ère républicaine,,french republican\nde l’ère r\
-épublicaine,,french republican\nfestum,,gregorian julian\nfesti,,gregorian julian\nfest,,gregorian julian\nfeast of,,gr\
-egorian julian\nfête de,,gregorian julian\ndivi,,gregorian julian\ndivae,,gregorian julian\nbeate,,gregorian julian\nsa\
-ncte,,gregorian julian\nfesto,,gregorian julian\nin festo,,gregorian julian\nin die,,gregorian julian\nS,,gregorian jul\
-ian\nSankt,,gregorian julian\nsancti,,gregorian julian\nsanctae,,gregorian julian\nbeati,,gregorian julian\nbeatae,,gre\
-gorian julian\napostoli,,gregorian julian\napostolorum,,gregorian julian\nevangelistae,,gregorian julian\narchangeli,,g\
-regorian julian\nten jare,,\n\
+та,,\når,,\naar,,\nár,,\nAnno Christi,,\nnell'anno,,\nnell’anno,,\nго,,\nого,,\nye,,\njour de,,\nдня,,\nчисла,,\ndag,,\
+\nTag des,,\ndì,,\na dì,,\nadì,,\naddì,,\nde la République,,french republican\nde la Republique,,french republican\nde \
+la République française,,french republican\nde la République francaise,,french republican\nde la République françoise,,\
+french republican\nde la Republique francaise,,french republican\nde la Republique françoise,,french republican\nde la \
+Republique francoise,,french republican\nde la République une et indivisible,,french republican\nde la République franç\
+aise une et indivisible,,french republican\nder Republik,,french republican\nder fränkischen Republik,,french republica\
+n\nder französischen Republik,,french republican\nder fränk. Republik,,french republican\nder frz. Republik,,french rep\
+ublican\nrépublicain,,french republican\nrépublicaine,,french republican\nde l'ère républicaine,,french republican\nde \
+l’ère républicaine,,french republican\nfestum,,gregorian julian\nfesti,,gregorian julian\nfest,,gregorian julian\nfeas\
+t of,,gregorian julian\nfête de,,gregorian julian\ndivi,,gregorian julian\ndivae,,gregorian julian\nbeate,,gregorian ju\
+lian\nsancte,,gregorian julian\nfesto,,gregorian julian\nin festo,,gregorian julian\nin die,,gregorian julian\nS,,grego\
+rian julian\nSankt,,gregorian julian\nsancti,,gregorian julian\nsanctae,,gregorian julian\nbeati,,gregorian julian\nbea\
+tae,,gregorian julian\napostoli,,gregorian julian\napostolorum,,gregorian julian\nevangelistae,,gregorian julian\narcha\
+ngeli,,gregorian julian\nten jare,,\n\
 ";

@@ -4,6 +4,7 @@ pub mod FrontLemmas
 pub mod RomanLemmas
 pub mod PartLemmas
 pub mod ItemLemmas
+pub mod SumLemmas
 pub mod UnknownLemmas
 pub mod KeyLemmas
 pub mod KeyedLemmas

@@ -30,9 +30,8 @@ use Rattle.written_dates.specs.declared.written.Short.{Short}
 use Rattle.written_dates.specs.declared.written.Short.TheVariants.{Refuse, Keep, Add}
 use Rattle.written_dates.specs.Calendars.{form}
 use Rattle.written_dates.specs.Tokens.{Piece, tokens}
-use Rattle.written_dates.specs.Parts.{parts}
-use Rattle.written_dates.specs.Items.{items, is_long}
-use Rattle.written_dates.specs.Names.{names_in}
+use Rattle.written_dates.specs.Items.{is_long}
+use Rattle.written_dates.specs.Sums.{found_items}
 use Rattle.written_dates.specs.Signs.{bare, begins_with_dash, has_bar_between, has_minus, has_mixed_signs, has_other, three_runs}
 use Rattle.written_dates.specs.Signs.{runs_behind_minus}
 use Rattle.written_dates.specs.Rules.{beside_weekday, roman_reading, or_reading, civil, month_between, is_year_first, is_month_between}
@@ -71,7 +70,7 @@ says : (choice : Choice) (calendar : Calendar) (names : List Name) (text : List 
     → items_answer choice calendar (tokens 0 text) found ≡ Date y m d
 unfolding answer
 says choice calendar names text found y m d r =
-    found_by (items (names_in calendar names) 0 (parts text))
+    found_by (found_items calendar names text)
     (items_answer choice calendar (tokens 0 text)) found y m d r.has (date_by _ _ y m d r.says)
 
 said : (choice : Choice) (calendar : Calendar) (names : List Name) (text : List ℕ) (y m d : ℕ)
@@ -79,7 +78,7 @@ said : (choice : Choice) (calendar : Calendar) (names : List Name) (text : List 
     → (found : List Item) × (items_answer choice calendar (tokens 0 text) found ≡ Date y m d)
 unfolding answer
 said choice calendar names text y m d e =
-    some_by (items (names_in calendar names) 0 (parts text))
+    some_by (found_items calendar names text)
     (items_answer choice calendar (tokens 0 text)) y m d (date_by _ _ y m d e)
 
 -- ---- the weekdays among the items are those of the date
@@ -771,7 +770,7 @@ unfolding answer
 says_other choice calendar names text e =
     let pieces = tokens 0 text in
     let (found, has, say) =
-    found_other (items (names_in calendar names) 0 (parts text)) (items_answer choice calendar pieces) (other_by _ _ e) in
+    found_other (found_items calendar names text) (items_answer choice calendar pieces) (other_by _ _ e) in
     let reading = reading_by (form calendar) choice pieces found in
     let (y, m, d, date, not_all) =
     disagreed_by calendar found (date_of choice calendar reading) (never_other choice calendar reading) say in
@@ -827,4 +826,4 @@ unfolding stop
 other_weekdays_stop choice calendar names text e =
     says_other choice calendar names text
     (stop_if (has_other (tokens 0 text)) (has_minus (tokens 0 text) || begins_with_dash (bare (tokens 0 text)))
-    (items (names_in calendar names) 0 (parts text)) (answer choice calendar names text) e)
+    (found_items calendar names text) (answer choice calendar names text) e)

@@ -11,15 +11,13 @@ use Rattle.written_dates.specs.declared.written.Answer.{Answer}
 use Rattle.written_dates.specs.declared.written.Answer.TheVariants.{Stays}
 use Rattle.written_dates.specs.declared.written.Choice.{Choice}
 use Rattle.written_dates.specs.Tokens.{Piece, tokens}
-use Rattle.written_dates.specs.Parts.{parts}
-use Rattle.written_dates.specs.Items.{items}
 use Rattle.written_dates.specs.Rules.{plain_reading, beside_weekday, weekday_in_month, civil_reading, roman_reading}
 use Rattle.written_dates.proofs.FeastRuleLemmas.{long_naming}
 use Rattle.written_dates.specs.declared.stops.Stop.TheVariants as stops
 use Rattle.written_dates.specs.Stops.{missing, missing_in}
 use Rattle.date_texts.specs.declared.calendar.Calendar.{Calendar}
 use Rattle.written_dates.specs.Calendars.{form}
-use Rattle.written_dates.specs.Names.{names_in}
+use Rattle.written_dates.specs.Sums.{found_items}
 use Rattle.written_dates.specs.Written.{answer, answer_by, items_answer, reading_by}
 
 beside_rest : (found : List Item) → length found ≤ length (beside_weekday found) + 1
@@ -74,12 +72,12 @@ stays_either true x h = refl
 stays_either false x h = sym h
 
 pub no_answer : (choice : Choice) (calendar : Calendar) (names : List Name) (text : List ℕ)
-    → ((xs : List Item) → items (names_in calendar names) 0 (parts text) ≡ Some xs → 5 < length xs)
+    → ((xs : List Item) → found_items calendar names text ≡ Some xs → 5 < length xs)
     → Stays ≡ answer choice calendar names text
 unfolding answer
 no_answer choice calendar names text h =
     let pieces = tokens 0 text in
-    stays_either _ _ (stays_by (items (names_in calendar names) 0 (parts text)) (items_answer choice calendar pieces)
+    stays_either _ _ (stays_by (found_items calendar names text) (items_answer choice calendar pieces)
     (λ xs e. many_stay choice calendar pieces xs (h xs e)))
 
 other_none : (f : Form) (choice : Choice) (pieces : List Piece) → f ≡ forms.Other
@@ -94,7 +92,7 @@ pub never_read : (choice : Choice) (calendar : Calendar) (names : List Name) (te
 unfolding answer
 never_read choice calendar names text other =
     let pieces = tokens 0 text in
-    sym (stays_either _ _ (stays_by (items (names_in calendar names) 0 (parts text)) (items_answer choice calendar pieces)
+    sym (stays_either _ _ (stays_by (found_items calendar names text) (items_answer choice calendar pieces)
     (λ xs e. rw (other_none (form calendar) choice pieces other xs) refl)))
 
 long_missing : (found : List Item) → 2 < length found → stops.NoDate ≡ missing found

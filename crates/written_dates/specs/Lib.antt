@@ -7,6 +7,8 @@ pub mod FeastRules
 pub mod Rules
 pub mod Calendars
 pub mod Names
+pub mod Sums
+pub mod ItemViews
 pub mod Keys
 pub mod SignViews
 pub mod Fields

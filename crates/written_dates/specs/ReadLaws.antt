@@ -22,18 +22,17 @@ use Rattle.written_dates.specs.declared.rules.InYear.TheVariants as days
 use Rattle.written_dates.specs.declared.written.Answer.TheVariants.{Stays, OtherWeekday, Date}
 use Rattle.written_dates.specs.declared.written.Choice.{Choice}
 use Rattle.written_dates.specs.Tokens.{Piece, kind_of, tokens}
-use Rattle.written_dates.specs.Parts.{parts}
-use Rattle.written_dates.specs.Items.{items, is_long}
-use Rattle.written_dates.specs.Names.{names_in}
+use Rattle.written_dates.specs.Items.{is_long}
 use Rattle.written_dates.specs.Signs.{has_bar_between, has_minus, has_mixed_signs, is_between, three_runs, runs_behind_minus}
 use Rattle.written_dates.specs.Rules.{plain_reading}
+use Rattle.written_dates.specs.Sums.{found_items}
 use Rattle.written_dates.specs.Weekdays.{is_decade_day, is_on, IsOn}
 use Rattle.written_dates.specs.Written.{answer, date_by_rule, date_of, items_answer, short_rule, written}
 
 -- a date is read of a text that has these items, by these names, in this calendar
 pub record IsRead (choice : Choice) (calendar : Calendar) (names : List Name) (text : List ℕ) (found : List Item)
     (year month day : ℕ) : Type 0 where
-  pub has : items (names_in calendar names) 0 (parts text) ≡ Some found
+  pub has : found_items calendar names text ≡ Some found
   pub says : answer choice calendar names text ≡ Date year month day
 
 -- of a text with a weekday only a date is read that is on this weekday, by the calendar's own day numbers

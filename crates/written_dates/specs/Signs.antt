@@ -72,8 +72,9 @@ signs_between (p ∷ rest) = if is_digit p.kind then signs_before_digits rest el
 abbrev pub is_bar : Piece → Bool
 is_bar p = is_dash p.kind || bytes_eq p.text (47 ∷ [])
 
+-- two signs that are not the same, nor both dashes
 abbrev pub is_other_sign : Piece → Piece → Bool
-is_other_sign p q = not (bytes_eq p.text q.text)
+is_other_sign p q = not (bytes_eq p.text q.text) && not (is_dash p.kind && is_dash q.kind)
 
 -- not all are the same
 abbrev pub differ : List Piece → Bool

@@ -13,12 +13,11 @@ use Rattle.written_dates.specs.declared.written.Answer.{Answer}
 use Rattle.written_dates.specs.declared.written.Answer.TheVariants as answers
 use Rattle.written_dates.specs.declared.written.Choice.{Choice}
 use Rattle.written_dates.specs.Tokens.{tokens}
-use Rattle.written_dates.specs.Parts.{parts}
-use Rattle.written_dates.specs.Items.{items, is_long}
-use Rattle.written_dates.specs.Names.{names_in}
+use Rattle.written_dates.specs.Items.{is_long}
 use Rattle.written_dates.specs.ReadLaws.{UsesAll}
 use Rattle.written_dates.specs.Rules.{beside_weekday}
 use Rattle.written_dates.specs.Signs.{bare, begins_with_dash, has_minus, has_other}
+use Rattle.written_dates.specs.Sums.{found_items}
 use Rattle.written_dates.specs.Weekdays.{is_decade_day, is_on}
 use Rattle.written_dates.specs.Written.{answer, date_by_rule, short_rule}
 
@@ -46,7 +45,7 @@ unfoldable pub stop : Choice → Calendar → List Name → List ℕ → Option 
 stop choice calendar names text =
     if has_other (tokens 0 text) then Some stops.Character
     else if has_minus (tokens 0 text) || begins_with_dash (bare (tokens 0 text)) then Some stops.Minus
-    else stop_by (missing_in (items (names_in calendar names) 0 (parts text))) (answer choice calendar names text)
+    else stop_by (missing_in (found_items calendar names text)) (answer choice calendar names text)
 
 -- the year, the month and the day that a text says beside another weekday
 abbrev pub beside_by : Answer → Option (ℕ × ℕ × ℕ)
@@ -62,7 +61,7 @@ IsNotOn calendar year month day item = ⊥
 -- the items say a date, which uses them all, and a weekday among them is not that of this date
 pub record SaysOtherWeekday (choice : Choice) (calendar : Calendar) (names : List Name) (text : List ℕ) : Type 0 where
   pub found : List Item
-  pub has : items (names_in calendar names) 0 (parts text) ≡ Some found
+  pub has : found_items calendar names text ≡ Some found
   pub number : Numeral
   pub in_year : InYear
   pub uses : UsesAll found number in_year

@@ -30,11 +30,10 @@ use Rattle.church_year.specs.declared.feasts.Place.{Place}
 use Rattle.church_year.specs.FeastDates.{feast_date_in}
 use Rattle.written_dates.specs.Calendars.{form}
 use Rattle.written_dates.specs.Tokens.{Piece, tokens}
-use Rattle.written_dates.specs.Parts.{parts}
-use Rattle.written_dates.specs.Items.{items, number_of_digits}
-use Rattle.written_dates.specs.Names.{names_in}
+use Rattle.written_dates.specs.Items.{number_of_digits}
 use Rattle.written_dates.specs.Signs.{◌>>=◌, has_other, has_minus, bare, begins_with_dash, three_runs}
 use Rattle.written_dates.specs.Signs.{runs_behind_minus}
+use Rattle.written_dates.specs.Sums.{found_items}
 use Rattle.written_dates.specs.Weekdays.{is_decade_day, is_on, numbered_weekday}
 use Rattle.written_dates.specs.Rules.{is_year_first, civil_reading, roman_reading}
 
@@ -174,8 +173,7 @@ answer_by (Some found) say = say found
 unfoldable pub answer : Choice → Calendar → List Name → List ℕ → Answer
 answer choice calendar names text =
     if has_other (tokens 0 text) || has_minus (tokens 0 text) || begins_with_dash (bare (tokens 0 text)) then Stays
-    else answer_by (items (names_in calendar names) 0 (parts text))
-    (items_answer choice calendar (tokens 0 text))
+    else answer_by (found_items calendar names text) (items_answer choice calendar (tokens 0 text))
 
 -- where the order is not year first, the last of three runs is long and the first is not, the year is last
 abbrev pub is_turned : Order → List ℕ → List ℕ → Bool

@@ -18,6 +18,13 @@ fn is_bar(token: Token) -> bool
     is_dash(token.kind) || token.text == b"/".as_slice()
 }
 
+/// Whether two signs are not the same, nor both dashes.
+fn is_other_sign(a: Token, b: Token) -> bool
+    ensures { result ≡ other_sign_spec (piece a.entry) (piece b.entry) }
+{
+    a.text != b.text && !(is_dash(a.kind) && is_dash(b.kind))
+}
+
 /// Whether digits stand in a text.
 fn has_digits(text: &[u8]) -> bool
     ensures { result ≡ has_digits_spec (tokens 0 text.now) }
@@ -52,7 +59,7 @@ fn has_other_sign(sign: Token, text: &[u8]) -> bool
 {
     let mut rest = text;
     'tokens: while let Some((token, after)) = next_token(rest) {
-        if is_sign(token.kind) && has_digits(after) && sign.text != token.text {
+        if is_sign(token.kind) && has_digits(after) && is_other_sign(sign, token) {
             return true;
         }
         rest = after;

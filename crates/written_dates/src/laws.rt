@@ -3,6 +3,7 @@
 ghost use Rattle.written_dates.specs.Laws.{FoundIsLongest, FoundStands, MinusDatesStay, RegisterDatesStay};
 ghost use Rattle.written_dates.specs.ReadLaws.{WeekdaysAgree, WeekdaysOnlyTest, NumberedWeekdays, NothingIsLeftOver, LongNumbersAreYears};
 ghost use Rattle.written_dates.specs.Stops.{OtherWeekdaysStop};
+ghost use Rattle.written_dates.specs.Sums.{SumsStay};
 ghost use Rattle.written_dates.specs.ReadLaws.{MonthsAreMonths, HyphensAreMinuses, MinusesAreNotRead, MinusesStay, YearsOfTheRepublic};
 ghost use Rattle.written_dates.specs.ReadLaws.{DaysStandBehindMonths, RomanNumbersAreMonths, DecadeDaysAgree};
 ghost use Rattle.written_dates.specs.ReadLaws.{MixedSignsStay, DaysToDaysStay};
@@ -55,4 +56,9 @@ pub fn minuses_stay()
 pub fn mixed_signs_stay()
     ensures numbers { MixedSignsStay }
     ensures days { DaysToDaysStay }
+{}
+
+/// Where numbers by name are read as one, the sum of all numbers stays.
+pub fn sums_stay()
+    ensures { SumsStay }
 {}

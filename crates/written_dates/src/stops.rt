@@ -1,11 +1,9 @@
 //! Why a date as people write it is not read.
 
 ghost use Rattle.std.specs.Prelude.{◌≡◌};
-ghost use Rattle.written_dates.specs.Items.{items};
-ghost use Rattle.written_dates.specs.Names.{names_in};
-ghost use Rattle.written_dates.specs.Parts.{parts};
 ghost use Rattle.written_dates.specs.Stops.{stop as stop_spec, stop_by as by_spec, beside_by};
 ghost use Rattle.written_dates.specs.Stops.{missing as missing_spec, missing_in as missing_in_spec};
+ghost use Rattle.written_dates.specs.Sums.{found_items};
 ghost use Rattle.written_dates.specs.Written.{answer};
 
 use crate::items::{Item, is_long, items_of};
@@ -55,7 +53,7 @@ fn missing(items: &[Item]) -> Stop
 
 /// What is missing in a text that says no date.
 fn missing_in(text: &[u8], names: &Names, calendar: Calendar) -> Stop
-    ensures { result ≡ missing_in_spec (items (names_in calendar names.now.listed.now) 0 (parts text.now)) }
+    ensures { result ≡ missing_in_spec (found_items calendar names.now.listed.now text.now) }
 {
     match items_of(text, names, calendar) {
         Some(found) => missing(beside_weekday(found.as_slice())),

@@ -1,5 +1,5 @@
 // The days of calendars by counting: years from their first one on, months of a year, days of a month; Easter, and the
-// days of the church year. A day has its number from 1 January of the Gregorian year 1 on, as in Reingold and Dershowitz,
+// days of the church year. Days are numbered from 1 January of the Gregorian year 1 on, as in Reingold and Dershowitz,
 // *Calendrical Calculations*, from which the first days of the calendars are.
 "use strict";
 
@@ -18,9 +18,10 @@ const ISLAMIC_LEAPS = new Set([2, 5, 7, 10, 13, 16, 18, 21, 24, 26, 29]);
 const islamic = year => numbered([30, 29, 30, 29, 30, 29, 30, 29, 30, 29, 30, ISLAMIC_LEAPS.has(year % 30) ? 30 : 29]);
 
 // ---- the Hebrew calendar, by its new moons: a month has 29 days, 12 hours and 793 of 1080 parts of an hour; the first
-// one was 5 hours and 204 parts behind the evening with which a Monday began. A year begins on the day of its new moon, if
-// that is before noon, else a day later; never on Sunday, Wednesday or Friday; and a day later too by a new moon on Tuesday
-// from 9 hours and 204 parts on in a common year, and on Monday from 15 hours and 589 parts on behind a leap year.
+// one was 5 hours and 204 parts behind the evening with which a Monday began. A year begins on the day of its new moon,
+// if that is before noon, else a day later; never on Sunday, Wednesday or Friday; and a day later too by a new moon on
+// Tuesday from 9 hours and 204 parts on in a common year, and on Monday from 15 hours and 589 parts on after a leap
+// year.
 
 const HOUR = 1080, DAY = 24 * HOUR;
 const HEBREW_LEAPS = new Set([3, 6, 8, 11, 14, 17, 0]);

@@ -2,7 +2,7 @@
 "use strict";
 const { folded, partsOf } = require("./reading.cjs");
 
-const RELATIONS = ["after", "before", "eve", "morrow", "octave"], SEASONS = "epiphany|lent|easter|pentecost|trinity|advent";
+const RELATIONS = "after|before|eve|morrow|octave", SEASONS = "epiphany|lent|easter|pentecost|trinity|advent";
 
 // What a meaning is read as: a pattern, and the item that is made of what it has in brackets.
 const MEANINGS = [
@@ -12,7 +12,7 @@ const MEANINGS = [
   [/^([KNI])$/, mark => ({ mark })],
   [/^weekday ([0-6])$/, weekday => ({ weekday: Number(weekday) })],
   [/^decade ([1-9]|10)$/, decade => ({ decade: Number(decade) })],
-  [new RegExp(`^(${RELATIONS.join("|")})$`), relation => ({ relation })],
+  [new RegExp(`^(${RELATIONS})$`), relation => ({ relation })],
   [/^easter (-?[0-9]+)$/, days => ({ feast: { day: ["easter", Number(days)] } })],
   [/^feast ([0-9]+)-([0-9]+)$/, (month, day) => ({ feast: { day: [[Number(month), Number(day)], 0] } })],
   [/^feast ([0-9]+)-([0-9]+) (-?[0-9]+)$/,

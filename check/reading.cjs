@@ -17,8 +17,8 @@ const bareOf = text => text.replace(ENDS, "");
 const partsOf = text => text.match(PART) || [];
 const hasOther = text => [...text].some(it => OTHER.test(it) && !KNOWN.test(it));
 
-// A word as canonical caseless matching has it. The letters' own capitals do it, but for the dotless i, whose capital is
-// that of another letter.
+// A word as canonical caseless matching has it. The letters' own capitals do it, but for the dotless i, whose capital
+// is that of another letter.
 const foldOne = letter => letter === "\u0131" ? letter : letter.toLowerCase().toUpperCase().toLowerCase();
 const folded = word => [...word.normalize("NFD")].map(foldOne).join("").normalize("NFD");
 
@@ -100,11 +100,11 @@ function monthInFront(text, [{ month }, day, year]) {
   return plain("month in front", year, month, day.value);
 }
 
-// Whether the signs are not those of one date in three numbers.
+// Whether the signs are not those of one date in three numbers. One dash is like another.
 function hasMixedSigns(text) {
-  const between = text.replace(/^[^0-9]*|[^0-9]*$/g, "").match(SIGN) || [];
-  const joining = (text.match(SIGN) || []).filter(it => it === "/" || DASH.test(it));
-  return new Set(between).size > 1 || ![0, 2].includes(joining.length);
+  const signsOf = part => (part.match(SIGN) || []).map(it => DASH.test(it) ? "-" : it);
+  const between = signsOf(text.replace(/^[^0-9]*|[^0-9]*$/g, "")), bars = signsOf(text).filter(it => "-/".includes(it));
+  return new Set(between).size > 1 || ![0, 2].includes(bars.length);
 }
 
 function threeNumbers(text, order, numbers) {
@@ -221,7 +221,8 @@ function ofRegister(bare, calendar, { order, ...choice }) {
   const runs = /^([0-9]+)-([0-9]+)-([0-9]+)$/.exec(bare);
   if (runs === null || order !== "y" && runs[3].length >= 3 && runs[1].length < 3) return null;
   const number = { value: Number(runs[1]), digits: runs[1].length }, year = byYear(number, choice, calendar);
-  if (year === number.value || runs.slice(1).some(run => run.length > 9)) return { text: bare, rule: "a register's date" };
+  const isKept = year === number.value || runs.slice(1).some(run => run.length > 9);
+  if (isKept) return { text: bare, rule: "a register's date" };
   if (year === null) return stays("", "short year");
   return { text: `${year}-${Number(runs[2])}-${Number(runs[3])}`, rule: "a register's date, with a longer year" };
 }
@@ -253,8 +254,9 @@ function dated(text, calendar, choice, items, { rule, year: number, find }) {
   return { text: `${year}-${date.month}-${date.day}`, rule };
 }
 
-// What is written for a text: `{text, rule}`, or `{text, rule: null, reason}` where no date is read; and whether numbers add
-// up. The calendar is null where it is not known, and `names` are those that hold in it, by their first words.
+// What is written for a text: `{text, rule}`, or `{text, rule: null, reason}` where no date is read; also, whether
+// numbers add up. The calendar is null where it is not known, and `names` are those that hold in it, by their first
+// words.
 function written(text, calendar, choice, names) {
   if (calendar === null || WITHOUT_WORDS.includes(calendar)) return stays(text, "no words");
   const bare = bareOf(text), registered = calendar === "roman" ? null : ofRegister(bare, calendar, choice);

@@ -29,7 +29,7 @@ const ROMANS = words("I II III IV V VI IX X XII XIV XVI XXIV XXXI XCIX C CD MDCC
 const ORDERS = words("dmy dmy dmy dmy dmy dmy mdy mdy ymd dny dny ndy ynd dry dry yrd rdy dym my ym y ddmy mdd dnn");
 const DECADES = words("admy admy dmya admya damy amy awdmy");
 const FORMS = words("date date date signed signed register weekdayInMonth feast feast sunday minus inWords anything");
-const ROMAN_FORMS = words("roman roman roman date anything");
+const ROMAN_FORMS = words("kalends kalends kalends date anything");
 // The feasts behind which Sundays are numbered.
 const NUMBERED = words("1,6,0 easter,0 easter,49 easter,56");
 // A year of records in other calendars than those of churches.
@@ -120,7 +120,7 @@ class Texts {
   // A weekday or a day of the decade, which is mostly that of a date.
   beside(year, month, day) {
     if (this.kinds.a.length > 0 && chance(2)) return this.decadeDay(day);
-    const number = dayOf(this.calendar, year, month, day), isAny = number === null || chance(3);
+    const number = dayOf(this.calendar, year, month, day), isAny = number === null || chance(4);
     return this.name("w", it => isAny || it.weekday === weekdayOf(number));
   }
 
@@ -134,8 +134,8 @@ class Texts {
       y: this.number(year), m: this.name("m", it => it.month === month), n: this.number(month), d: this.number(day),
       r: romanOf(month), w: this.beside(year, month, day),
     };
-    const weekdays = [`w${order}`, `w${order}`, `${order}w`, `w${order}w`, `${order[0]}w${order.slice(1)}`];
-    return this.joined(...[...one([order, order, one(weekdays)])].map(it => parts[it]));
+    const odd = one([`w${order}w`, `${order[0]}w${order.slice(1)}`]);
+    return this.joined(...[...one([order, order, `w${order}`, `w${order}`, `${order}w`, odd])].map(it => parts[it]));
   }
 
   // Three numbers, mostly with the same sign between them.
@@ -208,7 +208,7 @@ class Texts {
       [this.number(this.day()), month, year]]));
   }
 
-  roman() {
+  kalends() {
     const count = chance(4) ? [] : [this.number(from(1, 19))], weekday = chance(15) ? [this.name("w")] : [];
     return this.joined(...count, this.name("k"), this.name("m"), this.number(from(900, 1700)), ...weekday);
   }

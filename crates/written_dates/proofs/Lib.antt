@@ -2,6 +2,8 @@ pub mod TokenLemmas
 pub mod KindLemmas
 pub mod FrontLemmas
 pub mod RomanLemmas
+pub mod WordLemmas
+pub mod LetterLemmas
 pub mod PartLemmas
 pub mod ItemLemmas
 pub mod SumLemmas

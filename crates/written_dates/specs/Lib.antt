@@ -1,5 +1,7 @@
 pub mod Tokens
 pub mod Roman
+pub mod Words
+pub mod WordViews
 pub mod Parts
 pub mod Items
 pub mod Signs

@@ -30,7 +30,7 @@ holds calendar name = get_or name.calendars.held (place calendar) false
 abbrev pub names_in : Calendar → List Name → List Name
 names_in calendar names = filter (holds calendar) names
 
--- the names have the same numbers and words, ASCII letter case aside
+-- the names have the same numbers and words
 abbrev pub same_name : Name → Name → Bool
 same_name a b = stands (parts a.text.now) (parts b.text.now) && stands (parts b.text.now) (parts a.text.now)
 

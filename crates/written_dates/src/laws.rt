@@ -1,5 +1,6 @@
 //! Laws of what is written. The functions do nothing: their contracts are the laws.
 
+ghost use Rattle.written_dates.specs.Laws.{FoldedWordsMatch, LettersAreAlike};
 ghost use Rattle.written_dates.specs.Laws.{FoundIsLongest, FoundStands, MinusDatesStay, RegisterDatesStay};
 ghost use Rattle.written_dates.specs.ReadLaws.{WeekdaysAgree, WeekdaysOnlyTest, NumberedWeekdays, NothingIsLeftOver, LongNumbersAreYears};
 ghost use Rattle.written_dates.specs.Stops.{OtherWeekdaysStop};
@@ -61,4 +62,11 @@ pub fn mixed_signs_stay()
 /// Where numbers by name are read as one, the sum of all numbers stays.
 pub fn sums_stay()
     ensures { SumsStay }
+{}
+
+/// Words that differ in the case of A to Z alone are the same; and two that are UTF-8 and not too long are so exactly where
+/// Unicode's canonical caseless match has them equal.
+pub fn same_words()
+    ensures letters { LettersAreAlike }
+    ensures matching { FoldedWordsMatch }
 {}

@@ -18,6 +18,7 @@ mod stops;
 mod tokens;
 mod unknown;
 mod weekdays;
+mod words;
 mod written;
 
 pub use fields::{CalendarName, CalendarNames, CalendarNamesError, without_blanks};
@@ -27,4 +28,5 @@ pub use roman::roman_number;
 pub use rules::Order;
 pub use stops::{Stop, date_beside_weekday, stop_of};
 pub use unknown::unknown_word;
+pub use words::is_same_word;
 pub use written::{Choice, Short, write_date};

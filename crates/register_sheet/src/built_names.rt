@@ -416,341 +416,340 @@ undred one,1401,\nfourteen hundred and one,1401,\nfifteen hundred,1500,\nfifteen
 teen hundred and one,1601,\nseventeen hundred,1700,\nseventeen hundred and,1700,\nseventeen hundred one,1701,\nseventee\
 n hundred and one,1701,\neighteen hundred,1800,\neighteen hundred and,1800,\neighteen hundred one,1801,\neighteen hundr\
 ed and one,1801,\nnineteen hundred,1900,\nnineteen hundred and,1900,\nnineteen hundred one,1901,\nnineteen hundred and \
-one,1901,\none thousand,1000,\none thousand and,1000,\none thousand one,1001,\none thousand and one,1001,\na thousand,1\
-000,\na thousand and,1000,\na thousand one,1001,\na thousand and one,1001,\ntwo thousand,2000,\ntwo thousand and,2000,\
-\ntwo thousand one,2001,\ntwo thousand and one,2001,\ndeux,2,\ntrois,3,\nquatre,4,\ncinq,5,\nsept,7,coptic ethiopic egy\
-ptian armenian islamic hebrew french republican\nle sept,7,gregorian julian\nhuit,8,\nneuf,9,\ndix,10,\nonze,11,\ndouze\
-,12,\ntreize,13,\nquatorze,14,\nquinze,15,\nseize,16,\ndix-sept,17,\ndix-huit,18,\ndix-neuf,19,\nvingt,20,\nvingt et un\
-,21,\nvingt-un,21,\nvingt-deux,22,\nvingt-trois,23,\nvingt-quatre,24,\nvingt-cinq,25,\nvingt-six,26,\nvingt-sept,27,\nv\
-ingt-huit,28,\nvingt-neuf,29,\ntrente,30,\ntrente et un,31,\ntrente-un,31,\ntrente-deux,32,\ntrente-trois,33,\ntrente-q\
-uatre,34,\ntrente-cinq,35,\ntrente-six,36,\ntrente-sept,37,\ntrente-huit,38,\ntrente-neuf,39,\nquarante,40,\nquarante e\
-t un,41,\nquarante-un,41,\nquarante-deux,42,\nquarante-trois,43,\nquarante-quatre,44,\nquarante-cinq,45,\nquarante-six,\
-46,\nquarante-sept,47,\nquarante-huit,48,\nquarante-neuf,49,\ncinquante,50,\ncinquante et un,51,\ncinquante-un,51,\ncin\
-quante-deux,52,\ncinquante-trois,53,\ncinquante-quatre,54,\ncinquante-cinq,55,\ncinquante-six,56,\ncinquante-sept,57,\n\
-cinquante-huit,58,\ncinquante-neuf,59,\nsoixante,60,\nsoixante et un,61,\nsoixante-un,61,\nsoixante-deux,62,\nsoixante-\
-trois,63,\nsoixante-quatre,64,\nsoixante-cinq,65,\nsoixante-six,66,\nsoixante-sept,67,\nsoixante-huit,68,\nsoixante-neu\
-f,69,\nsoixante-dix,70,\nseptante,70,\nsoixante et onze,71,\nsoixante-onze,71,\nseptante et un,71,\nseptante-un,71,\nso\
-ixante-douze,72,\nseptante-deux,72,\nsoixante-treize,73,\nseptante-trois,73,\nsoixante-quatorze,74,\nseptante-quatre,74\
-,\nsoixante-quinze,75,\nseptante-cinq,75,\nsoixante-seize,76,\nseptante-six,76,\nsoixante-dix-sept,77,\nseptante-sept,7\
-7,\nsoixante-dix-huit,78,\nseptante-huit,78,\nsoixante-dix-neuf,79,\nseptante-neuf,79,\nquatre-vingts,80,\nquatre-vingt\
-,80,\noctante,80,\nhuitante,80,\nquatre-vingt-un,81,\noctante-un,81,\nhuitante-un,81,\nquatre-vingt-deux,82,\noctante-d\
-eux,82,\nhuitante-deux,82,\nquatre-vingt-trois,83,\noctante-trois,83,\nhuitante-trois,83,\nquatre-vingt-quatre,84,\noct\
-ante-quatre,84,\nhuitante-quatre,84,\nquatre-vingt-cinq,85,\noctante-cinq,85,\nhuitante-cinq,85,\nquatre-vingt-six,86,\
-\noctante-six,86,\nhuitante-six,86,\nquatre-vingt-sept,87,\noctante-sept,87,\nhuitante-sept,87,\nquatre-vingt-huit,88,\
-\noctante-huit,88,\nhuitante-huit,88,\nquatre-vingt-neuf,89,\noctante-neuf,89,\nhuitante-neuf,89,\nquatre-vingt-dix,90,\
-\nnonante,90,\nquatre-vingt-onze,91,\nnonante et un,91,\nnonante-un,91,\nquatre-vingt-douze,92,\nnonante-deux,92,\nquat\
-re-vingt-treize,93,\nnonante-trois,93,\nquatre-vingt-quatorze,94,\nnonante-quatre,94,\nquatre-vingt-quinze,95,\nnonante\
--cinq,95,\nquatre-vingt-seize,96,\nnonante-six,96,\nquatre-vingt-dix-sept,97,\nnonante-sept,97,\nquatre-vingt-dix-huit,\
-98,\nnonante-huit,98,\nquatre-vingt-dix-neuf,99,\nnonante-neuf,99,\nan un,1,french republican\npremier,1,\ndeuxième,2,\
-\ndeuxieme,2,\ndeuxiesme,2,\ntroisième,3,\ntroisieme,3,\ntroisiesme,3,\nquatrième,4,\nquatrieme,4,\nquatriesme,4,\ncinq\
-uième,5,\ncinquieme,5,\ncinquiesme,5,\nsixième,6,\nsixieme,6,\nsixiesme,6,\nseptième,7,\nseptieme,7,\nseptiesme,7,\nhui\
-tième,8,\nhuitieme,8,\nhuitiesme,8,\nneuvième,9,\nneuvieme,9,\nneuviesme,9,\ndixième,10,\ndixieme,10,\ndixiesme,10,\non\
-zième,11,\nonzieme,11,\nonziesme,11,\ndouzième,12,\ndouzieme,12,\ndouziesme,12,\ntreizième,13,\ntreizieme,13,\ntreizies\
-me,13,\nquatorzième,14,\nquatorzieme,14,\nquatorziesme,14,\nquinzième,15,\nquinzieme,15,\nquinziesme,15,\nseizième,16,\
-\nseizieme,16,\nseiziesme,16,\ndix-septième,17,\ndix-septieme,17,\ndix-septiesme,17,\ndix-huitième,18,\ndix-huitieme,18\
-,\ndix-huitiesme,18,\ndix-neuvième,19,\ndix-neuvieme,19,\ndix-neuviesme,19,\nvingtième,20,\nvingtieme,20,\nvingtiesme,2\
-0,\nvingt et unième,21,\nvingt et unieme,21,\nvingt et uniesme,21,\nvingt-unième,21,\nvingt-unieme,21,\nvingt-uniesme,2\
-1,\nvingt-deuxième,22,\nvingt-deuxieme,22,\nvingt-deuxiesme,22,\nvingt-troisième,23,\nvingt-troisieme,23,\nvingt-troisi\
-esme,23,\nvingt-quatrième,24,\nvingt-quatrieme,24,\nvingt-quatriesme,24,\nvingt-cinquième,25,\nvingt-cinquieme,25,\nvin\
-gt-cinquiesme,25,\nvingt-sixième,26,\nvingt-sixieme,26,\nvingt-sixiesme,26,\nvingt-septième,27,\nvingt-septieme,27,\nvi\
-ngt-septiesme,27,\nvingt-huitième,28,\nvingt-huitieme,28,\nvingt-huitiesme,28,\nvingt-neuvième,29,\nvingt-neuvieme,29,\
-\nvingt-neuviesme,29,\ntrentième,30,\ntrentieme,30,\ntrentiesme,30,\ntrente et unième,31,\ntrente et unieme,31,\ntrent\
-e et uniesme,31,\ntrente-unième,31,\ntrente-unieme,31,\ntrente-uniesme,31,\ncent,100,\ncent un,101,\ncent sept,107,\nde\
-ux cent,200,\ndeux cent un,201,\ndeux cent sept,207,\ndeux cents,200,\ndeux cents un,201,\ndeux cents sept,207,\ntrois \
-cent,300,\ntrois cent un,301,\ntrois cent sept,307,\ntrois cents,300,\ntrois cents un,301,\ntrois cents sept,307,\nquat\
-re cent,400,\nquatre cent un,401,\nquatre cent sept,407,\nquatre cents,400,\nquatre cents un,401,\nquatre cents sept,40\
-7,\ncinq cent,500,\ncinq cent un,501,\ncinq cent sept,507,\ncinq cents,500,\ncinq cents un,501,\ncinq cents sept,507,\n\
-six cent,600,\nsix cent un,601,\nsix cent sept,607,\nsix cents,600,\nsix cents un,601,\nsix cents sept,607,\nsept cent,\
-700,\nsept cent un,701,\nsept cent sept,707,\nsept cents,700,\nsept cents un,701,\nsept cents sept,707,\nhuit cent,800,\
-\nhuit cent un,801,\nhuit cent sept,807,\nhuit cents,800,\nhuit cents un,801,\nhuit cents sept,807,\nneuf cent,900,\nne\
-uf cent un,901,\nneuf cent sept,907,\nneuf cents,900,\nneuf cents un,901,\nneuf cents sept,907,\nonze cent,1100,\nonze \
-cent un,1101,\nonze cent sept,1107,\nonze cents,1100,\nonze cents un,1101,\nonze cents sept,1107,\ndouze cent,1200,\ndo\
-uze cent un,1201,\ndouze cent sept,1207,\ndouze cents,1200,\ndouze cents un,1201,\ndouze cents sept,1207,\ntreize cent,\
-1300,\ntreize cent un,1301,\ntreize cent sept,1307,\ntreize cents,1300,\ntreize cents un,1301,\ntreize cents sept,1307,\
-\nquatorze cent,1400,\nquatorze cent un,1401,\nquatorze cent sept,1407,\nquatorze cents,1400,\nquatorze cents un,1401,\
-\nquatorze cents sept,1407,\nquinze cent,1500,\nquinze cent un,1501,\nquinze cent sept,1507,\nquinze cents,1500,\nquinz\
-e cents un,1501,\nquinze cents sept,1507,\nseize cent,1600,\nseize cent un,1601,\nseize cent sept,1607,\nseize cents,16\
-00,\nseize cents un,1601,\nseize cents sept,1607,\ndix-sept cent,1700,\ndix-sept cent un,1701,\ndix-sept cent sept,1707\
-,\ndix-sept cents,1700,\ndix-sept cents un,1701,\ndix-sept cents sept,1707,\ndix-huit cent,1800,\ndix-huit cent un,1801\
-,\ndix-huit cent sept,1807,\ndix-huit cents,1800,\ndix-huit cents un,1801,\ndix-huit cents sept,1807,\ndix-neuf cent,19\
-00,\ndix-neuf cent un,1901,\ndix-neuf cent sept,1907,\ndix-neuf cents,1900,\ndix-neuf cents un,1901,\ndix-neuf cents se\
-pt,1907,\nmil,1000,\nmil un,1001,\nmille,1000,\nmille un,1001,\ndeux mil,2000,\ndeux mille,2000,\ndeux mil un,2001,\nde\
-ux mille un,2001,\neins,1,\nzwei,2,\nzwey,2,\ndrei,3,\ndrey,3,\nvier,4,\nfünf,5,\nsechs,6,\nsieben,7,\nacht,8,\nneun,9,\
-\nzehn,10,\nelf,11,\nzwölf,12,\ndreizehn,13,\ndreyzehn,13,\nvierzehn,14,\nfünfzehn,15,\nsechzehn,16,\nsiebzehn,17,\nach\
-tzehn,18,\nneunzehn,19,\nzwanzig,20,\neinundzwanzig,21,\nein und zwanzig,21,\nzweiundzwanzig,22,\nzweyundzwanzig,22,\nz\
-wei und zwanzig,22,\nzwey und zwanzig,22,\ndreiundzwanzig,23,\ndreyundzwanzig,23,\ndrei und zwanzig,23,\ndrey und zwanz\
-ig,23,\nvierundzwanzig,24,\nvier und zwanzig,24,\nfünfundzwanzig,25,\nfünf und zwanzig,25,\nsechsundzwanzig,26,\nsechs \
-und zwanzig,26,\nsiebenundzwanzig,27,\nsieben und zwanzig,27,\nachtundzwanzig,28,\nacht und zwanzig,28,\nneunundzwanzig\
-,29,\nneun und zwanzig,29,\ndreißig,30,\ndreyßig,30,\neinunddreißig,31,\neinunddreyßig,31,\nein und dreißig,31,\nein un\
-d dreyßig,31,\nzweiunddreißig,32,\nzweyunddreißig,32,\nzweiunddreyßig,32,\nzweyunddreyßig,32,\nzwei und dreißig,32,\nzw\
-ey und dreißig,32,\nzwei und dreyßig,32,\nzwey und dreyßig,32,\ndreiunddreißig,33,\ndreyunddreyßig,33,\ndrei und dreißi\
-g,33,\ndrey und dreyßig,33,\nvierunddreißig,34,\nvierunddreyßig,34,\nvier und dreißig,34,\nvier und dreyßig,34,\nfünfun\
-ddreißig,35,\nfünfunddreyßig,35,\nfünf und dreißig,35,\nfünf und dreyßig,35,\nsechsunddreißig,36,\nsechsunddreyßig,36,\
-\nsechs und dreißig,36,\nsechs und dreyßig,36,\nsiebenunddreißig,37,\nsiebenunddreyßig,37,\nsieben und dreißig,37,\nsie\
-ben und dreyßig,37,\nachtunddreißig,38,\nachtunddreyßig,38,\nacht und dreißig,38,\nacht und dreyßig,38,\nneununddreißig\
-,39,\nneununddreyßig,39,\nneun und dreißig,39,\nneun und dreyßig,39,\nvierzig,40,\neinundvierzig,41,\nein und vierzig,4\
-1,\nzweiundvierzig,42,\nzweyundvierzig,42,\nzwei und vierzig,42,\nzwey und vierzig,42,\ndreiundvierzig,43,\ndreyundvier\
-zig,43,\ndrei und vierzig,43,\ndrey und vierzig,43,\nvierundvierzig,44,\nvier und vierzig,44,\nfünfundvierzig,45,\nfün\
-f und vierzig,45,\nsechsundvierzig,46,\nsechs und vierzig,46,\nsiebenundvierzig,47,\nsieben und vierzig,47,\nachtundvie\
-rzig,48,\nacht und vierzig,48,\nneunundvierzig,49,\nneun und vierzig,49,\nfünfzig,50,\neinundfünfzig,51,\nein und fünfz\
-ig,51,\nzweiundfünfzig,52,\nzweyundfünfzig,52,\nzwei und fünfzig,52,\nzwey und fünfzig,52,\ndreiundfünfzig,53,\ndreyund\
-fünfzig,53,\ndrei und fünfzig,53,\ndrey und fünfzig,53,\nvierundfünfzig,54,\nvier und fünfzig,54,\nfünfundfünfzig,55,\n\
-fünf und fünfzig,55,\nsechsundfünfzig,56,\nsechs und fünfzig,56,\nsiebenundfünfzig,57,\nsieben und fünfzig,57,\nachtund\
-fünfzig,58,\nacht und fünfzig,58,\nneunundfünfzig,59,\nneun und fünfzig,59,\nsechzig,60,\neinundsechzig,61,\nein und se\
-chzig,61,\nzweiundsechzig,62,\nzweyundsechzig,62,\nzwei und sechzig,62,\nzwey und sechzig,62,\ndreiundsechzig,63,\ndrey\
-undsechzig,63,\ndrei und sechzig,63,\ndrey und sechzig,63,\nvierundsechzig,64,\nvier und sechzig,64,\nfünfundsechzig,65\
-,\nfünf und sechzig,65,\nsechsundsechzig,66,\nsechs und sechzig,66,\nsiebenundsechzig,67,\nsieben und sechzig,67,\nacht\
-undsechzig,68,\nacht und sechzig,68,\nneunundsechzig,69,\nneun und sechzig,69,\nsiebzig,70,\neinundsiebzig,71,\nein un\
-d siebzig,71,\nzweiundsiebzig,72,\nzweyundsiebzig,72,\nzwei und siebzig,72,\nzwey und siebzig,72,\ndreiundsiebzig,73,\n\
-dreyundsiebzig,73,\ndrei und siebzig,73,\ndrey und siebzig,73,\nvierundsiebzig,74,\nvier und siebzig,74,\nfünfundsiebzi\
-g,75,\nfünf und siebzig,75,\nsechsundsiebzig,76,\nsechs und siebzig,76,\nsiebenundsiebzig,77,\nsieben und siebzig,77,\n\
-achtundsiebzig,78,\nacht und siebzig,78,\nneunundsiebzig,79,\nneun und siebzig,79,\nachtzig,80,\neinundachtzig,81,\nei\
-n und achtzig,81,\nzweiundachtzig,82,\nzweyundachtzig,82,\nzwei und achtzig,82,\nzwey und achtzig,82,\ndreiundachtzig,8\
-3,\ndreyundachtzig,83,\ndrei und achtzig,83,\ndrey und achtzig,83,\nvierundachtzig,84,\nvier und achtzig,84,\nfünfundac\
-htzig,85,\nfünf und achtzig,85,\nsechsundachtzig,86,\nsechs und achtzig,86,\nsiebenundachtzig,87,\nsieben und achtzig,8\
-7,\nachtundachtzig,88,\nacht und achtzig,88,\nneunundachtzig,89,\nneun und achtzig,89,\nneunzig,90,\neinundneunzig,91,\
-\nein und neunzig,91,\nzweiundneunzig,92,\nzweyundneunzig,92,\nzwei und neunzig,92,\nzwey und neunzig,92,\ndreiundneunz\
-ig,93,\ndreyundneunzig,93,\ndrei und neunzig,93,\ndrey und neunzig,93,\nvierundneunzig,94,\nvier und neunzig,94,\nfünfu\
-ndneunzig,95,\nfünf und neunzig,95,\nsechsundneunzig,96,\nsechs und neunzig,96,\nsiebenundneunzig,97,\nsieben und neunz\
-ig,97,\nachtundneunzig,98,\nacht und neunzig,98,\nneunundneunzig,99,\nneun und neunzig,99,\nzwo,2,\neilf,11,\nerste,1,\
-\nersten,1,\nerster,1,\nzweite,2,\nzweiten,2,\nzweiter,2,\nzweyte,2,\nzweyten,2,\nzweyter,2,\nzwote,2,\nzwoten,2,\nzwot\
-er,2,\ndritte,3,\ndritten,3,\ndritter,3,\nvierte,4,\nvierten,4,\nvierter,4,\nfünfte,5,\nfünften,5,\nfünfter,5,\nsechste\
-,6,\nsechsten,6,\nsechster,6,\nsiebente,7,\nsiebenten,7,\nsiebenter,7,\nsiebte,7,\nsiebten,7,\nsiebter,7,\nachte,8,\nac\
-hten,8,\nachter,8,\nneunte,9,\nneunten,9,\nneunter,9,\nzehnte,10,\nzehnten,10,\nzehnter,10,\nelfte,11,\nelften,11,\nelf\
-ter,11,\neilfte,11,\neilften,11,\neilfter,11,\nzwölfte,12,\nzwölften,12,\nzwölfter,12,\ndreizehnte,13,\ndreizehnten,13,\
-\ndreizehnter,13,\ndreyzehnte,13,\ndreyzehnten,13,\ndreyzehnter,13,\nvierzehnte,14,\nvierzehnten,14,\nvierzehnter,14,\n\
-fünfzehnte,15,\nfünfzehnten,15,\nfünfzehnter,15,\nsechzehnte,16,\nsechzehnten,16,\nsechzehnter,16,\nsiebzehnte,17,\nsie\
-bzehnten,17,\nsiebzehnter,17,\nachtzehnte,18,\nachtzehnten,18,\nachtzehnter,18,\nneunzehnte,19,\nneunzehnten,19,\nneunz\
-ehnter,19,\nzwanzigste,20,\nzwanzigsten,20,\nzwanzigster,20,\neinundzwanzigste,21,\neinundzwanzigsten,21,\neinundzwanzi\
-gster,21,\nein und zwanzigste,21,\nein und zwanzigsten,21,\nein und zwanzigster,21,\nzweiundzwanzigste,22,\nzweiundzwan\
-zigsten,22,\nzweiundzwanzigster,22,\nzweyundzwanzigste,22,\nzweyundzwanzigsten,22,\nzweyundzwanzigster,22,\nzwei und zw\
-anzigste,22,\nzwei und zwanzigsten,22,\nzwei und zwanzigster,22,\nzwey und zwanzigste,22,\nzwey und zwanzigsten,22,\nzw\
-ey und zwanzigster,22,\ndreiundzwanzigste,23,\ndreiundzwanzigsten,23,\ndreiundzwanzigster,23,\ndreyundzwanzigste,23,\nd\
-reyundzwanzigsten,23,\ndreyundzwanzigster,23,\ndrei und zwanzigste,23,\ndrei und zwanzigsten,23,\ndrei und zwanzigster,\
-23,\ndrey und zwanzigste,23,\ndrey und zwanzigsten,23,\ndrey und zwanzigster,23,\nvierundzwanzigste,24,\nvierundzwanzig\
-sten,24,\nvierundzwanzigster,24,\nvier und zwanzigste,24,\nvier und zwanzigsten,24,\nvier und zwanzigster,24,\nfünfundz\
-wanzigste,25,\nfünfundzwanzigsten,25,\nfünfundzwanzigster,25,\nfünf und zwanzigste,25,\nfünf und zwanzigsten,25,\nfünf \
-und zwanzigster,25,\nsechsundzwanzigste,26,\nsechsundzwanzigsten,26,\nsechsundzwanzigster,26,\nsechs und zwanzigste,26,\
-\nsechs und zwanzigsten,26,\nsechs und zwanzigster,26,\nsiebenundzwanzigste,27,\nsiebenundzwanzigsten,27,\nsiebenundzwa\
-nzigster,27,\nsieben und zwanzigste,27,\nsieben und zwanzigsten,27,\nsieben und zwanzigster,27,\nachtundzwanzigste,28,\
-\nachtundzwanzigsten,28,\nachtundzwanzigster,28,\nacht und zwanzigste,28,\nacht und zwanzigsten,28,\nacht und zwanzigst\
-er,28,\nneunundzwanzigste,29,\nneunundzwanzigsten,29,\nneunundzwanzigster,29,\nneun und zwanzigste,29,\nneun und zwanzi\
-gsten,29,\nneun und zwanzigster,29,\ndreißigste,30,\ndreißigsten,30,\ndreißigster,30,\ndreyßigste,30,\ndreyßigsten,30,\
-\ndreyßigster,30,\neinunddreißigste,31,\neinunddreißigsten,31,\neinunddreißigster,31,\neinunddreyßigste,31,\neinunddrey\
-ßigsten,31,\neinunddreyßigster,31,\nein und dreißigste,31,\nein und dreißigsten,31,\nein und dreißigster,31,\nein und d\
-reyßigste,31,\nein und dreyßigsten,31,\nein und dreyßigster,31,\neinhundert,100,\neinhundert und,100,\nein hundert,100,\
-\nein hundert und,100,\nhundert,100,\nhundert und,100,\nzweihundert,200,\nzweihundert und,200,\nzwei hundert,200,\nzwe\
-i hundert und,200,\nzweyhundert,200,\nzweyhundert und,200,\nzwey hundert,200,\nzwey hundert und,200,\ndreihundert,300,\
-\ndreihundert und,300,\ndrei hundert,300,\ndrei hundert und,300,\ndreyhundert,300,\ndreyhundert und,300,\ndrey hundert,\
-300,\ndrey hundert und,300,\nvierhundert,400,\nvierhundert und,400,\nvier hundert,400,\nvier hundert und,400,\nfünfhund\
-ert,500,\nfünfhundert und,500,\nfünf hundert,500,\nfünf hundert und,500,\nsechshundert,600,\nsechshundert und,600,\nsec\
-hs hundert,600,\nsechs hundert und,600,\nsiebenhundert,700,\nsiebenhundert und,700,\nsieben hundert,700,\nsieben hunder\
-t und,700,\nachthundert,800,\nachthundert und,800,\nacht hundert,800,\nacht hundert und,800,\nneunhundert,900,\nneunhun\
-dert und,900,\nneun hundert,900,\nneun hundert und,900,\nelfhundert,1100,\nelfhundert und,1100,\nelf hundert,1100,\nel\
-f hundert und,1100,\nzwölfhundert,1200,\nzwölfhundert und,1200,\nzwölf hundert,1200,\nzwölf hundert und,1200,\ndreizehn\
-hundert,1300,\ndreizehnhundert und,1300,\ndreizehn hundert,1300,\ndreizehn hundert und,1300,\ndreyzehnhundert,1300,\ndr\
-eyzehnhundert und,1300,\ndreyzehn hundert,1300,\ndreyzehn hundert und,1300,\nvierzehnhundert,1400,\nvierzehnhundert und\
-,1400,\nvierzehn hundert,1400,\nvierzehn hundert und,1400,\nfünfzehnhundert,1500,\nfünfzehnhundert und,1500,\nfünfzehn \
-hundert,1500,\nfünfzehn hundert und,1500,\nsechzehnhundert,1600,\nsechzehnhundert und,1600,\nsechzehn hundert,1600,\nse\
-chzehn hundert und,1600,\nsiebzehnhundert,1700,\nsiebzehnhundert und,1700,\nsiebzehn hundert,1700,\nsiebzehn hundert un\
-d,1700,\nachtzehnhundert,1800,\nachtzehnhundert und,1800,\nachtzehn hundert,1800,\nachtzehn hundert und,1800,\nneunzehn\
-hundert,1900,\nneunzehnhundert und,1900,\nneunzehn hundert,1900,\nneunzehn hundert und,1900,\ntausend,1000,\ntausend un\
-d,1000,\neintausend,1000,\neintausend und,1000,\nein tausend,1000,\nein tausend und,1000,\nzweitausend,2000,\nzweitause\
-nd und,2000,\nzwei tausend,2000,\nzwei tausend und,2000,\nMontag,weekday 1,\nDienstag,weekday 2,\nMittwoch,weekday 3,\n\
-Donnerstag,weekday 4,\nFreitag,weekday 5,\nSamstag,weekday 6,\nSonnabend,weekday 6,\nSonntag,weekday 0,\nMo,weekday 1,\
-\nDi,weekday 2,gregorian julian coptic ethiopic egyptian armenian islamic hebrew french republican\nMi,weekday 3,gregor\
-ian julian coptic ethiopic egyptian armenian islamic hebrew french republican\nDo,weekday 4,\nFr,weekday 5,\nSa,weekda\
-y 6,\nSo,weekday 0,\nMonday,weekday 1,\nTuesday,weekday 2,\nWednesday,weekday 3,\nThursday,weekday 4,\nFriday,weekday 5\
-,\nSaturday,weekday 6,\nSunday,weekday 0,\nMon,weekday 1,\nTue,weekday 2,\nTues,weekday 2,\nWed,weekday 3,\nThu,weekda\
-y 4,\nThur,weekday 4,\nThurs,weekday 4,\nFri,weekday 5,\nSat,weekday 6,\nSun,weekday 0,\nlundi,weekday 1,\nmardi,weekda\
-y 2,\nmercredi,weekday 3,\njeudi,weekday 4,\nvendredi,weekday 5,\nsamedi,weekday 6,\ndimanche,weekday 0,\nlun,weekday 1\
-,\nmer,weekday 3,\njeu,weekday 4,\nven,weekday 5,\nsam,weekday 6,\ndim,weekday 0,\nmaandag,weekday 1,\ndinsdag,weekday \
-2,\nwoensdag,weekday 3,\ndonderdag,weekday 4,\nvrijdag,weekday 5,\nzaterdag,weekday 6,\nzondag,weekday 0,\nma,weekday 1\
-,\nwo,weekday 3,\nvr,weekday 5,\nza,weekday 6,\nzo,weekday 0,\nlunedì,weekday 1,\nmartedì,weekday 2,\nmercoledì,weekda\
-y 3,\ngiovedì,weekday 4,\nvenerdì,weekday 5,\nsabato,weekday 6,\ndomenica,weekday 0,\nlunes,weekday 1,\nmartes,weekday \
-2,\nmiércoles,weekday 3,\njueves,weekday 4,\nviernes,weekday 5,\nsábado,weekday 6,\ndomingo,weekday 0,\nponiedziałek,we\
-ekday 1,\nwtorek,weekday 2,\nśroda,weekday 3,\nczwartek,weekday 4,\npiątek,weekday 5,\nsobota,weekday 6,\nniedziela,wee\
-kday 0,\npondělí,weekday 1,\núterý,weekday 2,\nstředa,weekday 3,\nčtvrtek,weekday 4,\npátek,weekday 5,\nneděle,weekday \
-0,\ndies Lunae,weekday 1,\ndies Martis,weekday 2,\ndies Mercurii,weekday 3,\ndies Iovis,weekday 4,\ndies Jovis,weekday \
-4,\ndies Veneris,weekday 5,\ndies Saturni,weekday 6,\ndies Sabbati,weekday 6,\ndies Dominica,weekday 0,\nsøndag,weekda\
-y 0,\nmandag,weekday 1,\ntirsdag,weekday 2,\nonsdag,weekday 3,\ntorsdag,weekday 4,\nfredag,weekday 5,\nlørdag,weekday 6\
-,\nsöndag,weekday 0,\nmåndag,weekday 1,\ntisdag,weekday 2,\nlördag,weekday 6,\nsunnuntai,weekday 0,\nmaanantai,weekday \
-1,\ntiistai,weekday 2,\nkeskiviikko,weekday 3,\ntorstai,weekday 4,\nperjantai,weekday 5,\nlauantai,weekday 6,\nvasárnap\
-,weekday 0,\nhétfő,weekday 1,\nkedd,weekday 2,\nszerda,weekday 3,\ncsütörtök,weekday 4,\npéntek,weekday 5,\nszombat,wee\
-kday 6,\nsegunda-feira,weekday 1,\nterça-feira,weekday 2,\nquarta-feira,weekday 3,\nquinta-feira,weekday 4,\nsexta-feir\
-a,weekday 5,\nвоскресенье,weekday 0,\nпонедельник,weekday 1,\nвторник,weekday 2,\nсреда,weekday 3,\nчетверг,weekday 4,\
-\nпятница,weekday 5,\nсуббота,weekday 6,\nнеділя,weekday 0,\nпонеділок,weekday 1,\nвівторок,weekday 2,\nсереда,weekday \
-3,\nчетвер,weekday 4,\nпʼятниця,weekday 5,\nсубота,weekday 6,\nΚυριακή,weekday 0,\nΔευτέρα,weekday 1,\nΤρίτη,weekday 2,\
-\nΤετάρτη,weekday 3,\nΠέμπτη,weekday 4,\nΠαρασκευή,weekday 5,\nΣάββατο,weekday 6,\nPazar,weekday 0,\nPazartesi,weekday \
-1,\nSalı,weekday 2,\nÇarşamba,weekday 3,\nPerşembe,weekday 4,\nCuma,weekday 5,\nCumartesi,weekday 6,\nSonntags,weekday \
-0,\nSontag,weekday 0,\ndies dominicus,weekday 0,\ndie Dominica,weekday 0,\ndie Dominico,weekday 0,\ndominico die,weekda\
-y 0,\nMontags,weekday 1,\nMondtag,weekday 1,\ndie Lunae,weekday 1,\ndie Lune,weekday 1,\nDienstags,weekday 2,\nDinstag,\
-weekday 2,\nDinstags,weekday 2,\nErchtag,weekday 2,\nErtag,weekday 2,\nZinstag,weekday 2,\nZistag,weekday 2,\ndie Marti\
-s,weekday 2,\nMittwochs,weekday 3,\nMitwoch,weekday 3,\nMittichen,weekday 3,\ndie Mercurii,weekday 3,\nDonnerstags,week\
-day 4,\nDornstag,weekday 4,\nPfinztag,weekday 4,\ndie Jovis,weekday 4,\ndie Iovis,weekday 4,\nFreitags,weekday 5,\nFrey\
-tag,weekday 5,\nFreytags,weekday 5,\ndie Veneris,weekday 5,\nSamstags,weekday 6,\nSonnabends,weekday 6,\nSambstag,weekd\
-ay 6,\ndie Sabbati,weekday 6,\ndie Saturni,weekday 6,\ndie Sabbato,weekday 6,\nSonnabent,weekday 6,\ndominica,weekday 0\
-,\ndom,weekday 0,\nferia secunda,weekday 1,\nferia 2,weekday 1,\nferia tertia,weekday 2,\nferia tercia,weekday 2,\nferi\
-a 3,weekday 2,\nferia quarta,weekday 3,\nferia 4,weekday 3,\nferia quinta,weekday 4,\nferia 5,weekday 4,\nferia sexta,w\
-eekday 5,\nferia 6,weekday 5,\nsabbato,weekday 6,\nsabbatum,weekday 6,\nprimidi,decade 1,french republican\nduodi,decad\
-e 2,french republican\ntridi,decade 3,french republican\nquartidi,decade 4,french republican\nquintidi,decade 5,french \
-republican\nsextidi,decade 6,french republican\nseptidi,decade 7,french republican\noctidi,decade 8,french republican\n\
-nonidi,decade 9,french republican\ndécadi,decade 10,french republican\ndecadi,decade 10,french republican\nday after,mo\
-rrow,gregorian julian\nTag nach,morrow,gregorian julian\nTags nach,morrow,gregorian julian\njour après,morrow,gregoria\
-n julian\nlendemain de,morrow,gregorian julian\ndie post,morrow,gregorian julian\ndies post,morrow,gregorian julian\nda\
-y before,eve,gregorian julian\nTag vor,eve,gregorian julian\nTags vor,eve,gregorian julian\njour avant,eve,gregorian ju\
-lian\ndie ante,eve,gregorian julian\ndies ante,eve,gregorian julian\nin profesto,eve,gregorian julian\nafter,after,greg\
-orian julian\nnach,after,gregorian julian\npost,after,gregorian julian\np,after,gregorian julian\naprès,after,gregoria\
-n julian\nbefore,before,gregorian julian\nvor,before,gregorian julian\nante,before,gregorian julian\navant,before,grego\
-rian julian\neve of,eve,gregorian julian\nvigilia,eve,gregorian julian\nin vigilia,eve,gregorian julian\nVigil,eve,greg\
-orian julian\nVorabend,eve,gregorian julian\nprofesto,eve,gregorian julian\nveille de,eve,gregorian julian\noctava,octa\
-ve,gregorian julian\nin octava,octave,gregorian julian\nOktav,octave,gregorian julian\noctave of,octave,gregorian julia\
-n\nin crastino,morrow,gregorian julian\ncrastino,morrow,gregorian julian\nmorrow of,morrow,gregorian julian\nOstern,eas\
-ter 0,gregorian julian\nOstersonntag,easter 0,gregorian julian\nOstertag,easter 0,gregorian julian\nPascha,easter 0,gre\
-gorian julian\nPaschae,easter 0,gregorian julian\nPasche,easter 0,gregorian julian\nResurrectionis Domini,easter 0,greg\
-orian julian\nEaster,easter 0,gregorian julian\nEaster Day,easter 0,gregorian julian\nEaster Sunday,easter 0,gregorian \
-julian\nPâques,easter 0,gregorian julian\nOstermontag,easter 1,gregorian julian\nEaster Monday,easter 1,gregorian julia\
-n\nlundi de Pâques,easter 1,gregorian julian\nOsterdienstag,easter 2,gregorian julian\nEaster Tuesday,easter 2,gregoria\
-n julian\nSeptuagesima,easter -63,gregorian julian\nSeptuagesimae,easter -63,gregorian julian\nSeptuagésime,easter -63,\
-gregorian julian\nCircumdederunt,easter -63,gregorian julian\nSexagesima,easter -56,gregorian julian\nSexagesimae,easte\
-r -56,gregorian julian\nExsurge,easter -56,gregorian julian\nExurge,easter -56,gregorian julian\nQuinquagesima,easter -\
-49,gregorian julian\nQuinquagesimae,easter -49,gregorian julian\nEstomihi,easter -49,gregorian julian\nEsto mihi,easte\
-r -49,gregorian julian\nHerrenfastnacht,easter -49,gregorian julian\nFastnachtsdienstag,easter -47,gregorian julian\nSh\
-rove Tuesday,easter -47,gregorian julian\nMardi gras,easter -47,gregorian julian\nAschermittwoch,easter -46,gregorian j\
-ulian\ndies Cinerum,easter -46,gregorian julian\nCinerum,easter -46,gregorian julian\nAsh Wednesday,easter -46,gregoria\
-n julian\nmercredi des Cendres,easter -46,gregorian julian\nInvocavit,easter -42,gregorian julian\nInvocabit,easter -42\
-,gregorian julian\nQuadragesima,easter -42,gregorian julian\nReminiscere,easter -35,gregorian julian\nOculi,easter -28,\
-gregorian julian\nLaetare,easter -21,gregorian julian\nLetare,easter -21,gregorian julian\nLätare,easter -21,gregorian \
-julian\nJudica,easter -14,gregorian julian\nIudica,easter -14,gregorian julian\nPalmarum,easter -7,gregorian julian\nPa\
-lmsonntag,easter -7,gregorian julian\nPalm Sunday,easter -7,gregorian julian\ndimanche des Rameaux,easter -7,gregorian \
-julian\nRameaux,easter -7,gregorian julian\nGründonnerstag,easter -3,gregorian julian\nCoena Domini,easter -3,gregoria\
-n julian\nCoenae Domini,easter -3,gregorian julian\nCene Domini,easter -3,gregorian julian\nMaundy Thursday,easter -3,g\
-regorian julian\nJeudi saint,easter -3,gregorian julian\nKarfreitag,easter -2,gregorian julian\nCharfreitag,easter -2,g\
-regorian julian\nParasceve,easter -2,gregorian julian\nGood Friday,easter -2,gregorian julian\nVendredi saint,easter -2\
-,gregorian julian\nKarsamstag,easter -1,gregorian julian\nSabbatum sanctum,easter -1,gregorian julian\nQuasimodogeniti,\
-easter 7,gregorian julian\nQuasi modo geniti,easter 7,gregorian julian\nQuasimodo,easter 7,gregorian julian\nLow Sunday\
-,easter 7,gregorian julian\nMisericordias Domini,easter 14,gregorian julian\nMisericordia Domini,easter 14,gregorian ju\
-lian\nJubilate,easter 21,gregorian julian\nIubilate,easter 21,gregorian julian\nCantate,easter 28,gregorian julian\nKan\
-tate,easter 28,gregorian julian\nRogate,easter 35,gregorian julian\nVocem jucunditatis,easter 35,gregorian julian\nRoga\
-tion Sunday,easter 35,gregorian julian\nHimmelfahrt,easter 39,gregorian julian\nChristi Himmelfahrt,easter 39,gregoria\
-n julian\nAuffahrt,easter 39,gregorian julian\nAscensionis Domini,easter 39,gregorian julian\nAscensionis,easter 39,gre\
-gorian julian\nAscension Day,easter 39,gregorian julian\nAscension,easter 39,gregorian julian\nExaudi,easter 42,gregori\
-an julian\nPfingsten,easter 49,gregorian julian\nPfingstsonntag,easter 49,gregorian julian\nPentecostes,easter 49,grego\
-rian julian\nPentecoste,easter 49,gregorian julian\nPentecost,easter 49,gregorian julian\nWhitsunday,easter 49,gregoria\
-n julian\nWhit Sunday,easter 49,gregorian julian\nPentecôte,easter 49,gregorian julian\nPfingstmontag,easter 50,gregori\
-an julian\nWhit Monday,easter 50,gregorian julian\nTrinitatis,easter 56,gregorian julian\nTrin,easter 56,gregorian juli\
-an\nTrinity Sunday,easter 56,gregorian julian\nTrinity,easter 56,gregorian julian\nTrinité,easter 56,gregorian julian\n\
-Fronleichnam,easter 60,gregorian julian\nCorporis Christi,easter 60,gregorian julian\nCorpus Christi,easter 60,gregoria\
-n julian\nFête-Dieu,easter 60,gregorian julian\nAdvent,sundays advent,gregorian julian\nAdventus,sundays advent,gregori\
-an julian\nAdventus Domini,sundays advent,gregorian julian\nAdv,sundays advent,gregorian julian\nAdventssonntag,sunday\
-s advent,gregorian julian\nSunday in Advent,sundays advent,gregorian julian\ndimanche de l'Avent,sundays advent,gregori\
-an julian\nFastensonntag,sundays lent,gregorian julian\nQuadragesimae,sundays lent,gregorian julian\nSunday in Lent,sun\
-days lent,gregorian julian\nAd te levavi,sunday advent 1,gregorian julian\nPopulus Sion,sunday advent 2,gregorian julia\
-n\nGaudete,sunday advent 3,gregorian julian\nRorate,sunday advent 4,gregorian julian\nAdvent Sunday,sunday advent 1,gre\
-gorian julian\nNeujahr,feast 1-1,gregorian julian\nCircumcisionis Domini,feast 1-1,gregorian julian\nCircumcisionis,fea\
-st 1-1,gregorian julian\nEpiphaniae,feast 1-6,gregorian julian\nEpiphanie,feast 1-6,gregorian julian\nEpiphanias,feast \
-1-6,gregorian julian\nEpiph,feast 1-6,gregorian julian\nEpiphany,feast 1-6,gregorian julian\nTrium Regum,feast 1-6,greg\
-orian julian\nDreikönig,feast 1-6,gregorian julian\nHeilige Drei Könige,feast 1-6,gregorian julian\nFabiani et Sebastia\
-ni,feast 1-20,gregorian julian\nAgnetis,feast 1-21,gregorian julian\nVincentii,feast 1-22,gregorian julian\nConversioni\
-s Pauli,feast 1-25,gregorian julian\nPauli Bekehrung,feast 1-25,gregorian julian\nLichtmess,feast 2-2,gregorian julian\
-\nMariä Lichtmess,feast 2-2,gregorian julian\nPurificationis Mariae,feast 2-2,gregorian julian\nPurificationis,feast 2-\
-2,gregorian julian\nCandlemas,feast 2-2,gregorian julian\nChandeleur,feast 2-2,gregorian julian\nBlasii,feast 2-3,grego\
-rian julian\nAgathae,feast 2-5,gregorian julian\nValentini,feast 2-14,gregorian julian\nCathedra Petri,feast 2-22,grego\
-rian julian\nPetri Stuhlfeier,feast 2-22,gregorian julian\nMatthiae,feast 3-1 -5,gregorian julian\nMathie,feast 3-1 -5,\
-gregorian julian\nGertrudis,feast 3-17,gregorian julian\nBenedicti,feast 3-21,gregorian julian\nAnnunciationis Mariae,f\
-east 3-25,gregorian julian\nAnnuntiationis Mariae,feast 3-25,gregorian julian\nMariä Verkündigung,feast 3-25,gregorian \
-julian\nLady Day,feast 3-25,gregorian julian\nAnnonciation,feast 3-25,gregorian julian\nTiburtii et Valeriani,feast 4-1\
-4,gregorian julian\nMarci,feast 4-25,gregorian julian\nPhilippi et Jacobi,feast 5-1,gregorian julian\nWalpurgis,feast 5\
--1,gregorian julian\nWalburgis,feast 5-1,gregorian julian\nInventionis crucis,feast 5-3,gregorian julian\nKreuzauffindu\
-ng,feast 5-3,gregorian julian\nUrbani,feast 5-25,gregorian julian\nViti,feast 6-15,gregorian julian\nJohannistag,feast \
-6-24,gregorian julian\nJohannis Baptistae,feast 6-24,gregorian julian\nJohannis Baptiste,feast 6-24,gregorian julian\nN\
-ativitatis Johannis Baptistae,feast 6-24,gregorian julian\nMidsummer Day,feast 6-24,gregorian julian\nla Saint-Jean,fea\
-st 6-24,gregorian julian\nJohannis et Pauli,feast 6-26,gregorian julian\nPetri et Pauli,feast 6-29,gregorian julian\nPe\
-ter und Paul,feast 6-29,gregorian julian\nVisitationis Mariae,feast 7-2,gregorian julian\nMariä Heimsuchung,feast 7-2,g\
-regorian julian\nKiliani,feast 7-8,gregorian julian\nDivisionis apostolorum,feast 7-15,gregorian julian\nMariae Magdale\
-nae,feast 7-22,gregorian julian\nMarie Magdalene,feast 7-22,gregorian julian\nJacobi,feast 7-25,gregorian julian\nJakob\
-i,feast 7-25,gregorian julian\nAnnae,feast 7-26,gregorian julian\nPetri ad vincula,feast 8-1,gregorian julian\nPetri Ke\
-ttenfeier,feast 8-1,gregorian julian\nLammas,feast 8-1,gregorian julian\nLaurentii,feast 8-10,gregorian julian\nAssumpt\
-ionis Mariae,feast 8-15,gregorian julian\nMariä Himmelfahrt,feast 8-15,gregorian julian\nAssomption,feast 8-15,gregoria\
-n julian\nBartholomaei,feast 8-24,gregorian julian\nBartholomäi,feast 8-24,gregorian julian\nBartholomei,feast 8-24,gre\
-gorian julian\nDecollationis Johannis,feast 8-29,gregorian julian\nAegidii,feast 9-1,gregorian julian\nEgidii,feast 9-1\
-,gregorian julian\nNativitatis Mariae,feast 9-8,gregorian julian\nMariä Geburt,feast 9-8,gregorian julian\nExaltationi\
-s crucis,feast 9-14,gregorian julian\nKreuzerhöhung,feast 9-14,gregorian julian\nHoly Cross Day,feast 9-14,gregorian ju\
-lian\nLamberti,feast 9-17,gregorian julian\nMatthaei,feast 9-21,gregorian julian\nMatthäi,feast 9-21,gregorian julian\n\
-Mauritii,feast 9-22,gregorian julian\nMichaelis,feast 9-29,gregorian julian\nMichael,feast 9-29,gregorian julian\nMicha\
-elmas,feast 9-29,gregorian julian\nSaint-Michel,feast 9-29,gregorian julian\nRemigii,feast 10-1,gregorian julian\nFranc\
-isci,feast 10-4,gregorian julian\nDionysii,feast 10-9,gregorian julian\nGalli,feast 10-16,gregorian julian\nLucae,feas\
-t 10-18,gregorian julian\nUndecim milium virginum,feast 10-21,gregorian julian\nCrispini et Crispiniani,feast 10-25,gre\
-gorian julian\nSimonis et Judae,feast 10-28,gregorian julian\nSimonis et Jude,feast 10-28,gregorian julian\nAllerheilig\
-en,feast 11-1,gregorian julian\nOmnium Sanctorum,feast 11-1,gregorian julian\nAll Saints,feast 11-1,gregorian julian\nT\
-oussaint,feast 11-1,gregorian julian\nAllerseelen,feast 11-2,gregorian julian\nAnimarum,feast 11-2,gregorian julian\nAl\
-l Souls,feast 11-2,gregorian julian\nLeonhardi,feast 11-6,gregorian julian\nMartini,feast 11-11,gregorian julian\nMarti\
-nmas,feast 11-11,gregorian julian\nSaint-Martin,feast 11-11,gregorian julian\nElisabethae,feast 11-19,gregorian julian\
-\nPraesentationis Mariae,feast 11-21,gregorian julian\nCaeciliae,feast 11-22,gregorian julian\nClementis,feast 11-23,gr\
-egorian julian\nCatharinae,feast 11-25,gregorian julian\nKatharinae,feast 11-25,gregorian julian\nKatherine,feast 11-25\
-,gregorian julian\nAndreae,feast 11-30,gregorian julian\nAndree,feast 11-30,gregorian julian\nBarbarae,feast 12-4,grego\
-rian julian\nNicolai,feast 12-6,gregorian julian\nNikolai,feast 12-6,gregorian julian\nConceptionis Mariae,feast 12-8,g\
-regorian julian\nMariä Empfängnis,feast 12-8,gregorian julian\nLuciae,feast 12-13,gregorian julian\nLucie,feast 12-13,g\
-regorian julian\nThomae,feast 12-21,gregorian julian\nThome,feast 12-21,gregorian julian\nHeiligabend,feast 12-24,grego\
-rian julian\nWeihnachten,feast 12-25,gregorian julian\nNativitatis Domini,feast 12-25,gregorian julian\nNativitatis Chr\
-isti,feast 12-25,gregorian julian\nNativitatis,feast 12-25,gregorian julian\nChristmas,feast 12-25,gregorian julian\nCh\
-ristmas Day,feast 12-25,gregorian julian\nNoël,feast 12-25,gregorian julian\nStephani,feast 12-26,gregorian julian\nJoh\
-annis Evangelistae,feast 12-27,gregorian julian\nInnocentum,feast 12-28,gregorian julian\nUnschuldige Kinder,feast 12-2\
-8,gregorian julian\nSilvestri,feast 12-31,gregorian julian\nSilvester,feast 12-31,gregorian julian\nPurificationis Mari\
-ae virginis,feast 2-2,gregorian julian\nPurificationis Marie virginis,feast 2-2,gregorian julian\nPurificationis Marie,\
-feast 2-2,gregorian julian\nPurificationis beatae Mariae,feast 2-2,gregorian julian\nPurificationis beate Marie,feast 2\
--2,gregorian julian\nPurificationis beatae Mariae virginis,feast 2-2,gregorian julian\nPurificationis beate Marie virgi\
-nis,feast 2-2,gregorian julian\nPurificationis B M V,feast 2-2,gregorian julian\nAnnunciationis Mariae virginis,feast 3\
--25,gregorian julian\nAnnunciationis Marie virginis,feast 3-25,gregorian julian\nAnnunciationis Marie,feast 3-25,gregor\
-ian julian\nAnnunciationis beatae Mariae,feast 3-25,gregorian julian\nAnnunciationis beate Marie,feast 3-25,gregorian j\
-ulian\nAnnunciationis beatae Mariae virginis,feast 3-25,gregorian julian\nAnnunciationis beate Marie virginis,feast 3-2\
-5,gregorian julian\nAnnunciationis B M V,feast 3-25,gregorian julian\nAnnuntiationis Mariae virginis,feast 3-25,gregori\
-an julian\nAnnuntiationis Marie virginis,feast 3-25,gregorian julian\nAnnuntiationis Marie,feast 3-25,gregorian julian\
-\nAnnuntiationis beatae Mariae,feast 3-25,gregorian julian\nAnnuntiationis beate Marie,feast 3-25,gregorian julian\nAnn\
-untiationis beatae Mariae virginis,feast 3-25,gregorian julian\nAnnuntiationis beate Marie virginis,feast 3-25,gregoria\
-n julian\nAnnuntiationis B M V,feast 3-25,gregorian julian\nVisitationis Mariae virginis,feast 7-2,gregorian julian\nVi\
-sitationis Marie virginis,feast 7-2,gregorian julian\nVisitationis Marie,feast 7-2,gregorian julian\nVisitationis beata\
-e Mariae,feast 7-2,gregorian julian\nVisitationis beate Marie,feast 7-2,gregorian julian\nVisitationis beatae Mariae vi\
-rginis,feast 7-2,gregorian julian\nVisitationis beate Marie virginis,feast 7-2,gregorian julian\nVisitationis B M V,fea\
-st 7-2,gregorian julian\nAssumptionis Mariae virginis,feast 8-15,gregorian julian\nAssumptionis Marie virginis,feast 8-\
-15,gregorian julian\nAssumptionis Marie,feast 8-15,gregorian julian\nAssumptionis beatae Mariae,feast 8-15,gregorian ju\
-lian\nAssumptionis beate Marie,feast 8-15,gregorian julian\nAssumptionis beatae Mariae virginis,feast 8-15,gregorian ju\
-lian\nAssumptionis beate Marie virginis,feast 8-15,gregorian julian\nAssumptionis B M V,feast 8-15,gregorian julian\nNa\
-tivitatis Mariae virginis,feast 9-8,gregorian julian\nNativitatis Marie virginis,feast 9-8,gregorian julian\nNativitati\
-s Marie,feast 9-8,gregorian julian\nNativitatis beatae Mariae,feast 9-8,gregorian julian\nNativitatis beate Marie,feas\
-t 9-8,gregorian julian\nNativitatis beatae Mariae virginis,feast 9-8,gregorian julian\nNativitatis beate Marie virginis\
-,feast 9-8,gregorian julian\nNativitatis B M V,feast 9-8,gregorian julian\nConceptionis Mariae virginis,feast 12-8,greg\
-orian julian\nConceptionis Marie virginis,feast 12-8,gregorian julian\nConceptionis Marie,feast 12-8,gregorian julian\n\
-Conceptionis beatae Mariae,feast 12-8,gregorian julian\nConceptionis beate Marie,feast 12-8,gregorian julian\nConceptio\
-nis beatae Mariae virginis,feast 12-8,gregorian julian\nConceptionis beate Marie virginis,feast 12-8,gregorian julian\n\
-Conceptionis B M V,feast 12-8,gregorian julian\nÉpiphanie,feast 1-6,gregorian julian\nTheophaniae,feast 1-6,gregorian j\
-ulian\nEpiphaniae Domini,feast 1-6,gregorian julian\nEpiphanie Domini,feast 1-6,gregorian julian\nThomae martyris,feas\
-t 12-29,gregorian julian\nThome martyris,feast 12-29,gregorian julian\nStephani protomartyris,feast 12-26,gregorian jul\
-ian\nMichaelistag,feast 9-29,gregorian julian\nMartinstag,feast 11-11,gregorian julian\nMartinitag,feast 11-11,gregoria\
-n julian\nWeihnachtstag,feast 12-25,gregorian julian\nChristtag,feast 12-25,gregorian julian\nPaschatis,easter 0,gregor\
-ian julian\nPaschatos,easter 0,gregorian julian\nPfingsttag,easter 49,gregorian julian\nHimmelfahrtstag,easter 39,grego\
-rian julian\nFronleichnamstag,easter 60,gregorian julian\nChristmas Eve,feast 12-24,gregorian julian\nNew Year's Day,fe\
-ast 1-1,gregorian julian\nNew Year’s Day,feast 1-1,gregorian julian\nNeujahrstag,feast 1-1,gregorian julian\nInnocentiu\
-m,feast 12-28,gregorian julian\nante,,roman\nante diem,,roman\na,,roman\nden,,\nder,,\ndes,,\ndem,,\nam,,\nvom,,\nim,,\
-\nin,,\nanno,,\nanno domini,,\nao,,\nAD,,\nA D,,\nthe,,\nof,,\non,,\nday,,\nle,,\nla,,\ndu,,\nde,,\nl'an,,\nl’an,,\nan,\
-,\nannée,,\nl'année,,\nl’année,,\nen,,\nil,,\ndel,,\ndell'anno,,\ndell’anno,,\nel,,\ndía,,\ndel año,,\naño,,\ndnia,,\nr\
-oku,,\nr,,\ndne,,\ndie,,\nde dato,,\nvan,,\nhet,,\ner,,\nère,,\nere,,\nème,,\neme,,\nre,,\nst,,\nnd,,\nrd,,\nth,,\nte,,\
-\nter,,gregorian julian hebrew islamic french republican\nsten,,\nste,,\ntes,,\nens,,\nº,,\nª,,\no,,\ne,,\nster,,\nyear\
-,,\nyear of our Lord,,\nof our Lord,,\nour Lord,,\nJahr,,\nJahre,,\nJahres,,\nnach Christi Geburt,,\nn Chr,,\nanno Dni,\
-,\nanno salutis,,\nanni,,\nannus,,\nAo Dni,,\nA°,,\nAº,,\njaar,,\njaer,,\ndo ano,,\nano,,\nannée de grâce,,\nl'an de gr\
-âce,,\nl’an de grâce,,\nl'an de grace,,\nl’an de grace,,\nгода,,\nгоду,,\nгодъ,,\nгода от Рождества Христова,,\nг,,\nле\
-та,,\når,,\naar,,\nár,,\nAnno Christi,,\nnell'anno,,\nnell’anno,,\nго,,\nого,,\nye,,\njour de,,\nдня,,\nчисла,,\ndag,,\
-\nTag des,,\ndì,,\na dì,,\nadì,,\naddì,,\nde la République,,french republican\nde la Republique,,french republican\nde \
-la République française,,french republican\nde la République francaise,,french republican\nde la République françoise,,\
-french republican\nde la Republique francaise,,french republican\nde la Republique françoise,,french republican\nde la \
-Republique francoise,,french republican\nde la République une et indivisible,,french republican\nde la République franç\
-aise une et indivisible,,french republican\nder Republik,,french republican\nder fränkischen Republik,,french republica\
-n\nder französischen Republik,,french republican\nder fränk. Republik,,french republican\nder frz. Republik,,french rep\
-ublican\nrépublicain,,french republican\nrépublicaine,,french republican\nde l'ère républicaine,,french republican\nde \
-l’ère républicaine,,french republican\nfestum,,gregorian julian\nfesti,,gregorian julian\nfest,,gregorian julian\nfeas\
-t of,,gregorian julian\nfête de,,gregorian julian\ndivi,,gregorian julian\ndivae,,gregorian julian\nbeate,,gregorian ju\
-lian\nsancte,,gregorian julian\nfesto,,gregorian julian\nin festo,,gregorian julian\nin die,,gregorian julian\nS,,grego\
-rian julian\nSankt,,gregorian julian\nsancti,,gregorian julian\nsanctae,,gregorian julian\nbeati,,gregorian julian\nbea\
-tae,,gregorian julian\napostoli,,gregorian julian\napostolorum,,gregorian julian\nevangelistae,,gregorian julian\narcha\
-ngeli,,gregorian julian\nten jare,,\n\
+one,1901,\none thousand,1000,\none thousand and,1000,\none thousand and one,1001,\na thousand,1000,\na thousand and,100\
+0,\na thousand and one,1001,\ntwo thousand,2000,\ntwo thousand and,2000,\ntwo thousand and one,2001,\ndeux,2,\ntrois,3,\
+\nquatre,4,\ncinq,5,\nsept,7,coptic ethiopic egyptian armenian islamic hebrew french republican\nle sept,7,gregorian ju\
+lian\nhuit,8,\nneuf,9,\ndix,10,\nonze,11,\ndouze,12,\ntreize,13,\nquatorze,14,\nquinze,15,\nseize,16,\ndix-sept,17,\ndi\
+x-huit,18,\ndix-neuf,19,\nvingt,20,\nvingt et un,21,\nvingt-un,21,\nvingt-deux,22,\nvingt-trois,23,\nvingt-quatre,24,\n\
+vingt-cinq,25,\nvingt-six,26,\nvingt-sept,27,\nvingt-huit,28,\nvingt-neuf,29,\ntrente,30,\ntrente et un,31,\ntrente-un,\
+31,\ntrente-deux,32,\ntrente-trois,33,\ntrente-quatre,34,\ntrente-cinq,35,\ntrente-six,36,\ntrente-sept,37,\ntrente-hui\
+t,38,\ntrente-neuf,39,\nquarante,40,\nquarante et un,41,\nquarante-un,41,\nquarante-deux,42,\nquarante-trois,43,\nquara\
+nte-quatre,44,\nquarante-cinq,45,\nquarante-six,46,\nquarante-sept,47,\nquarante-huit,48,\nquarante-neuf,49,\ncinquante\
+,50,\ncinquante et un,51,\ncinquante-un,51,\ncinquante-deux,52,\ncinquante-trois,53,\ncinquante-quatre,54,\ncinquante-c\
+inq,55,\ncinquante-six,56,\ncinquante-sept,57,\ncinquante-huit,58,\ncinquante-neuf,59,\nsoixante,60,\nsoixante et un,61\
+,\nsoixante-un,61,\nsoixante-deux,62,\nsoixante-trois,63,\nsoixante-quatre,64,\nsoixante-cinq,65,\nsoixante-six,66,\nso\
+ixante-sept,67,\nsoixante-huit,68,\nsoixante-neuf,69,\nsoixante-dix,70,\nseptante,70,\nsoixante et onze,71,\nsoixante-o\
+nze,71,\nseptante et un,71,\nseptante-un,71,\nsoixante-douze,72,\nseptante-deux,72,\nsoixante-treize,73,\nseptante-troi\
+s,73,\nsoixante-quatorze,74,\nseptante-quatre,74,\nsoixante-quinze,75,\nseptante-cinq,75,\nsoixante-seize,76,\nseptante\
+-six,76,\nsoixante-dix-sept,77,\nseptante-sept,77,\nsoixante-dix-huit,78,\nseptante-huit,78,\nsoixante-dix-neuf,79,\nse\
+ptante-neuf,79,\nquatre-vingts,80,\nquatre-vingt,80,\noctante,80,\nhuitante,80,\nquatre-vingt-un,81,\noctante-un,81,\nh\
+uitante-un,81,\nquatre-vingt-deux,82,\noctante-deux,82,\nhuitante-deux,82,\nquatre-vingt-trois,83,\noctante-trois,83,\n\
+huitante-trois,83,\nquatre-vingt-quatre,84,\noctante-quatre,84,\nhuitante-quatre,84,\nquatre-vingt-cinq,85,\noctante-ci\
+nq,85,\nhuitante-cinq,85,\nquatre-vingt-six,86,\noctante-six,86,\nhuitante-six,86,\nquatre-vingt-sept,87,\noctante-sept\
+,87,\nhuitante-sept,87,\nquatre-vingt-huit,88,\noctante-huit,88,\nhuitante-huit,88,\nquatre-vingt-neuf,89,\noctante-neu\
+f,89,\nhuitante-neuf,89,\nquatre-vingt-dix,90,\nnonante,90,\nquatre-vingt-onze,91,\nnonante et un,91,\nnonante-un,91,\n\
+quatre-vingt-douze,92,\nnonante-deux,92,\nquatre-vingt-treize,93,\nnonante-trois,93,\nquatre-vingt-quatorze,94,\nnonant\
+e-quatre,94,\nquatre-vingt-quinze,95,\nnonante-cinq,95,\nquatre-vingt-seize,96,\nnonante-six,96,\nquatre-vingt-dix-sept\
+,97,\nnonante-sept,97,\nquatre-vingt-dix-huit,98,\nnonante-huit,98,\nquatre-vingt-dix-neuf,99,\nnonante-neuf,99,\nan un\
+,1,french republican\npremier,1,\ndeuxième,2,\ndeuxieme,2,\ndeuxiesme,2,\ntroisième,3,\ntroisieme,3,\ntroisiesme,3,\nqu\
+atrième,4,\nquatrieme,4,\nquatriesme,4,\ncinquième,5,\ncinquieme,5,\ncinquiesme,5,\nsixième,6,\nsixieme,6,\nsixiesme,6,\
+\nseptième,7,\nseptieme,7,\nseptiesme,7,\nhuitième,8,\nhuitieme,8,\nhuitiesme,8,\nneuvième,9,\nneuvieme,9,\nneuviesme,9\
+,\ndixième,10,\ndixieme,10,\ndixiesme,10,\nonzième,11,\nonzieme,11,\nonziesme,11,\ndouzième,12,\ndouzieme,12,\ndouziesm\
+e,12,\ntreizième,13,\ntreizieme,13,\ntreiziesme,13,\nquatorzième,14,\nquatorzieme,14,\nquatorziesme,14,\nquinzième,15,\
+\nquinzieme,15,\nquinziesme,15,\nseizième,16,\nseizieme,16,\nseiziesme,16,\ndix-septième,17,\ndix-septieme,17,\ndix-sep\
+tiesme,17,\ndix-huitième,18,\ndix-huitieme,18,\ndix-huitiesme,18,\ndix-neuvième,19,\ndix-neuvieme,19,\ndix-neuviesme,19\
+,\nvingtième,20,\nvingtieme,20,\nvingtiesme,20,\nvingt et unième,21,\nvingt et unieme,21,\nvingt et uniesme,21,\nvingt-\
+unième,21,\nvingt-unieme,21,\nvingt-uniesme,21,\nvingt-deuxième,22,\nvingt-deuxieme,22,\nvingt-deuxiesme,22,\nvingt-tro\
+isième,23,\nvingt-troisieme,23,\nvingt-troisiesme,23,\nvingt-quatrième,24,\nvingt-quatrieme,24,\nvingt-quatriesme,24,\n\
+vingt-cinquième,25,\nvingt-cinquieme,25,\nvingt-cinquiesme,25,\nvingt-sixième,26,\nvingt-sixieme,26,\nvingt-sixiesme,26\
+,\nvingt-septième,27,\nvingt-septieme,27,\nvingt-septiesme,27,\nvingt-huitième,28,\nvingt-huitieme,28,\nvingt-huitiesme\
+,28,\nvingt-neuvième,29,\nvingt-neuvieme,29,\nvingt-neuviesme,29,\ntrentième,30,\ntrentieme,30,\ntrentiesme,30,\ntrent\
+e et unième,31,\ntrente et unieme,31,\ntrente et uniesme,31,\ntrente-unième,31,\ntrente-unieme,31,\ntrente-uniesme,31,\
+\ncent,100,\ncent un,101,\ncent sept,107,\ndeux cent,200,\ndeux cent un,201,\ndeux cent sept,207,\ndeux cents,200,\ndeu\
+x cents un,201,\ndeux cents sept,207,\ntrois cent,300,\ntrois cent un,301,\ntrois cent sept,307,\ntrois cents,300,\ntro\
+is cents un,301,\ntrois cents sept,307,\nquatre cent,400,\nquatre cent un,401,\nquatre cent sept,407,\nquatre cents,400\
+,\nquatre cents un,401,\nquatre cents sept,407,\ncinq cent,500,\ncinq cent un,501,\ncinq cent sept,507,\ncinq cents,500\
+,\ncinq cents un,501,\ncinq cents sept,507,\nsix cent,600,\nsix cent un,601,\nsix cent sept,607,\nsix cents,600,\nsix c\
+ents un,601,\nsix cents sept,607,\nsept cent,700,\nsept cent un,701,\nsept cent sept,707,\nsept cents,700,\nsept cents \
+un,701,\nsept cents sept,707,\nhuit cent,800,\nhuit cent un,801,\nhuit cent sept,807,\nhuit cents,800,\nhuit cents un,8\
+01,\nhuit cents sept,807,\nneuf cent,900,\nneuf cent un,901,\nneuf cent sept,907,\nneuf cents,900,\nneuf cents un,901,\
+\nneuf cents sept,907,\nonze cent,1100,\nonze cent un,1101,\nonze cent sept,1107,\nonze cents,1100,\nonze cents un,1101\
+,\nonze cents sept,1107,\ndouze cent,1200,\ndouze cent un,1201,\ndouze cent sept,1207,\ndouze cents,1200,\ndouze cents \
+un,1201,\ndouze cents sept,1207,\ntreize cent,1300,\ntreize cent un,1301,\ntreize cent sept,1307,\ntreize cents,1300,\n\
+treize cents un,1301,\ntreize cents sept,1307,\nquatorze cent,1400,\nquatorze cent un,1401,\nquatorze cent sept,1407,\n\
+quatorze cents,1400,\nquatorze cents un,1401,\nquatorze cents sept,1407,\nquinze cent,1500,\nquinze cent un,1501,\nquin\
+ze cent sept,1507,\nquinze cents,1500,\nquinze cents un,1501,\nquinze cents sept,1507,\nseize cent,1600,\nseize cent un\
+,1601,\nseize cent sept,1607,\nseize cents,1600,\nseize cents un,1601,\nseize cents sept,1607,\ndix-sept cent,1700,\ndi\
+x-sept cent un,1701,\ndix-sept cent sept,1707,\ndix-sept cents,1700,\ndix-sept cents un,1701,\ndix-sept cents sept,1707\
+,\ndix-huit cent,1800,\ndix-huit cent un,1801,\ndix-huit cent sept,1807,\ndix-huit cents,1800,\ndix-huit cents un,1801,\
+\ndix-huit cents sept,1807,\ndix-neuf cent,1900,\ndix-neuf cent un,1901,\ndix-neuf cent sept,1907,\ndix-neuf cents,1900\
+,\ndix-neuf cents un,1901,\ndix-neuf cents sept,1907,\nmil,1000,\nmil un,1001,\nmille,1000,\nmille un,1001,\ndeux mil,2\
+000,\ndeux mille,2000,\ndeux mil un,2001,\ndeux mille un,2001,\neins,1,\nzwei,2,\nzwey,2,\ndrei,3,\ndrey,3,\nvier,4,\nf\
+ünf,5,\nsechs,6,\nsieben,7,\nacht,8,\nneun,9,\nzehn,10,\nelf,11,\nzwölf,12,\ndreizehn,13,\ndreyzehn,13,\nvierzehn,14,\n\
+fünfzehn,15,\nsechzehn,16,\nsiebzehn,17,\nachtzehn,18,\nneunzehn,19,\nzwanzig,20,\neinundzwanzig,21,\nein und zwanzig,2\
+1,\nzweiundzwanzig,22,\nzweyundzwanzig,22,\nzwei und zwanzig,22,\nzwey und zwanzig,22,\ndreiundzwanzig,23,\ndreyundzwan\
+zig,23,\ndrei und zwanzig,23,\ndrey und zwanzig,23,\nvierundzwanzig,24,\nvier und zwanzig,24,\nfünfundzwanzig,25,\nfün\
+f und zwanzig,25,\nsechsundzwanzig,26,\nsechs und zwanzig,26,\nsiebenundzwanzig,27,\nsieben und zwanzig,27,\nachtundzwa\
+nzig,28,\nacht und zwanzig,28,\nneunundzwanzig,29,\nneun und zwanzig,29,\ndreißig,30,\ndreyßig,30,\neinunddreißig,31,\n\
+einunddreyßig,31,\nein und dreißig,31,\nein und dreyßig,31,\nzweiunddreißig,32,\nzweyunddreißig,32,\nzweiunddreyßig,32,\
+\nzweyunddreyßig,32,\nzwei und dreißig,32,\nzwey und dreißig,32,\nzwei und dreyßig,32,\nzwey und dreyßig,32,\ndreiunddr\
+eißig,33,\ndreyunddreyßig,33,\ndrei und dreißig,33,\ndrey und dreyßig,33,\nvierunddreißig,34,\nvierunddreyßig,34,\nvie\
+r und dreißig,34,\nvier und dreyßig,34,\nfünfunddreißig,35,\nfünfunddreyßig,35,\nfünf und dreißig,35,\nfünf und dreyßig\
+,35,\nsechsunddreißig,36,\nsechsunddreyßig,36,\nsechs und dreißig,36,\nsechs und dreyßig,36,\nsiebenunddreißig,37,\nsie\
+benunddreyßig,37,\nsieben und dreißig,37,\nsieben und dreyßig,37,\nachtunddreißig,38,\nachtunddreyßig,38,\nacht und dre\
+ißig,38,\nacht und dreyßig,38,\nneununddreißig,39,\nneununddreyßig,39,\nneun und dreißig,39,\nneun und dreyßig,39,\nvie\
+rzig,40,\neinundvierzig,41,\nein und vierzig,41,\nzweiundvierzig,42,\nzweyundvierzig,42,\nzwei und vierzig,42,\nzwey un\
+d vierzig,42,\ndreiundvierzig,43,\ndreyundvierzig,43,\ndrei und vierzig,43,\ndrey und vierzig,43,\nvierundvierzig,44,\n\
+vier und vierzig,44,\nfünfundvierzig,45,\nfünf und vierzig,45,\nsechsundvierzig,46,\nsechs und vierzig,46,\nsiebenundvi\
+erzig,47,\nsieben und vierzig,47,\nachtundvierzig,48,\nacht und vierzig,48,\nneunundvierzig,49,\nneun und vierzig,49,\n\
+fünfzig,50,\neinundfünfzig,51,\nein und fünfzig,51,\nzweiundfünfzig,52,\nzweyundfünfzig,52,\nzwei und fünfzig,52,\nzwe\
+y und fünfzig,52,\ndreiundfünfzig,53,\ndreyundfünfzig,53,\ndrei und fünfzig,53,\ndrey und fünfzig,53,\nvierundfünfzig,5\
+4,\nvier und fünfzig,54,\nfünfundfünfzig,55,\nfünf und fünfzig,55,\nsechsundfünfzig,56,\nsechs und fünfzig,56,\nsiebenu\
+ndfünfzig,57,\nsieben und fünfzig,57,\nachtundfünfzig,58,\nacht und fünfzig,58,\nneunundfünfzig,59,\nneun und fünfzig,5\
+9,\nsechzig,60,\neinundsechzig,61,\nein und sechzig,61,\nzweiundsechzig,62,\nzweyundsechzig,62,\nzwei und sechzig,62,\n\
+zwey und sechzig,62,\ndreiundsechzig,63,\ndreyundsechzig,63,\ndrei und sechzig,63,\ndrey und sechzig,63,\nvierundsechzi\
+g,64,\nvier und sechzig,64,\nfünfundsechzig,65,\nfünf und sechzig,65,\nsechsundsechzig,66,\nsechs und sechzig,66,\nsieb\
+enundsechzig,67,\nsieben und sechzig,67,\nachtundsechzig,68,\nacht und sechzig,68,\nneunundsechzig,69,\nneun und sechzi\
+g,69,\nsiebzig,70,\neinundsiebzig,71,\nein und siebzig,71,\nzweiundsiebzig,72,\nzweyundsiebzig,72,\nzwei und siebzig,72\
+,\nzwey und siebzig,72,\ndreiundsiebzig,73,\ndreyundsiebzig,73,\ndrei und siebzig,73,\ndrey und siebzig,73,\nvierundsie\
+bzig,74,\nvier und siebzig,74,\nfünfundsiebzig,75,\nfünf und siebzig,75,\nsechsundsiebzig,76,\nsechs und siebzig,76,\ns\
+iebenundsiebzig,77,\nsieben und siebzig,77,\nachtundsiebzig,78,\nacht und siebzig,78,\nneunundsiebzig,79,\nneun und sie\
+bzig,79,\nachtzig,80,\neinundachtzig,81,\nein und achtzig,81,\nzweiundachtzig,82,\nzweyundachtzig,82,\nzwei und achtzig\
+,82,\nzwey und achtzig,82,\ndreiundachtzig,83,\ndreyundachtzig,83,\ndrei und achtzig,83,\ndrey und achtzig,83,\nvierund\
+achtzig,84,\nvier und achtzig,84,\nfünfundachtzig,85,\nfünf und achtzig,85,\nsechsundachtzig,86,\nsechs und achtzig,86,\
+\nsiebenundachtzig,87,\nsieben und achtzig,87,\nachtundachtzig,88,\nacht und achtzig,88,\nneunundachtzig,89,\nneun und \
+achtzig,89,\nneunzig,90,\neinundneunzig,91,\nein und neunzig,91,\nzweiundneunzig,92,\nzweyundneunzig,92,\nzwei und neun\
+zig,92,\nzwey und neunzig,92,\ndreiundneunzig,93,\ndreyundneunzig,93,\ndrei und neunzig,93,\ndrey und neunzig,93,\nvier\
+undneunzig,94,\nvier und neunzig,94,\nfünfundneunzig,95,\nfünf und neunzig,95,\nsechsundneunzig,96,\nsechs und neunzig,\
+96,\nsiebenundneunzig,97,\nsieben und neunzig,97,\nachtundneunzig,98,\nacht und neunzig,98,\nneunundneunzig,99,\nneun u\
+nd neunzig,99,\nzwo,2,\neilf,11,\nerste,1,\nersten,1,\nerster,1,\nzweite,2,\nzweiten,2,\nzweiter,2,\nzweyte,2,\nzweyten\
+,2,\nzweyter,2,\nzwote,2,\nzwoten,2,\nzwoter,2,\ndritte,3,\ndritten,3,\ndritter,3,\nvierte,4,\nvierten,4,\nvierter,4,\n\
+fünfte,5,\nfünften,5,\nfünfter,5,\nsechste,6,\nsechsten,6,\nsechster,6,\nsiebente,7,\nsiebenten,7,\nsiebenter,7,\nsiebt\
+e,7,\nsiebten,7,\nsiebter,7,\nachte,8,\nachten,8,\nachter,8,\nneunte,9,\nneunten,9,\nneunter,9,\nzehnte,10,\nzehnten,10\
+,\nzehnter,10,\nelfte,11,\nelften,11,\nelfter,11,\neilfte,11,\neilften,11,\neilfter,11,\nzwölfte,12,\nzwölften,12,\nzwö\
+lfter,12,\ndreizehnte,13,\ndreizehnten,13,\ndreizehnter,13,\ndreyzehnte,13,\ndreyzehnten,13,\ndreyzehnter,13,\nvierzehn\
+te,14,\nvierzehnten,14,\nvierzehnter,14,\nfünfzehnte,15,\nfünfzehnten,15,\nfünfzehnter,15,\nsechzehnte,16,\nsechzehnten\
+,16,\nsechzehnter,16,\nsiebzehnte,17,\nsiebzehnten,17,\nsiebzehnter,17,\nachtzehnte,18,\nachtzehnten,18,\nachtzehnter,1\
+8,\nneunzehnte,19,\nneunzehnten,19,\nneunzehnter,19,\nzwanzigste,20,\nzwanzigsten,20,\nzwanzigster,20,\neinundzwanzigst\
+e,21,\neinundzwanzigsten,21,\neinundzwanzigster,21,\nein und zwanzigste,21,\nein und zwanzigsten,21,\nein und zwanzigst\
+er,21,\nzweiundzwanzigste,22,\nzweiundzwanzigsten,22,\nzweiundzwanzigster,22,\nzweyundzwanzigste,22,\nzweyundzwanzigste\
+n,22,\nzweyundzwanzigster,22,\nzwei und zwanzigste,22,\nzwei und zwanzigsten,22,\nzwei und zwanzigster,22,\nzwey und zw\
+anzigste,22,\nzwey und zwanzigsten,22,\nzwey und zwanzigster,22,\ndreiundzwanzigste,23,\ndreiundzwanzigsten,23,\ndreiun\
+dzwanzigster,23,\ndreyundzwanzigste,23,\ndreyundzwanzigsten,23,\ndreyundzwanzigster,23,\ndrei und zwanzigste,23,\ndrei \
+und zwanzigsten,23,\ndrei und zwanzigster,23,\ndrey und zwanzigste,23,\ndrey und zwanzigsten,23,\ndrey und zwanzigster,\
+23,\nvierundzwanzigste,24,\nvierundzwanzigsten,24,\nvierundzwanzigster,24,\nvier und zwanzigste,24,\nvier und zwanzigst\
+en,24,\nvier und zwanzigster,24,\nfünfundzwanzigste,25,\nfünfundzwanzigsten,25,\nfünfundzwanzigster,25,\nfünf und zwanz\
+igste,25,\nfünf und zwanzigsten,25,\nfünf und zwanzigster,25,\nsechsundzwanzigste,26,\nsechsundzwanzigsten,26,\nsechsun\
+dzwanzigster,26,\nsechs und zwanzigste,26,\nsechs und zwanzigsten,26,\nsechs und zwanzigster,26,\nsiebenundzwanzigste,2\
+7,\nsiebenundzwanzigsten,27,\nsiebenundzwanzigster,27,\nsieben und zwanzigste,27,\nsieben und zwanzigsten,27,\nsieben u\
+nd zwanzigster,27,\nachtundzwanzigste,28,\nachtundzwanzigsten,28,\nachtundzwanzigster,28,\nacht und zwanzigste,28,\nach\
+t und zwanzigsten,28,\nacht und zwanzigster,28,\nneunundzwanzigste,29,\nneunundzwanzigsten,29,\nneunundzwanzigster,29,\
+\nneun und zwanzigste,29,\nneun und zwanzigsten,29,\nneun und zwanzigster,29,\ndreißigste,30,\ndreißigsten,30,\ndreißig\
+ster,30,\ndreyßigste,30,\ndreyßigsten,30,\ndreyßigster,30,\neinunddreißigste,31,\neinunddreißigsten,31,\neinunddreißigs\
+ter,31,\neinunddreyßigste,31,\neinunddreyßigsten,31,\neinunddreyßigster,31,\nein und dreißigste,31,\nein und dreißigste\
+n,31,\nein und dreißigster,31,\nein und dreyßigste,31,\nein und dreyßigsten,31,\nein und dreyßigster,31,\neinhundert,10\
+0,\neinhundert und,100,\nein hundert,100,\nein hundert und,100,\nhundert,100,\nhundert und,100,\nzweihundert,200,\nzwei\
+hundert und,200,\nzwei hundert,200,\nzwei hundert und,200,\nzweyhundert,200,\nzweyhundert und,200,\nzwey hundert,200,\n\
+zwey hundert und,200,\ndreihundert,300,\ndreihundert und,300,\ndrei hundert,300,\ndrei hundert und,300,\ndreyhundert,30\
+0,\ndreyhundert und,300,\ndrey hundert,300,\ndrey hundert und,300,\nvierhundert,400,\nvierhundert und,400,\nvier hunder\
+t,400,\nvier hundert und,400,\nfünfhundert,500,\nfünfhundert und,500,\nfünf hundert,500,\nfünf hundert und,500,\nsechsh\
+undert,600,\nsechshundert und,600,\nsechs hundert,600,\nsechs hundert und,600,\nsiebenhundert,700,\nsiebenhundert und,7\
+00,\nsieben hundert,700,\nsieben hundert und,700,\nachthundert,800,\nachthundert und,800,\nacht hundert,800,\nacht hund\
+ert und,800,\nneunhundert,900,\nneunhundert und,900,\nneun hundert,900,\nneun hundert und,900,\nelfhundert,1100,\nelfhu\
+ndert und,1100,\nelf hundert,1100,\nelf hundert und,1100,\nzwölfhundert,1200,\nzwölfhundert und,1200,\nzwölf hundert,12\
+00,\nzwölf hundert und,1200,\ndreizehnhundert,1300,\ndreizehnhundert und,1300,\ndreizehn hundert,1300,\ndreizehn hunder\
+t und,1300,\ndreyzehnhundert,1300,\ndreyzehnhundert und,1300,\ndreyzehn hundert,1300,\ndreyzehn hundert und,1300,\nvier\
+zehnhundert,1400,\nvierzehnhundert und,1400,\nvierzehn hundert,1400,\nvierzehn hundert und,1400,\nfünfzehnhundert,1500,\
+\nfünfzehnhundert und,1500,\nfünfzehn hundert,1500,\nfünfzehn hundert und,1500,\nsechzehnhundert,1600,\nsechzehnhunder\
+t und,1600,\nsechzehn hundert,1600,\nsechzehn hundert und,1600,\nsiebzehnhundert,1700,\nsiebzehnhundert und,1700,\nsieb\
+zehn hundert,1700,\nsiebzehn hundert und,1700,\nachtzehnhundert,1800,\nachtzehnhundert und,1800,\nachtzehn hundert,1800\
+,\nachtzehn hundert und,1800,\nneunzehnhundert,1900,\nneunzehnhundert und,1900,\nneunzehn hundert,1900,\nneunzehn hunde\
+rt und,1900,\ntausend,1000,\ntausend und,1000,\neintausend,1000,\neintausend und,1000,\nein tausend,1000,\nein tausend \
+und,1000,\nzweitausend,2000,\nzweitausend und,2000,\nzwei tausend,2000,\nzwei tausend und,2000,\nMontag,weekday 1,\nDie\
+nstag,weekday 2,\nMittwoch,weekday 3,\nDonnerstag,weekday 4,\nFreitag,weekday 5,\nSamstag,weekday 6,\nSonnabend,weekda\
+y 6,\nSonntag,weekday 0,\nMo,weekday 1,\nDi,weekday 2,gregorian julian coptic ethiopic egyptian armenian islamic hebre\
+w french republican\nMi,weekday 3,gregorian julian coptic ethiopic egyptian armenian islamic hebrew french republican\n\
+Do,weekday 4,\nFr,weekday 5,\nSa,weekday 6,\nSo,weekday 0,\nMonday,weekday 1,\nTuesday,weekday 2,\nWednesday,weekday 3,\
+\nThursday,weekday 4,\nFriday,weekday 5,\nSaturday,weekday 6,\nSunday,weekday 0,\nMon,weekday 1,\nTue,weekday 2,\nTues,\
+weekday 2,\nWed,weekday 3,\nThu,weekday 4,\nThur,weekday 4,\nThurs,weekday 4,\nFri,weekday 5,\nSat,weekday 6,\nSun,week\
+day 0,\nlundi,weekday 1,\nmardi,weekday 2,\nmercredi,weekday 3,\njeudi,weekday 4,\nvendredi,weekday 5,\nsamedi,weekday \
+6,\ndimanche,weekday 0,\nlun,weekday 1,\nmer,weekday 3,\njeu,weekday 4,\nven,weekday 5,\nsam,weekday 6,\ndim,weekday 0,\
+\nmaandag,weekday 1,\ndinsdag,weekday 2,\nwoensdag,weekday 3,\ndonderdag,weekday 4,\nvrijdag,weekday 5,\nzaterdag,weekd\
+ay 6,\nzondag,weekday 0,\nma,weekday 1,\nwo,weekday 3,\nvr,weekday 5,\nza,weekday 6,\nzo,weekday 0,\nlunedì,weekday 1,\
+\nmartedì,weekday 2,\nmercoledì,weekday 3,\ngiovedì,weekday 4,\nvenerdì,weekday 5,\nsabato,weekday 6,\ndomenica,weekda\
+y 0,\nlunes,weekday 1,\nmartes,weekday 2,\nmiércoles,weekday 3,\njueves,weekday 4,\nviernes,weekday 5,\nsábado,weekday \
+6,\ndomingo,weekday 0,\nponiedziałek,weekday 1,\nwtorek,weekday 2,\nśroda,weekday 3,\nczwartek,weekday 4,\npiątek,weekd\
+ay 5,\nsobota,weekday 6,\nniedziela,weekday 0,\npondělí,weekday 1,\núterý,weekday 2,\nstředa,weekday 3,\nčtvrtek,weekda\
+y 4,\npátek,weekday 5,\nneděle,weekday 0,\ndies Lunae,weekday 1,\ndies Martis,weekday 2,\ndies Mercurii,weekday 3,\ndie\
+s Iovis,weekday 4,\ndies Jovis,weekday 4,\ndies Veneris,weekday 5,\ndies Saturni,weekday 6,\ndies Sabbati,weekday 6,\nd\
+ies Dominica,weekday 0,\nsøndag,weekday 0,\nmandag,weekday 1,\ntirsdag,weekday 2,\nonsdag,weekday 3,\ntorsdag,weekday 4\
+,\nfredag,weekday 5,\nlørdag,weekday 6,\nsöndag,weekday 0,\nmåndag,weekday 1,\ntisdag,weekday 2,\nlördag,weekday 6,\nsu\
+nnuntai,weekday 0,\nmaanantai,weekday 1,\ntiistai,weekday 2,\nkeskiviikko,weekday 3,\ntorstai,weekday 4,\nperjantai,wee\
+kday 5,\nlauantai,weekday 6,\nvasárnap,weekday 0,\nhétfő,weekday 1,\nkedd,weekday 2,\nszerda,weekday 3,\ncsütörtök,week\
+day 4,\npéntek,weekday 5,\nszombat,weekday 6,\nsegunda-feira,weekday 1,\nterça-feira,weekday 2,\nquarta-feira,weekday 3\
+,\nquinta-feira,weekday 4,\nsexta-feira,weekday 5,\nвоскресенье,weekday 0,\nпонедельник,weekday 1,\nвторник,weekday 2,\
+\nсреда,weekday 3,\nчетверг,weekday 4,\nпятница,weekday 5,\nсуббота,weekday 6,\nнеділя,weekday 0,\nпонеділок,weekday 1,\
+\nвівторок,weekday 2,\nсереда,weekday 3,\nчетвер,weekday 4,\nпʼятниця,weekday 5,\nсубота,weekday 6,\nΚυριακή,weekday 0,\
+\nΔευτέρα,weekday 1,\nΤρίτη,weekday 2,\nΤετάρτη,weekday 3,\nΠέμπτη,weekday 4,\nΠαρασκευή,weekday 5,\nΣάββατο,weekday 6,\
+\nPazar,weekday 0,\nPazartesi,weekday 1,\nSalı,weekday 2,\nÇarşamba,weekday 3,\nPerşembe,weekday 4,\nCuma,weekday 5,\nC\
+umartesi,weekday 6,\nSonntags,weekday 0,\nSontag,weekday 0,\ndies dominicus,weekday 0,\ndie Dominica,weekday 0,\ndie Do\
+minico,weekday 0,\ndominico die,weekday 0,\nMontags,weekday 1,\nMondtag,weekday 1,\ndie Lunae,weekday 1,\ndie Lune,week\
+day 1,\nDienstags,weekday 2,\nDinstag,weekday 2,\nDinstags,weekday 2,\nErchtag,weekday 2,\nErtag,weekday 2,\nZinstag,we\
+ekday 2,\nZistag,weekday 2,\ndie Martis,weekday 2,\nMittwochs,weekday 3,\nMitwoch,weekday 3,\nMittichen,weekday 3,\ndi\
+e Mercurii,weekday 3,\nDonnerstags,weekday 4,\nDornstag,weekday 4,\nPfinztag,weekday 4,\ndie Jovis,weekday 4,\ndie Iovi\
+s,weekday 4,\nFreitags,weekday 5,\nFreytag,weekday 5,\nFreytags,weekday 5,\ndie Veneris,weekday 5,\nSamstags,weekday 6,\
+\nSonnabends,weekday 6,\nSambstag,weekday 6,\ndie Sabbati,weekday 6,\ndie Saturni,weekday 6,\ndie Sabbato,weekday 6,\nS\
+onnabent,weekday 6,\ndominica,weekday 0,\ndom,weekday 0,\nferia secunda,weekday 1,\nferia 2,weekday 1,\nferia tertia,we\
+ekday 2,\nferia tercia,weekday 2,\nferia 3,weekday 2,\nferia quarta,weekday 3,\nferia 4,weekday 3,\nferia quinta,weekda\
+y 4,\nferia 5,weekday 4,\nferia sexta,weekday 5,\nferia 6,weekday 5,\nsabbato,weekday 6,\nsabbatum,weekday 6,\nprimidi,\
+decade 1,french republican\nduodi,decade 2,french republican\ntridi,decade 3,french republican\nquartidi,decade 4,frenc\
+h republican\nquintidi,decade 5,french republican\nsextidi,decade 6,french republican\nseptidi,decade 7,french republic\
+an\noctidi,decade 8,french republican\nnonidi,decade 9,french republican\ndécadi,decade 10,french republican\ndecadi,de\
+cade 10,french republican\nday after,morrow,gregorian julian\nTag nach,morrow,gregorian julian\nTags nach,morrow,gregor\
+ian julian\njour après,morrow,gregorian julian\nlendemain de,morrow,gregorian julian\ndie post,morrow,gregorian julian\
+\ndies post,morrow,gregorian julian\nday before,eve,gregorian julian\nTag vor,eve,gregorian julian\nTags vor,eve,gregor\
+ian julian\njour avant,eve,gregorian julian\ndie ante,eve,gregorian julian\ndies ante,eve,gregorian julian\nin profesto\
+,eve,gregorian julian\nafter,after,gregorian julian\nnach,after,gregorian julian\npost,after,gregorian julian\np,after,\
+gregorian julian\naprès,after,gregorian julian\nbefore,before,gregorian julian\nvor,before,gregorian julian\nante,befor\
+e,gregorian julian\navant,before,gregorian julian\neve of,eve,gregorian julian\nvigilia,eve,gregorian julian\nin vigili\
+a,eve,gregorian julian\nVigil,eve,gregorian julian\nVorabend,eve,gregorian julian\nprofesto,eve,gregorian julian\nveill\
+e de,eve,gregorian julian\noctava,octave,gregorian julian\nin octava,octave,gregorian julian\nOktav,octave,gregorian ju\
+lian\noctave of,octave,gregorian julian\nin crastino,morrow,gregorian julian\ncrastino,morrow,gregorian julian\nmorrow \
+of,morrow,gregorian julian\nOstern,easter 0,gregorian julian\nOstersonntag,easter 0,gregorian julian\nOstertag,easter 0\
+,gregorian julian\nPascha,easter 0,gregorian julian\nPaschae,easter 0,gregorian julian\nPasche,easter 0,gregorian julia\
+n\nResurrectionis Domini,easter 0,gregorian julian\nEaster,easter 0,gregorian julian\nEaster Day,easter 0,gregorian jul\
+ian\nEaster Sunday,easter 0,gregorian julian\nPâques,easter 0,gregorian julian\nOstermontag,easter 1,gregorian julian\n\
+Easter Monday,easter 1,gregorian julian\nlundi de Pâques,easter 1,gregorian julian\nOsterdienstag,easter 2,gregorian ju\
+lian\nEaster Tuesday,easter 2,gregorian julian\nSeptuagesima,easter -63,gregorian julian\nSeptuagesimae,easter -63,greg\
+orian julian\nSeptuagésime,easter -63,gregorian julian\nCircumdederunt,easter -63,gregorian julian\nSexagesima,easter -\
+56,gregorian julian\nSexagesimae,easter -56,gregorian julian\nExsurge,easter -56,gregorian julian\nExurge,easter -56,gr\
+egorian julian\nQuinquagesima,easter -49,gregorian julian\nQuinquagesimae,easter -49,gregorian julian\nEstomihi,easter \
+-49,gregorian julian\nEsto mihi,easter -49,gregorian julian\nHerrenfastnacht,easter -49,gregorian julian\nFastnachtsdie\
+nstag,easter -47,gregorian julian\nShrove Tuesday,easter -47,gregorian julian\nMardi gras,easter -47,gregorian julian\n\
+Aschermittwoch,easter -46,gregorian julian\ndies Cinerum,easter -46,gregorian julian\nCinerum,easter -46,gregorian juli\
+an\nAsh Wednesday,easter -46,gregorian julian\nmercredi des Cendres,easter -46,gregorian julian\nInvocavit,easter -42,g\
+regorian julian\nInvocabit,easter -42,gregorian julian\nQuadragesima,easter -42,gregorian julian\nReminiscere,easter -3\
+5,gregorian julian\nOculi,easter -28,gregorian julian\nLaetare,easter -21,gregorian julian\nLetare,easter -21,gregoria\
+n julian\nLätare,easter -21,gregorian julian\nJudica,easter -14,gregorian julian\nIudica,easter -14,gregorian julian\nP\
+almarum,easter -7,gregorian julian\nPalmsonntag,easter -7,gregorian julian\nPalm Sunday,easter -7,gregorian julian\ndim\
+anche des Rameaux,easter -7,gregorian julian\nRameaux,easter -7,gregorian julian\nGründonnerstag,easter -3,gregorian ju\
+lian\nCoena Domini,easter -3,gregorian julian\nCoenae Domini,easter -3,gregorian julian\nCene Domini,easter -3,gregoria\
+n julian\nMaundy Thursday,easter -3,gregorian julian\nJeudi saint,easter -3,gregorian julian\nKarfreitag,easter -2,greg\
+orian julian\nCharfreitag,easter -2,gregorian julian\nParasceve,easter -2,gregorian julian\nGood Friday,easter -2,grego\
+rian julian\nVendredi saint,easter -2,gregorian julian\nKarsamstag,easter -1,gregorian julian\nSabbatum sanctum,easter \
+-1,gregorian julian\nQuasimodogeniti,easter 7,gregorian julian\nQuasi modo geniti,easter 7,gregorian julian\nQuasimodo,\
+easter 7,gregorian julian\nLow Sunday,easter 7,gregorian julian\nMisericordias Domini,easter 14,gregorian julian\nMiser\
+icordia Domini,easter 14,gregorian julian\nJubilate,easter 21,gregorian julian\nIubilate,easter 21,gregorian julian\nCa\
+ntate,easter 28,gregorian julian\nKantate,easter 28,gregorian julian\nRogate,easter 35,gregorian julian\nVocem jucundit\
+atis,easter 35,gregorian julian\nRogation Sunday,easter 35,gregorian julian\nHimmelfahrt,easter 39,gregorian julian\nCh\
+risti Himmelfahrt,easter 39,gregorian julian\nAuffahrt,easter 39,gregorian julian\nAscensionis Domini,easter 39,gregori\
+an julian\nAscensionis,easter 39,gregorian julian\nAscension Day,easter 39,gregorian julian\nAscension,easter 39,gregor\
+ian julian\nExaudi,easter 42,gregorian julian\nPfingsten,easter 49,gregorian julian\nPfingstsonntag,easter 49,gregoria\
+n julian\nPentecostes,easter 49,gregorian julian\nPentecoste,easter 49,gregorian julian\nPentecost,easter 49,gregorian \
+julian\nWhitsunday,easter 49,gregorian julian\nWhit Sunday,easter 49,gregorian julian\nPentecôte,easter 49,gregorian ju\
+lian\nPfingstmontag,easter 50,gregorian julian\nWhit Monday,easter 50,gregorian julian\nTrinitatis,easter 56,gregorian \
+julian\nTrin,easter 56,gregorian julian\nTrinity Sunday,easter 56,gregorian julian\nTrinity,easter 56,gregorian julian\
+\nTrinité,easter 56,gregorian julian\nFronleichnam,easter 60,gregorian julian\nCorporis Christi,easter 60,gregorian jul\
+ian\nCorpus Christi,easter 60,gregorian julian\nFête-Dieu,easter 60,gregorian julian\nAdvent,sundays advent,gregorian j\
+ulian\nAdventus,sundays advent,gregorian julian\nAdventus Domini,sundays advent,gregorian julian\nAdv,sundays advent,gr\
+egorian julian\nAdventssonntag,sundays advent,gregorian julian\nSunday in Advent,sundays advent,gregorian julian\ndiman\
+che de l'Avent,sundays advent,gregorian julian\nFastensonntag,sundays lent,gregorian julian\nQuadragesimae,sundays lent\
+,gregorian julian\nSunday in Lent,sundays lent,gregorian julian\nAd te levavi,sunday advent 1,gregorian julian\nPopulu\
+s Sion,sunday advent 2,gregorian julian\nGaudete,sunday advent 3,gregorian julian\nRorate,sunday advent 4,gregorian jul\
+ian\nAdvent Sunday,sunday advent 1,gregorian julian\nNeujahr,feast 1-1,gregorian julian\nCircumcisionis Domini,feast 1-\
+1,gregorian julian\nCircumcisionis,feast 1-1,gregorian julian\nEpiphaniae,feast 1-6,gregorian julian\nEpiphanie,feast 1\
+-6,gregorian julian\nEpiphanias,feast 1-6,gregorian julian\nEpiph,feast 1-6,gregorian julian\nEpiphany,feast 1-6,gregor\
+ian julian\nTrium Regum,feast 1-6,gregorian julian\nDreikönig,feast 1-6,gregorian julian\nHeilige Drei Könige,feast 1-6\
+,gregorian julian\nFabiani et Sebastiani,feast 1-20,gregorian julian\nAgnetis,feast 1-21,gregorian julian\nVincentii,fe\
+ast 1-22,gregorian julian\nConversionis Pauli,feast 1-25,gregorian julian\nPauli Bekehrung,feast 1-25,gregorian julian\
+\nLichtmess,feast 2-2,gregorian julian\nMariä Lichtmess,feast 2-2,gregorian julian\nPurificationis Mariae,feast 2-2,gre\
+gorian julian\nPurificationis,feast 2-2,gregorian julian\nCandlemas,feast 2-2,gregorian julian\nChandeleur,feast 2-2,gr\
+egorian julian\nBlasii,feast 2-3,gregorian julian\nAgathae,feast 2-5,gregorian julian\nValentini,feast 2-14,gregorian j\
+ulian\nCathedra Petri,feast 2-22,gregorian julian\nPetri Stuhlfeier,feast 2-22,gregorian julian\nMatthiae,feast 3-1 -5,\
+gregorian julian\nMathie,feast 3-1 -5,gregorian julian\nGertrudis,feast 3-17,gregorian julian\nBenedicti,feast 3-21,gre\
+gorian julian\nAnnunciationis Mariae,feast 3-25,gregorian julian\nAnnuntiationis Mariae,feast 3-25,gregorian julian\nMa\
+riä Verkündigung,feast 3-25,gregorian julian\nLady Day,feast 3-25,gregorian julian\nAnnonciation,feast 3-25,gregorian j\
+ulian\nTiburtii et Valeriani,feast 4-14,gregorian julian\nMarci,feast 4-25,gregorian julian\nPhilippi et Jacobi,feast 5\
+-1,gregorian julian\nWalpurgis,feast 5-1,gregorian julian\nWalburgis,feast 5-1,gregorian julian\nInventionis crucis,fea\
+st 5-3,gregorian julian\nKreuzauffindung,feast 5-3,gregorian julian\nUrbani,feast 5-25,gregorian julian\nViti,feast 6-1\
+5,gregorian julian\nJohannistag,feast 6-24,gregorian julian\nJohannis Baptistae,feast 6-24,gregorian julian\nJohannis B\
+aptiste,feast 6-24,gregorian julian\nNativitatis Johannis Baptistae,feast 6-24,gregorian julian\nMidsummer Day,feast 6-\
+24,gregorian julian\nla Saint-Jean,feast 6-24,gregorian julian\nJohannis et Pauli,feast 6-26,gregorian julian\nPetri e\
+t Pauli,feast 6-29,gregorian julian\nPeter und Paul,feast 6-29,gregorian julian\nVisitationis Mariae,feast 7-2,gregoria\
+n julian\nMariä Heimsuchung,feast 7-2,gregorian julian\nKiliani,feast 7-8,gregorian julian\nDivisionis apostolorum,feas\
+t 7-15,gregorian julian\nMariae Magdalenae,feast 7-22,gregorian julian\nMarie Magdalene,feast 7-22,gregorian julian\nJa\
+cobi,feast 7-25,gregorian julian\nJakobi,feast 7-25,gregorian julian\nAnnae,feast 7-26,gregorian julian\nPetri ad vincu\
+la,feast 8-1,gregorian julian\nPetri Kettenfeier,feast 8-1,gregorian julian\nLammas,feast 8-1,gregorian julian\nLaurent\
+ii,feast 8-10,gregorian julian\nAssumptionis Mariae,feast 8-15,gregorian julian\nMariä Himmelfahrt,feast 8-15,gregoria\
+n julian\nAssomption,feast 8-15,gregorian julian\nBartholomaei,feast 8-24,gregorian julian\nBartholomäi,feast 8-24,greg\
+orian julian\nBartholomei,feast 8-24,gregorian julian\nDecollationis Johannis,feast 8-29,gregorian julian\nAegidii,feas\
+t 9-1,gregorian julian\nEgidii,feast 9-1,gregorian julian\nNativitatis Mariae,feast 9-8,gregorian julian\nMariä Geburt,\
+feast 9-8,gregorian julian\nExaltationis crucis,feast 9-14,gregorian julian\nKreuzerhöhung,feast 9-14,gregorian julian\
+\nHoly Cross Day,feast 9-14,gregorian julian\nLamberti,feast 9-17,gregorian julian\nMatthaei,feast 9-21,gregorian julia\
+n\nMatthäi,feast 9-21,gregorian julian\nMauritii,feast 9-22,gregorian julian\nMichaelis,feast 9-29,gregorian julian\nMi\
+chael,feast 9-29,gregorian julian\nMichaelmas,feast 9-29,gregorian julian\nSaint-Michel,feast 9-29,gregorian julian\nRe\
+migii,feast 10-1,gregorian julian\nFrancisci,feast 10-4,gregorian julian\nDionysii,feast 10-9,gregorian julian\nGalli,f\
+east 10-16,gregorian julian\nLucae,feast 10-18,gregorian julian\nUndecim milium virginum,feast 10-21,gregorian julian\n\
+Crispini et Crispiniani,feast 10-25,gregorian julian\nSimonis et Judae,feast 10-28,gregorian julian\nSimonis et Jude,fe\
+ast 10-28,gregorian julian\nAllerheiligen,feast 11-1,gregorian julian\nOmnium Sanctorum,feast 11-1,gregorian julian\nAl\
+l Saints,feast 11-1,gregorian julian\nToussaint,feast 11-1,gregorian julian\nAllerseelen,feast 11-2,gregorian julian\nA\
+nimarum,feast 11-2,gregorian julian\nAll Souls,feast 11-2,gregorian julian\nLeonhardi,feast 11-6,gregorian julian\nMart\
+ini,feast 11-11,gregorian julian\nMartinmas,feast 11-11,gregorian julian\nSaint-Martin,feast 11-11,gregorian julian\nEl\
+isabethae,feast 11-19,gregorian julian\nPraesentationis Mariae,feast 11-21,gregorian julian\nCaeciliae,feast 11-22,greg\
+orian julian\nClementis,feast 11-23,gregorian julian\nCatharinae,feast 11-25,gregorian julian\nKatharinae,feast 11-25,g\
+regorian julian\nKatherine,feast 11-25,gregorian julian\nAndreae,feast 11-30,gregorian julian\nAndree,feast 11-30,grego\
+rian julian\nBarbarae,feast 12-4,gregorian julian\nNicolai,feast 12-6,gregorian julian\nNikolai,feast 12-6,gregorian ju\
+lian\nConceptionis Mariae,feast 12-8,gregorian julian\nMariä Empfängnis,feast 12-8,gregorian julian\nLuciae,feast 12-13\
+,gregorian julian\nLucie,feast 12-13,gregorian julian\nThomae,feast 12-21,gregorian julian\nThome,feast 12-21,gregoria\
+n julian\nHeiligabend,feast 12-24,gregorian julian\nWeihnachten,feast 12-25,gregorian julian\nNativitatis Domini,feast \
+12-25,gregorian julian\nNativitatis Christi,feast 12-25,gregorian julian\nNativitatis,feast 12-25,gregorian julian\nChr\
+istmas,feast 12-25,gregorian julian\nChristmas Day,feast 12-25,gregorian julian\nNoël,feast 12-25,gregorian julian\nSte\
+phani,feast 12-26,gregorian julian\nJohannis Evangelistae,feast 12-27,gregorian julian\nInnocentum,feast 12-28,gregoria\
+n julian\nUnschuldige Kinder,feast 12-28,gregorian julian\nSilvestri,feast 12-31,gregorian julian\nSilvester,feast 12-3\
+1,gregorian julian\nPurificationis Mariae virginis,feast 2-2,gregorian julian\nPurificationis Marie virginis,feast 2-2,\
+gregorian julian\nPurificationis Marie,feast 2-2,gregorian julian\nPurificationis beatae Mariae,feast 2-2,gregorian jul\
+ian\nPurificationis beate Marie,feast 2-2,gregorian julian\nPurificationis beatae Mariae virginis,feast 2-2,gregorian j\
+ulian\nPurificationis beate Marie virginis,feast 2-2,gregorian julian\nPurificationis B M V,feast 2-2,gregorian julian\
+\nAnnunciationis Mariae virginis,feast 3-25,gregorian julian\nAnnunciationis Marie virginis,feast 3-25,gregorian julian\
+\nAnnunciationis Marie,feast 3-25,gregorian julian\nAnnunciationis beatae Mariae,feast 3-25,gregorian julian\nAnnunciat\
+ionis beate Marie,feast 3-25,gregorian julian\nAnnunciationis beatae Mariae virginis,feast 3-25,gregorian julian\nAnnun\
+ciationis beate Marie virginis,feast 3-25,gregorian julian\nAnnunciationis B M V,feast 3-25,gregorian julian\nAnnuntiat\
+ionis Mariae virginis,feast 3-25,gregorian julian\nAnnuntiationis Marie virginis,feast 3-25,gregorian julian\nAnnuntiat\
+ionis Marie,feast 3-25,gregorian julian\nAnnuntiationis beatae Mariae,feast 3-25,gregorian julian\nAnnuntiationis beat\
+e Marie,feast 3-25,gregorian julian\nAnnuntiationis beatae Mariae virginis,feast 3-25,gregorian julian\nAnnuntiationis \
+beate Marie virginis,feast 3-25,gregorian julian\nAnnuntiationis B M V,feast 3-25,gregorian julian\nVisitationis Maria\
+e virginis,feast 7-2,gregorian julian\nVisitationis Marie virginis,feast 7-2,gregorian julian\nVisitationis Marie,feas\
+t 7-2,gregorian julian\nVisitationis beatae Mariae,feast 7-2,gregorian julian\nVisitationis beate Marie,feast 7-2,grego\
+rian julian\nVisitationis beatae Mariae virginis,feast 7-2,gregorian julian\nVisitationis beate Marie virginis,feast 7-\
+2,gregorian julian\nVisitationis B M V,feast 7-2,gregorian julian\nAssumptionis Mariae virginis,feast 8-15,gregorian ju\
+lian\nAssumptionis Marie virginis,feast 8-15,gregorian julian\nAssumptionis Marie,feast 8-15,gregorian julian\nAssumpti\
+onis beatae Mariae,feast 8-15,gregorian julian\nAssumptionis beate Marie,feast 8-15,gregorian julian\nAssumptionis beat\
+ae Mariae virginis,feast 8-15,gregorian julian\nAssumptionis beate Marie virginis,feast 8-15,gregorian julian\nAssumpti\
+onis B M V,feast 8-15,gregorian julian\nNativitatis Mariae virginis,feast 9-8,gregorian julian\nNativitatis Marie virgi\
+nis,feast 9-8,gregorian julian\nNativitatis Marie,feast 9-8,gregorian julian\nNativitatis beatae Mariae,feast 9-8,grego\
+rian julian\nNativitatis beate Marie,feast 9-8,gregorian julian\nNativitatis beatae Mariae virginis,feast 9-8,gregoria\
+n julian\nNativitatis beate Marie virginis,feast 9-8,gregorian julian\nNativitatis B M V,feast 9-8,gregorian julian\nCo\
+nceptionis Mariae virginis,feast 12-8,gregorian julian\nConceptionis Marie virginis,feast 12-8,gregorian julian\nConcep\
+tionis Marie,feast 12-8,gregorian julian\nConceptionis beatae Mariae,feast 12-8,gregorian julian\nConceptionis beate Ma\
+rie,feast 12-8,gregorian julian\nConceptionis beatae Mariae virginis,feast 12-8,gregorian julian\nConceptionis beate Ma\
+rie virginis,feast 12-8,gregorian julian\nConceptionis B M V,feast 12-8,gregorian julian\nÉpiphanie,feast 1-6,gregoria\
+n julian\nTheophaniae,feast 1-6,gregorian julian\nEpiphaniae Domini,feast 1-6,gregorian julian\nEpiphanie Domini,feast \
+1-6,gregorian julian\nThomae martyris,feast 12-29,gregorian julian\nThome martyris,feast 12-29,gregorian julian\nStepha\
+ni protomartyris,feast 12-26,gregorian julian\nMichaelistag,feast 9-29,gregorian julian\nMartinstag,feast 11-11,gregori\
+an julian\nMartinitag,feast 11-11,gregorian julian\nWeihnachtstag,feast 12-25,gregorian julian\nChristtag,feast 12-25,g\
+regorian julian\nPaschatis,easter 0,gregorian julian\nPaschatos,easter 0,gregorian julian\nPfingsttag,easter 49,gregori\
+an julian\nHimmelfahrtstag,easter 39,gregorian julian\nFronleichnamstag,easter 60,gregorian julian\nChristmas Eve,feas\
+t 12-24,gregorian julian\nNew Year's Day,feast 1-1,gregorian julian\nNew Year’s Day,feast 1-1,gregorian julian\nNeujahr\
+stag,feast 1-1,gregorian julian\nInnocentium,feast 12-28,gregorian julian\nante,,roman\nante diem,,roman\na,,roman\nden\
+,,\nder,,\ndes,,\ndem,,\nam,,\nvom,,\nim,,\nin,,\nanno,,\nanno domini,,\nao,,\nAD,,\nA D,,\nthe,,\nof,,\non,,\nday,,\nl\
+e,,\nla,,\ndu,,\nde,,\nl'an,,\nl’an,,\nan,,\nannée,,\nl'année,,\nl’année,,\nen,,\nil,,\ndel,,\ndell'anno,,\ndell’anno,,\
+\nel,,\ndía,,\ndel año,,\naño,,\ndnia,,\nroku,,\nr,,\ndne,,\ndie,,\nde dato,,\nvan,,\nhet,,\ner,,\nère,,\nere,,\nème,,\
+\neme,,\nre,,\nst,,\nnd,,\nrd,,\nth,,\nte,,\nter,,gregorian julian hebrew islamic french republican\nsten,,\nste,,\ntes\
+,,\nens,,\nº,,\nª,,\no,,\ne,,\nster,,\nyear,,\nyear of our Lord,,\nof our Lord,,\nour Lord,,\nJahr,,\nJahre,,\nJahres,,\
+\nnach Christi Geburt,,\nn Chr,,\nanno Dni,,\nanno salutis,,\nanni,,\nannus,,\nAo Dni,,\nA°,,\nAº,,\njaar,,\njaer,,\nd\
+o ano,,\nano,,\nannée de grâce,,\nl'an de grâce,,\nl’an de grâce,,\nl'an de grace,,\nl’an de grace,,\nгода,,\nгоду,,\nг\
+одъ,,\nгода от Рождества Христова,,\nг,,\nлета,,\når,,\naar,,\nár,,\nAnno Christi,,\nnell'anno,,\nnell’anno,,\nго,,\nог\
+о,,\nye,,\njour de,,\nдня,,\nчисла,,\ndag,,\nTag des,,\ndì,,\na dì,,\nadì,,\naddì,,\nde la République,,french republica\
+n\nde la Republique,,french republican\nde la République française,,french republican\nde la République francaise,,fren\
+ch republican\nde la République françoise,,french republican\nde la Republique francaise,,french republican\nde la Repu\
+blique françoise,,french republican\nde la Republique francoise,,french republican\nde la République une et indivisible\
+,,french republican\nde la République française une et indivisible,,french republican\nder Republik,,french republican\
+\nder fränkischen Republik,,french republican\nder französischen Republik,,french republican\nder fränk. Republik,,fren\
+ch republican\nder frz. Republik,,french republican\nrépublicain,,french republican\nrépublicaine,,french republican\nd\
+e l'ère républicaine,,french republican\nde l’ère républicaine,,french republican\nfestum,,gregorian julian\nfesti,,gre\
+gorian julian\nfest,,gregorian julian\nfeast of,,gregorian julian\nfête de,,gregorian julian\ndivi,,gregorian julian\nd\
+ivae,,gregorian julian\nbeate,,gregorian julian\nsancte,,gregorian julian\nfesto,,gregorian julian\nin festo,,gregoria\
+n julian\nin die,,gregorian julian\nS,,gregorian julian\nSankt,,gregorian julian\nsancti,,gregorian julian\nsanctae,,gr\
+egorian julian\nbeati,,gregorian julian\nbeatae,,gregorian julian\napostoli,,gregorian julian\napostolorum,,gregorian j\
+ulian\nevangelistae,,gregorian julian\narchangeli,,gregorian julian\nten jare,,\n\
 ";

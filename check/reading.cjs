@@ -194,9 +194,8 @@ function isOnWeekday(calendar, year, { month, day }, weekday) {
 }
 
 // A month of the Republic has three decades, but for the days behind the last month.
-function isDecadeDay(calendar, year, { month, day }, decade) {
-  const hasDecades = REPUBLICAN.includes(calendar) && month !== 13;
-  return hasDecades && dayOf(calendar, year, month, day) !== null && day % 10 === decade % 10;
+function isDecadeDay(calendar, { month, day }, decade) {
+  return REPUBLICAN.includes(calendar) && month <= 12 && [decade, decade + 10, decade + 20].includes(day);
 }
 
 // ---- the year, and what is written
@@ -249,7 +248,7 @@ function dated(text, calendar, choice, items, { rule, year: number, find }) {
   const date = find(year);
   if (date === null) return stays(text, "no date");
   const agrees = item => "weekday" in item ? isOnWeekday(calendar, year, date, item.weekday)
-    : isDecadeDay(calendar, year, date, item.decade);
+    : isDecadeDay(calendar, date, item.decade);
   if (!items.filter(isBeside).every(agrees)) return stays(text, "another weekday");
   return { text: `${year}-${date.month}-${date.day}`, rule };
 }

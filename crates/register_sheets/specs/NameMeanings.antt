@@ -84,6 +84,8 @@ SaysFeast field (Sunday season number) =
 -- the field says this of a name in dates
 abbrev pub SaysMeaning : List ℕ → Meaning → Type 0
 SaysMeaning field meaning.Nothing = field ≡ []
+SaysMeaning field meaning.YearWord = field ≡ codes "year"
+SaysMeaning field meaning.DayWord = field ≡ codes "day"
 SaysMeaning field (meaning.Month month) = IsWordAndNumber (codes "month") 1 13 field month
 SaysMeaning field (meaning.Number number) = IsNumberIn 0 999_999_999 field number
 SaysMeaning field (meaning.Mark mark) = field ≡ mark_name mark

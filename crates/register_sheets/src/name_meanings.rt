@@ -134,6 +134,10 @@ fn meaning_said(field: &str) -> Option<Meaning>
 {
     if field.is_empty() {
         Some(Meaning::Nothing)
+    } else if field == "year" {
+        Some(Meaning::YearWord)
+    } else if field == "day" {
+        Some(Meaning::DayWord)
     } else if let Some(month) = month_said(field) {
         Some(Meaning::Month(month))
     } else if let Some(number) = number_said(field, 0, MAX_NUMBER) {

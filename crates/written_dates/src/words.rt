@@ -1,6 +1,7 @@
 //! Words as they are compared: by Unicode's canonical caseless match.
 
-ghost use Rattle.std.specs.Prelude.{◌≡◌, ℕ, List, ◌+◌, ◌<◌, ◌≤◌, ◌∷◌, ◌++◌, [], true, false, chars, drop, flat_map, length, take};
+ghost use Rattle.std.specs.Prelude.{◌≡◌, ℕ, List, ◌+◌, ◌<◌, ◌≤◌, ◌∷◌, ◌++◌, []};
+ghost use Rattle.std.specs.Prelude.{true, false, chars, drop, flat_map, length, take};
 ghost use Rattle.std.specs.Prelude.{IfSome, IfNone};
 ghost use Rattle.caseless.specs.Caseless.{canonical_key, default_case_fold};
 ghost use Rattle.ucd_case.specs.CaseFolding.{full_fold};

@@ -1,13 +1,15 @@
 -- Words that differ in the case of A to Z alone are the same.
 use Rattle.std.proofs.Common.{◌≡◌, ℕ, suc, ◌<◌, ◌≤◌, Bool, true, false, ◌&&◌, IsUtf8, List, [], ◌∷◌, ◌++◌, length}
-use Rattle.std.proofs.Common.{get_or, chars, encode_utf8, encode_utf8_all, flat_map, nat_le, refl, sym, ap, ap₂, ◌∙◌, arith, inl, inr, append-nil, subst, ◌↔◌}
+use Rattle.std.proofs.Common.{get_or, chars, encode_utf8, encode_utf8_all, flat_map, nat_le, refl, sym, ap}
+use Rattle.std.proofs.Common.{ap₂, ◌∙◌, arith, inl, inr, append-nil, subst, ◌↔◌}
 use Rattle.std.specs.Char.{IsScalar, to_ascii_lowercase}
 use lib.Utf8.{scalar}
 use Rattle.std.specs.Str.{all_scalars, is_utf8, str_to_ascii_lowercase}
 use Rattle.std.proofs.lemmas.Bool.{and_from, and_parts, cases_Bool, cases_lt}
 use Rattle.std.proofs.lemmas.Bool.Decides.{nat_tests}
 use Rattle.std.proofs.lemmas.List.{length-map, map-append}
-use Rattle.std.proofs.lemmas.Str.{IsUtf8-append, IsUtf8-encode, IsUtf8-from_is_utf8, IsUtf8-nil, chars-encodes, encode_ascii}
+use Rattle.std.proofs.lemmas.Str.{IsUtf8-append, IsUtf8-encode, IsUtf8-from_is_utf8, IsUtf8-nil}
+use Rattle.std.proofs.lemmas.Str.{chars-encodes, encode_ascii}
 use Rattle.std.proofs.lemmas.Str.{inside_one, is_utf8-from_IsUtf8}
 use Rattle.ucd_case.specs.CaseFolding.{full_fold}
 use Rattle.ucd_case.proofs.CaseFoldingLemmas.{full_fold-ascii}
@@ -19,7 +21,8 @@ use Rattle.unicode_normalization.specs.Lookups.{canonical_combining_class as ccc
 use Rattle.unicode_normalization.specs.Order.{canonical_order, is_reorderable, sink}
 use Rattle.unicode_normalization.proofs.DecomposeLemmas.{decompose-final}
 use Rattle.unicode_normalization.proofs.FormsLemmas.{class-latin, is_final-Nfd, quick_check-ascii}
-use Rattle.unicode_normalization.proofs.OrderLemmas.{canonical_order-cons, canonical_order-nil, sink-nil, sink-past, sink-stays}
+use Rattle.unicode_normalization.proofs.OrderLemmas.{canonical_order-cons, canonical_order-nil, sink-nil}
+use Rattle.unicode_normalization.proofs.OrderLemmas.{sink-past, sink-stays}
 use Rattle.written_dates.specs.Words.{folded, is_folded, is_short, same_word}
 use Rattle.written_dates.proofs.WordLemmas.{by_cases, folded-plain, folded-read, nfd-ordered, same_word-Decides}
 

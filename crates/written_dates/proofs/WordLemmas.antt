@@ -16,11 +16,14 @@ use Rattle.std.proofs.lemmas.Str.{chars-IsAscii, IsUtf8-from_ascii, IsUtf8-from_
 use Rattle.std.proofs.Common.{get_or, refl, sym, ap, ◌∙◌, arith, append_assoc, append-nil, length-append}
 use Rattle.unicode_normalization.specs.Lookups.{canonical_combining_class as ccc}
 use Rattle.unicode_normalization.specs.Order.{is_reorderable, is_ordered, canonical_order}
-use Rattle.unicode_normalization.proofs.OrderLemmas.{canonical_order-exchange, canonical_order-front, canonical_order-ordered}
-use Rattle.unicode_normalization.proofs.OrderLemmas.{is_ordered-canonical_order, is_ordered-cons, is_ordered-one, is_ordered-parts}
+use Rattle.unicode_normalization.proofs.OrderLemmas.{canonical_order-exchange, canonical_order-front}
+use Rattle.unicode_normalization.proofs.OrderLemmas.{canonical_order-ordered}
+use Rattle.unicode_normalization.proofs.OrderLemmas.{is_ordered-canonical_order, is_ordered-cons, is_ordered-one}
+use Rattle.unicode_normalization.proofs.OrderLemmas.{is_ordered-parts}
 use Rattle.unicode_normalization.proofs.OrderLemmas.{is_ordered-tail, is_reorderable_from, not_reorderable_rising}
 use Rattle.caseless.specs.Caseless.{canonical_key, default_case_fold}
-use Rattle.caseless.proofs.CaselessLemmas.{All-chars, canonical_key-ascii, default_case_fold-append, default_case_fold-ascii}
+use Rattle.caseless.proofs.CaselessLemmas.{All-chars, canonical_key-ascii, default_case_fold-append}
+use Rattle.caseless.proofs.CaselessLemmas.{default_case_fold-ascii}
 use Rattle.caseless.proofs.CaselessLemmas.{default_case_fold-cons, default_case_fold-nil}
 use Rattle.ucd_case.specs.CaseFolding.{full_fold}
 use Rattle.unicode_normalization.specs.Decompose.{decompose_canonical}
@@ -111,21 +114,6 @@ IsPlace-found chars c place h last xs e =
     let o : is_ordered chars ≡ true = ap is_ordered e ∙ is_ordered-canonical_order xs in
     sym (canonical_order-ordered _ (ordered_in chars place c h.within o (h.behind o) last)) ∙ h.same
     ∙ ap (λ l. canonical_order (l ++ c ∷ [])) e ∙ canonical_order-front xs (c ∷ [])
-
--- ---- one behind the other
-pub OrdersMore-none : (xs : List ℕ) → OrdersMore xs xs []
-OrdersMore-none xs = record {
-  at = λ ys e. e ∙ ap canonical_order (sym (append-nil ys));
-  len = omega arith;
-  short = λ h. h;
-}
-
-pub OrdersMore-both : (a b c xs ys : List ℕ) → OrdersMore a b xs → OrdersMore b c ys → OrdersMore a c (xs ++ ys)
-OrdersMore-both a b c xs ys f g = record {
-  at = λ zs e. g.at (zs ++ xs) (f.at zs e) ∙ ap canonical_order (append_assoc zs xs ys);
-  len = omega (arith, f.len, g.len, length-append xs ys);
-  short = λ h. g.short (f.short h);
-}
 
 -- ---- a list, part by part
 in_parts : (all : List ℕ) (n c : ℕ) → n < length all → c ≡ get_or all n c
@@ -325,9 +313,6 @@ same_ascii r a b left right test =
     let long : length a ≡ length b = sym (length-map a to_ascii_lowercase) ∙ ap length same ∙ length-map b to_ascii_lowercase in
     d.1 (is_folded-ascii a left ∙ ap (λ n. nat_le n 64) long ∙ sym (is_folded-ascii b right), of_a ∙ same ∙ sym of_b)))
     (λ e. test.1 (sym of_a ∙ (d.0 e).1 ∙ of_b))
-
-pub same_itself : (a b : List ℕ) → a ≡ b → true ≡ same_word a b
-same_itself a b e = sym ((same_word-Decides a b).1 (ap is_folded e, ap folded e))
 
 pub same_read : (a b x y : List ℕ) → is_folded a ≡ true → is_folded b ≡ true → x ≡ canonical_key (chars a)
     → y ≡ canonical_key (chars b) → bytes_eq x y ≡ same_word a b

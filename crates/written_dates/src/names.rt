@@ -1,6 +1,6 @@
 //! Lists of names: what is wrong with one, and an index by which the names that can stand in front of a text are found.
 
-ghost use Rattle.std.specs.Prelude.{◌≡◌, ◌<◌, ◌≤◌, ◌+◌, drop, Some, None, slice_get, OnOk, IfOk, length};
+ghost use Rattle.std.specs.Prelude.{◌≡◌, ◌<◌, ◌≤◌, ◌+◌, drop, Some, None, slice_get, OnOk, IfOk, IsAscii, length, true};
 ghost use Rattle.std.specs.List.{list_any};
 ghost use Rattle.std.specs.Str.{str_to_ascii_lowercase};
 ghost use Rattle.written_dates.specs.declared.meanings.Name.{Name as NameValue};
@@ -63,16 +63,19 @@ pub struct Names<'a> {
     ghost indexed: { IsIndexed listed.now firsts.items nexts.items 0 },
 }
 
-/// The key of bytes, with A to Z as small letters.
-fn key_of_bytes(bytes: &[u8]) -> usize
-    ensures value { result ≡ key_of_chars (str_to_ascii_lowercase bytes.now) }
-    ensures within { result < 16384 }
+/// The key of bytes, with A to Z as small letters, and whether all of them are of ASCII.
+fn key_of_bytes(bytes: &[u8]) -> (usize, bool)
+    ensures value { result.0 ≡ key_of_chars (str_to_ascii_lowercase bytes.now) }
+    ensures within { result.0 < 16384 }
+    ensures ascii { result.1 ≡ true → IsAscii bytes.now }
 {
     let mut value: usize = 0;
+    let mut is_ascii = true;
     'bytes: for byte in bytes {
         value = (31 * value + byte.to_ascii_lowercase() as usize) % 16384;
+        is_ascii = is_ascii && *byte < 128;
     }
-    value
+    (value, is_ascii)
 }
 
 /// The key of characters.
@@ -92,12 +95,13 @@ pub(crate) fn key_of_word(word: &[u8]) -> usize
     ensures value { result ≡ key_of word.now }
     ensures within { result < 16384 }
 {
-    if word.is_ascii() {
-        return key_of_bytes(word);
+    let (key, is_ascii) = key_of_bytes(word);
+    if is_ascii {
+        return key;
     }
     match folded_word(word) {
         Some(chars) => key_of_chars(chars.as_slice()),
-        None => key_of_bytes(word),
+        None => key,
     }
 }
 

@@ -1,6 +1,7 @@
 //! Words as they are compared: by Unicode's canonical caseless match.
 
-ghost use Rattle.std.specs.Prelude.{◌≡◌, ℕ, List, ◌+◌, ◌<◌, ◌≤◌, ◌∷◌, ◌++◌, [], true, false, chars, drop, flat_map, length, take};
+ghost use Rattle.std.specs.Prelude.{◌≡◌, ℕ, List, ◌+◌, ◌<◌, ◌≤◌, ◌∷◌, ◌++◌, []};
+ghost use Rattle.std.specs.Prelude.{true, false, chars, drop, flat_map, length, take};
 ghost use Rattle.std.specs.Prelude.{IfSome, IfNone};
 ghost use Rattle.caseless.specs.Caseless.{canonical_key, default_case_fold};
 ghost use Rattle.ucd_case.specs.CaseFolding.{full_fold};
@@ -121,11 +122,11 @@ pub(crate) fn folded_word(word: &[u8]) -> Option<ArrayVec<char, ROOM>>
 pub fn is_same_word(a: &[u8], b: &[u8]) -> bool
     ensures { result ≡ same_word a.now b.now }
 {
-    if a.is_ascii() && b.is_ascii() {
-        return a.eq_ignore_ascii_case(b);
-    }
-    if a == b {
+    if a.eq_ignore_ascii_case(b) {
         return true;
+    }
+    if a.is_ascii() && b.is_ascii() {
+        return false;
     }
     match (folded_word(a), folded_word(b)) {
         (Some(a), Some(b)) => a.as_slice() == b.as_slice(),

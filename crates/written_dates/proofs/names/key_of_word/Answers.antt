@@ -5,7 +5,8 @@ use Rattle.written_dates.proofs.names.key_of_word.Goals as goal
 
 pub returns-then-is_ascii-clause-value : goal.returns-then-is_ascii-clause-value
 returns-then-is_ascii-clause-value c =
-    c.key_of_bytes.ensures.value ∙ ap key_of_chars (sym (folded-ascii c.args.word.now c.if-is_ascii.ensures.cases))
+    c.key_of_bytes-key.ensures.value
+    ∙ ap key_of_chars (sym (folded-ascii c.args.word.now (c.key_of_bytes-key.ensures.ascii c.if-is_ascii.true)))
 
 pub returns-in-Some-clause-value : goal.returns-in-Some-clause-value
 returns-in-Some-clause-value c =
@@ -15,4 +16,4 @@ returns-in-Some-clause-value c =
 
 pub returns-in-None-clause-value : goal.returns-in-None-clause-value
 returns-in-None-clause-value c =
-    c.key_of_bytes-in-None.ensures.value ∙ ap key_of_chars (sym (folded-plain c.args.word.now c.in-None.ensures.none))
+    c.key_of_bytes-key.ensures.value ∙ ap key_of_chars (sym (folded-plain c.args.word.now c.in-None.ensures.none))

@@ -31,7 +31,7 @@ function open(language) {
   putWords();
   for (const button of byId('languages').children) button.setAttribute('aria-pressed', String(button.lang === language));
   views.date = dateView(stepOf('date'));
-  views.door = doorView(stepOf('door'));
+  views.door = doorView(stepOf('door'), { anew: () => page.startAnew(), answer: (isYes) => page.answer(isYes) });
   views.registers = registersView(stepOf('registers'), now);
   views.sheet = sheetView(stepOf('sheet'));
   page.settle();

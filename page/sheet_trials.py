@@ -156,7 +156,7 @@ class SheetTrials:
         self.check("and so are its days", [*church.days()], days)
         self.choose_sheet(self.file("church.txt", b"\xff\xfe" + text.replace("\n", "\r\n").encode("utf-16-le")))
         self.wait_for_sheet()
-        looks = "Looks like tabs, UTF-16 (“Unicode text”), 2 lines above the names."
+        looks = "Proposed: tabs, UTF-16 (“Unicode text”), 2 lines above the names."
         self.check("what a church book looks like", re.compile(re.escape(looks)), self.text("#sheet-chosen"))
         self.check("its titles", re.compile("^Above the names: Kirchenbuch-Auszüge"), self.text("#sheet-titles"))
         self.label_of("sheet-order", "day")
@@ -323,7 +323,7 @@ class SheetTrials:
         self.give(self.file("a.txt", "Nr;Müller\n1;2\n".encode("windows-1252")))
         wait_for("the sheet", lambda: "1 record of 2 columns" in self.text("#sheet-said"))
         self.check("what is proposed", ["windows-1252", "59"], self.page.run(chosen))
-        wanted = "a.txt, 14 bytes. Looks like semicolons, Western Europe (Windows-1252)."
+        wanted = "a.txt, 14 bytes. Proposed: semicolons, Western Europe (Windows-1252)."
         self.check("what is said of it", wanted, self.text("#sheet-chosen"))
         self.check("how it is read", re.compile("Nr\tMüller\n1\t2"), self.text("#sheet-rows"))
         self.choose("#sheet-encoding", "windows-1250")

@@ -69,6 +69,8 @@ export const WORDS = {
   readAs: (read) => (read === '' ? '' : `; gelesen als \`${read}\``),
   dateInWords: 'Auch Daten in Worten werden gelesen, und Zahlen mit dem Tag zuerst: `30. November 1699`, ' +
     '`30.11.1699`, `15 Ventôse an VI`.',
+  unknownInDate: (words) => (words.length === 1 ? `„${words[0]}“ ist in einem solchen Datum unbekannt`
+    : `in einem solchen Datum unbekannt: ${words.map((it) => `„${it}“`).join(', ')}`),
   isTooLong: `das Datum hat über ${date} Byte`,
   noCell: 'vor seinem ersten Tag',
   calendars: {
@@ -88,10 +90,12 @@ export const WORDS = {
     hebrew: ['Nisan', 'Ijjar', 'Siwan', 'Tammus', 'Aw', 'Elul', 'Tischri', 'Marcheschwan', 'Kislew', 'Tewet', 'Schewat',
       'Adar (im Schaltjahr Adar I)', 'Adar II'],
   },
-  inWords: (calendar, date) => {
+  adar: (isLeap) => (isLeap ? 'Adar I' : 'Adar'),
+  inWords: (calendar, date, isLeap = false) => {
     const [, year, month, day] = /^(\d+)-(\d+)-(\d+)$/.exec(date) || [];
-    const names = WORDS.months[calendar];
-    return names && Number(year) > 0 ? `${Number(day)}. ${names[Number(month) - 1]} ${Number(year)}` : '';
+    const names = WORDS.months[calendar], isAdar = calendar === 'hebrew' && Number(month) === 12;
+    const name = isAdar ? WORDS.adar(isLeap) : names && names[Number(month) - 1];
+    return names && Number(year) > 0 ? `${Number(day)}. ${name} ${Number(year)}` : '';
   },
   forms: {
     gregorian: 'Jahr, Monat, Tag: `1699-11-30`. Das Jahr 0 ist 1 v. Chr.',
@@ -142,6 +146,17 @@ export const WORDS = {
     others: (n) => (n === 1 ? '1, die nicht genommen werden kann' : `${WORDS.number(n)}, die nicht genommen werden können`),
   },
   workAt: 'Daran arbeiten',
+  takeOff: 'Von der Liste nehmen',
+  startAnew: 'Neu beginnen',
+  questions: {
+    anew: () => ({ asks: 'Es gibt Tabellen, die nicht gespeichert sind. Trotzdem neu beginnen?',
+      yes: 'Verwerfen und neu beginnen', no: 'Damit weiterarbeiten' }),
+    replace: (names) => ({
+      asks: [names.length === 1 ? 'Eine Datei dieses Namens ist schon da, und ihre Tabelle ist nicht gespeichert: '
+        : 'Dateien dieser Namen sind schon da, und ihre Tabellen sind nicht gespeichert: ', own(names.join(', ')), '.'],
+      yes: names.length === 1 ? 'Die neue Datei an ihre Stelle setzen' : 'Die neuen Dateien an ihre Stelle setzen',
+      no: 'Alles lassen, wie es ist' }),
+  },
   takeSheets: (n) => (n === 1 ? 'Auch das Tabellenblatt als Register nehmen'
     : `Auch die ${WORDS.number(n)} Tabellenblätter als Register nehmen`),
   looking: 'Die Dateien werden angesehen.',
@@ -166,7 +181,8 @@ export const WORDS = {
   convert: 'Umrechnen',
   stop: 'Anhalten',
   tables: 'Tabellen',
-  listCaption: (n) => `${WORDS.number(n)} Register`,
+  listCaption: (n, all) => (n === all ? `${WORDS.number(n)} Register` : `${WORDS.number(n)} Register unter ${WORDS.number(all)} Dateien`),
+  leftOut: (words) => ['Ausgelassen: ', words],
   listHeads: { name: 'Register', form: 'Art', rows: 'Zeilen', refused: 'Abgelehnt', state: 'Stand', table: 'Tabelle' },
   formOf: (between, isSealed) => (isSealed ? `${between}, versiegelt` : between),
   isWhole: 'ganz',
@@ -203,15 +219,21 @@ export const WORDS = {
   progress: 'Fortschritt',
   converting: (done, all, seconds) => `${done} von ${all} umgerechnet, nach ${seconds} s.`,
   waiting: 'Wartet, bis es an der Reihe ist.',
+  notYet: 'Noch nicht umgerechnet.',
   running: (seconds) => `Wird umgerechnet, bisher ${seconds} s.`,
   stopped: 'Angehalten.',
   stoppedAfter: (done) => `Angehalten. ${done === 0 ? 'Nichts wurde umgerechnet.' : `${done} vorher umgerechnet.`}`,
   endedOne: (name, words) => [own(name), ': ', words],
-  ended: (whole, broken) => [whole && `${whole} ganz umgerechnet`, broken && `${broken} abgebrochen`]
-    .filter(Boolean).join(', ') + '.',
+  ended: (whole, broken, waits, left) => {
+    const of = left ? ` von ${whole + broken + waits + left} Dateien` : '';
+    return [(whole || of) && `${whole}${of} ganz umgerechnet`, broken && `${broken} abgebrochen`,
+      waits && `${waits} noch nicht umgerechnet`, left && `${left} ausgelassen`].filter(Boolean).join(', ') + '.';
+  },
   rows: (n) => (n === 1 ? '1 Zeile' : `${WORDS.number(n)} Zeilen`),
   refused: (n) => (n === 0 ? 'keine abgelehnt' : `${WORDS.number(n)} abgelehnt`),
-  whole: (rows, refused) => `${WORDS.rows(rows)}, ${WORDS.refused(refused)}.`,
+  empty: (n) => (n ? `, ${WORDS.number(n)} leer` : ''),
+  refusedShort: (refused, empty) => WORDS.number(refused) + WORDS.empty(empty),
+  whole: (rows, refused, empty = 0) => `${WORDS.rows(rows)}, ${WORDS.refused(refused)}${WORDS.empty(empty)}.`,
   counts: {
     records: {
       caption: 'Abgelehnte Einträge nach dem Grund', count: 'Einträge', reason: 'Der Eintrag ist abgelehnt, denn',
@@ -237,7 +259,8 @@ export const WORDS = {
   formulas: (n, example) => [n === 1 ? 'Ein Feld ist wie eine Formel: ' : `${WORDS.number(n)} Felder sind wie Formeln, zuerst `,
     '„', own(example), '“. Eine Tabellenkalkulation, die die Tabelle öffnet, kann sie ausrechnen und etwas anderes zeigen: ' +
     'Lassen Sie sie die Spalten als Text übernehmen. Wie eine Formel ist ein Feld, das mit `=`, `+`, `-` oder `@` ' +
-    'beginnt, einen Buchstaben oder eine Ziffer hat und weder eine Zahl noch ein Datum ist, wie es Register haben.'],
+    'beginnt, einen Buchstaben oder eine Ziffer hat und weder eine Zahl noch ein Datum ist, wie es Register haben, noch ' +
+    '`@I1@` aus einem Stammbaum.'],
   formulasShort: (n) => (n === 1 ? 'Ein Feld ist wie eine Formel' : `${WORDS.number(n)} Felder sind wie Formeln`),
   brokeOff: (cause, words) => `Abgebrochen, Ursache ${cause}: ${words}.`,
   hasNothing: 'Es gibt keine Tabelle.',
@@ -247,9 +270,18 @@ export const WORDS = {
   noMemory: 'der Speicher reicht nicht; schließen Sie andere Seiten oder Programme und versuchen Sie es noch einmal, ' +
     'oder teilen Sie die Datei',
   otherColumns: 'die Datei hat andere Spalten als bei der Wahl und ist neu gelesen: Wählen Sie sie noch einmal',
-  workbook: 'die Datei ist kein Text, sondern eine Arbeitsmappe oder gepackt (.xlsx, .ods, .xls, .docx, .zip); ' +
-    'speichern Sie ihre Tabelle als CSV UTF-8, oder kopieren Sie ihre Zellen und fügen Sie sie in „Dateien“ ' +
-    'ein',
+  workbook: 'die Datei ist kein Text, sondern gepackt, und hat keine Tabelle, die hier gelesen wird (.docx, .zip); ' +
+    'speichern Sie ihre Tabelle als CSV UTF-8, oder kopieren Sie ihre Zellen und fügen Sie sie unter „Dateien“ ein',
+  oldWorkbook: 'die Datei ist eine alte oder geschützte Arbeitsmappe (.xls); speichern Sie sie als .xlsx oder .ods ohne ' +
+    'Kennwort oder als CSV UTF-8, oder kopieren Sie ihre Zellen und fügen Sie sie unter „Dateien“ ein',
+  rtf: 'die Datei ist ein formatierter Text (RTF); kopieren Sie die Tabelle in eine Tabellenkalkulation und speichern Sie ' +
+    'sie als CSV UTF-8, oder kopieren Sie ihre Zellen und fügen Sie sie unter „Dateien“ ein',
+  html: 'die Datei ist eine Webseite (HTML), auch wenn sie .xls heißt; öffnen Sie sie in einer Tabellenkalkulation und ' +
+    'speichern Sie sie als CSV UTF-8, oder kopieren Sie ihre Zellen und fügen Sie sie unter „Dateien“ ein',
+  xml: 'die Datei ist XML (.fods, .xml); speichern Sie ihre Tabelle als .xlsx, .ods oder CSV UTF-8, oder kopieren Sie ihre ' +
+    'Zellen und fügen Sie sie unter „Dateien“ ein',
+  binary: 'die Datei ist kein Text; speichern Sie ihre Tabelle als CSV UTF-8, oder kopieren Sie ihre Zellen und fügen Sie ' +
+    'sie unter „Dateien“ ein',
   database: 'die Datei ist kein Text, sondern eine Datenbank (SQLite); speichern Sie ihre Tabelle als CSV UTF-8, ' +
     'oder kopieren Sie ihre Zellen und fügen Sie sie in „Dateien“ ein',
   pdf: 'die Datei ist kein Text, sondern ein PDF; kopieren Sie ihre Tabelle in eine Tabellenkalkulation und ' +
@@ -259,7 +291,9 @@ export const WORDS = {
   tree: 'die Datei ist ein Stammbaum (GEDCOM); nehmen Sie sie oben als Stammbaum',
   ansel: 'der Stammbaum ist in ANSEL geschrieben, was hier nicht gelesen wird; lassen Sie Ihr Programm ihn in UTF-8 ' +
     'speichern',
-  fault: (why) => ['die Seite versagte (', own(why), ')'],
+  ibmpc: 'der Stammbaum ist in IBMPC geschrieben, wo Buchstaben mit Akzenten keine sichere Bedeutung haben; lassen Sie Ihr ' +
+    'Programm ihn in UTF-8 speichern',
+  fault: (why) => ['auf der Seite ist ein Fehler aufgetreten (', own(why), ')'],
 
   // ---- The picture of a table ----
   makePicture: 'Die Einträge auf einer Zeitlinie zeigen',
@@ -307,6 +341,10 @@ export const WORDS = {
     'Sehen Sie im Original nach: ein Schreibfehler im Jahr',
   ],
 
+  // What to do with dates of a sheet whose years are short.
+  shortAdvice: (n) => `${n === 1 ? '1 hat ein Jahr' : `${WORDS.number(n)} haben Jahre`} mit ein oder zwei Ziffern, und „solche ` +
+    'Datumsangaben weglassen“ ist gewählt: Wählen Sie anders bei „Jahre mit ein oder zwei Ziffern“',
+
   // What to do with a refused date of a sheet.
   sheetAdvice: [
     'Sehen Sie den Eintrag an: er hat andere Felder als die übrigen',
@@ -350,10 +388,29 @@ export const WORDS = {
   encodingIs: 'Sind Buchstaben mit Akzenten unten falsch? Wählen Sie eine andere.',
   above: 'Zeilen über den Namen',
   aboveIs: 'Titelzeilen, die bleiben, wie sie sind. Dann kommt die Zeile mit den Namen der Spalten.',
+  wrongAbove: (above) =>
+    `Als Zeilen vor den Spaltennamen gilt eine Zahl von 0 bis 999.${above === null ? '' : ` Es bleibt bei ${above}.`}`,
+  titleLines: (n) => (n === 1 ? '1 Titelzeile' : `${n} Titelzeilen`),
+  change: 'ändern',
+  datesBy: (names, calendar) => [...names.flatMap((name, i) => [i === 0 ? '' : i === names.length - 1 ? ' und ' : ', ', name]),
+    ' nach ', calendar],
+  orders: { year: 'Jahr zuerst', day: 'Tag zuerst', month: 'Monat zuerst' },
+  behindThem: (columns) => (columns.length ? `dahinter ${columns.join(', ')}` : 'dahinter nur die Ablehnung'),
+  moreDates: (n) => (n === 1 ? 'ist 1 Datum' : `sind ${WORDS.number(n)} Datumsangaben`),
+  moreByOrder: {
+    year: (n) => `Mit dem Jahr zuerst ${WORDS.moreDates(n)} mehr lesbar`,
+    day: (n) => `Mit dem Tag zuerst ${WORDS.moreDates(n)} mehr lesbar`,
+    month: (n) => `Mit dem Monat zuerst ${WORDS.moreDates(n)} mehr lesbar`,
+  },
+  onlyByOrder: { year: 'Das Jahr steht zuerst', day: 'Der Tag steht zuerst', month: 'Der Monat steht zuerst' },
+  decides: ', wie hier zu sehen ist: ',
+  takeOrder: { year: 'Jahr zuerst', day: 'Tag zuerst', month: 'Monat zuerst' },
+  pageOfWorkbook: 'Blatt der Arbeitsmappe',
+  fileDates: 'Auch Daten der Datei selbst: ihres Kopfes, und wann ihre Einträge geändert wurden',
   titles: (lines) => ['Über den Namen: ', own(lines.join(' / ')), '.'],
   aboveFound: (n) => (n === 1 ? '1 Zeile über den Namen' : `${WORDS.number(n)} Zeilen über den Namen`),
   aTree: 'ein Stammbaum',
-  looksLike: (what) => `Sieht aus wie ${what.join(', ')}.`,
+  looksLike: (what) => `Vorgeschlagen: ${what.join(', ')}.`,
   encodings: {
     'utf-8': 'UTF-8',
     'windows-1252': 'Westeuropa (Windows-1252)',
@@ -484,7 +541,7 @@ export const WORDS = {
   written: 'Wie geschrieben',
   splitSheet: 'Teilen Sie es, jeden Teil mit der Zeile der Namen.',
   wholeSheet: (rows, refused) => [`${WORDS.rows(rows)}. `,
-    refused.map(([name, n], i) => [i === 0 ? '' : ', ', name, ': ', WORDS.refused(n)]), '.'],
+    refused.map(([name, n, empty], i) => [i === 0 ? '' : '; ', name, ': ', WORDS.refused(n), WORDS.empty(empty)]), '.'],
   refusedDates: (n, all) =>
     (n < all ? `Die ersten ${n} abgelehnten Daten` : n === 1 ? 'Das abgelehnte Datum' : `Die ${n} abgelehnten Daten`),
   makeRegister: (name) => ['Das Register machen aus ', name],

@@ -15,7 +15,7 @@ const MOST_FILES = 1e6;
  * `proposed` is how pasted cells are to be read. `coming` has what was given and is not told yet: its looks are null until
  * they are known. `open` is the number of the sheet or family tree that is worked at. `question` is what is asked before
  * something that was not saved goes: `anew`, or `replace` with the names of the files whose place others are to take.
- * @typedef {{ kind: string, delimiter?: number, sealed?: boolean, firstLine?: string }} Look
+ * @typedef {{ kind: string, delimiter?: number, sealed?: boolean, firstLine?: string, isWorkbook?: boolean }} Look
  * @typedef {{ file: File, proposed: any }} Given
  * @typedef {Given & { number: number, look: Look, as: string }} Entry
  * @typedef {{ what: 'anew' | 'replace', names: string[] }} Question
@@ -54,7 +54,15 @@ export const chosen = (state, files, folders = []) =>
 export const pasted = (state, text) =>
   given(state, [{ file: new File([text], WORDS.pasted), proposed: { encoding: 'utf-8', delimiter: TAB, above: null } }]);
 
-export const canBeOther = ({ look }) => CHOICES.includes(look.kind);
+/** What an entry can be taken for: nothing where it cannot be taken at all. */
+export function choicesOf({ look }) {
+  if (look.isWorkbook) return ['sheet', 'nothing'];
+  return CHOICES.includes(look.kind) ? CHOICES : [];
+}
+
+export const canBeOther = (entry) => choicesOf(entry).length > 0;
+/** Whether an entry is a sheet that is a text, and so can be a register that lacks its header. */
+export const isTextSheet = ({ as, look }) => as === 'sheet' && !look.isWorkbook;
 const isOfSheet = ({ as }) => as === 'sheet' || as === 'tree';
 
 // The sheet that is worked at stays so; else it is the first one.
@@ -82,7 +90,7 @@ export const replaced = (state) => replacedBy(state).flatMap((entry, i) =>
 
 // What a file in the place of another one is taken for: what the user took that one for, if it can be.
 const takenAs = (look, before) =>
-  (before && canBeOther({ look }) && CHOICES.includes(before.as) && before.as !== 'nothing' && before.as !== before.look.kind
+  (before && choicesOf({ look }).includes(before.as) && before.as !== 'nothing' && before.as !== before.look.kind
     ? before.as : look.kind);
 
 /**
@@ -155,7 +163,7 @@ export function taken(state, number, as) {
  * @param {DoorState} state
  */
 export function sheetsTaken(state) {
-  const entries = state.entries.map((it) => (it.as === 'sheet' ? { ...it, as: 'register' } : it));
+  const entries = state.entries.map((it) => (isTextSheet(it) ? { ...it, as: 'register' } : it));
   return withOpen({ ...noticed(state, ''), entries });
 }
 

@@ -2,7 +2,7 @@
 
 import { CALENDARS } from './calendars.mjs';
 import { choicesText, isColumn } from './choices.mjs';
-import { CHOICES, canBeOther } from './door.mjs';
+import { CHOICES, canBeOther, choicesOf, isTextSheet } from './door.mjs';
 import { textOf } from './elements.mjs';
 import * as registers from './registers.mjs';
 import * as sheet from './sheet.mjs';
@@ -86,15 +86,15 @@ function endingReport(reply, most, encoding) {
 // ---- What is given ----
 
 // What a file is, in words: of a register how it is written, and of a sheet its first line.
-function isWords({ kind, delimiter, sealed, firstLine }) {
+function isWords({ kind, delimiter, sealed, firstLine, isWorkbook }) {
   if (kind === 'register') return WORDS.isRegister(sealed, WORDS.delimiters[delimiter]);
-  if (kind === 'sheet') return WORDS.isSheet(firstLine);
+  if (kind === 'sheet') return isWorkbook ? WORDS.isWorkbook : WORDS.isSheet(firstLine);
   const sentences = { noReading: WORDS.causeAdvice[READ_FAULT], noChoices: WORDS.noChoices };
   return WORDS.isKind[kind] || sentences[kind] || `${WORDS[kind]}.`;
 }
 
 // What a file can be taken for, with what it is where it looks so.
-const asChoices = ({ look }) => CHOICES.map((kind) => [kind, kind === look.kind ? isWords(look) : WORDS.isKind[kind]]);
+const asChoices = ({ look }) => choicesOf({ look }).map((kind) => [kind, kind === look.kind ? isWords(look) : WORDS.isKind[kind]]);
 
 // What cannot be taken stands first, and registers last: they may be many.
 const ranks = (it) => (it.look.kind === 'register' ? 2 : Number(canBeOther(it) || it.look.kind === 'choices'));
@@ -104,7 +104,7 @@ export function doorRows({ entries, open }) {
   const sheets = entries.filter(({ as }) => ['sheet', 'tree'].includes(as));
   return [...entries].sort((one, other) => ranks(one) - ranks(other)).map((it) => ({
     number: it.number, name: WORDS.chosen(it.file.name, WORDS.bytes(it.file.size)), is: isWords(it.look), as: it.as,
-    choices: canBeOther(it) ? asChoices(it) : [], canOpen: sheets.length > 1 && sheets.includes(it), isOpen: it.number === open,
+    choices: asChoices(it), canOpen: sheets.length > 1 && sheets.includes(it), isOpen: it.number === open,
   }));
 }
 
@@ -115,8 +115,7 @@ export function doorQuestion(question) {
 
 /** How many sheets there are beside registers: they may be registers too, without their headers. */
 export function sheetsBeside({ entries }) {
-  const of = (kind) => entries.filter(({ as }) => as === kind).length;
-  return of('register') === 0 ? 0 : of('sheet');
+  return entries.some(({ as }) => as === 'register') ? entries.filter(isTextSheet).length : 0;
 }
 
 // What the only file is taken for, or why it cannot be taken.
@@ -329,8 +328,9 @@ const encodingOf = ({ source }) => WORDS.encodings[source.encoding];
 export function sheetChosen(state) {
   const { source: { file } } = state, { encoding, delimiter, above } = sheet.shownProposed(state);
   const first = sheet.beginning(state), isOfTree = first && first.isOfTree;
-  const separator = isOfTree ? WORDS.aTree : first && first.widest > 1 && WORDS.delimiters[delimiter];
-  const looks = [separator, !isOfTree && WORDS.encodings[encoding], above && WORDS.aboveFound(above)].filter(Boolean);
+  const isText = !isOfTree && !(first && first.pages);
+  const separator = isOfTree ? WORDS.aTree : isText && first && first.widest > 1 && WORDS.delimiters[delimiter];
+  const looks = [separator, isText && WORDS.encodings[encoding], above && WORDS.aboveFound(above)].filter(Boolean);
   if (file === null) return '';
   return [WORDS.chosen(file.name, WORDS.bytes(file.size)), '.', looks.length ? ` ${WORDS.looksLike(looks)}` : ''];
 }
@@ -347,8 +347,9 @@ export function sheetSummary(state) {
   const first = sheet.beginning(state), { source, picks, columns } = state;
   if (source.file === null) return '';
   if (first === null) return [{ own: source.file.name }];
-  const how = first.isOfTree ? [WORDS.aTree] : [first.widest > 1 && WORDS.delimiters[source.delimiter], encodingOf(state),
-    source.above > 0 && WORDS.titleLines(source.above)].filter(Boolean);
+  const form = first.pages ? [WORDS.pageNamed(first.pages[first.page])] : [first.widest > 1 && WORDS.delimiters[source.delimiter],
+    encodingOf(state)];
+  const how = first.isOfTree ? [WORDS.aTree] : [...form, source.above > 0 && WORDS.titleLines(source.above)].filter(Boolean);
   const dates = sheet.missing(state) ? [WORDS.chooseDates.replace(/\.$/, '')] : datesInWords(state, dateNames(state), first.heading);
   const parts = [...how, ...dates, WORDS.orders[picks.order], WORDS.behindThem(columns)];
   return [{ own: source.file.name }, ': ', ...parts.flatMap((it, i) => (i === 0 ? [it] : [', ', it]))];

@@ -151,6 +151,7 @@ function takeSource(step) {
     // What is typed wrongly does not stay beside what was read with another number.
     target.value = above === null ? '' : String(above);
   });
+  byId('sheet-page').addEventListener('change', ({ target }) => step(sourceChosen, { page: Number(target.value) }));
   byId('sheet-file-dates').addEventListener('change', ({ target }) => step(sourceChosen, { hasFileDates: target.checked }));
 }
 
@@ -189,7 +190,12 @@ function drawBeginning(state) {
   const first = beginning(state), table = sheetTable(state);
   byId('sheet-rows').replaceChildren(...(table === null ? [] : [tableBox(table)]));
   byId('sheet-choices').hidden = byId('sheet-end').hidden = byId('sheet-asks').hidden = first === null;
+  const { pages = [], page = 0 } = first || {};
   byId('sheet-text-choices').hidden = first !== null && first.isOfTree;
+  for (const id of ['sheet-encoding-field', 'sheet-delimiters']) byId(id).hidden = pages.length > 0;
+  byId('sheet-page-field').hidden = pages.length < 2;
+  byId('sheet-page').replaceChildren(...pages.map((name, i) => option({ own: name }, String(i))));
+  byId('sheet-page').value = String(page);
   byId('sheet-tree-choices').hidden = first === null || !first.isOfTree;
   // What is missing is to be seen.
   if (first === null || missing(state)) byId('sheet-fold').open = true;

@@ -22,7 +22,7 @@ export const MOST_BYTES = 2 ** 28;
  * and what came of it: it is there again when one comes back to them. Readings are numbered through all sheets.
  * @typedef {import('./choices.mjs').Picks} Picks
  * @typedef {{ encoding: string | null, delimiter: number | null, above: number | null }} Proposed
- * @typedef {{ file: File | null, isTree: boolean | null, hasFileDates: boolean } & Proposed} Source
+ * @typedef {{ file: File | null, isTree: boolean | null, hasFileDates: boolean, page: number | null } & Proposed} Source
  * @typedef {{ source: Source, picks: Picks, columns: string[], status: 'runs' | 'ended' | 'stopped', key: string,
  *   reply: any, told: any, isSaved: boolean, gathered: any[], sorted: { place: number, reply: any } | null,
  *   registers: Record<number, { reply: any }>, pictures: Record<number, { reply: any }> }} Run
@@ -42,7 +42,7 @@ const NOTHING = { encoding: null, delimiter: null, above: null };
  */
 export function initial(processors) {
   return {
-    source: { file: null, isTree: null, hasFileDates: false, encoding: 'utf-8', delimiter: 44, above: 0 }, proposed: NOTHING, kept: null, fit: null,
+    source: { file: null, isTree: null, hasFileDates: false, page: null, encoding: 'utf-8', delimiter: 44, above: 0 }, proposed: NOTHING, kept: null, fit: null,
     reading: 0, begins: null, picks: noPicks(), columns: ['weekday', 'gregorian'], unknown: null, orders: null, listed: [],
     preview: null, run: null, runs: 0, worker: 0, notice: '',
     isEarly: isEarlyBy(processors), given: null, held: {}, readings: 0,
@@ -75,7 +75,7 @@ function readAnew(state, source) {
  */
 export function sourceChosen(state, change) {
   if (isRunning(state)) return { ...state, notice: 'stopFirst' };
-  const source = { ...state.source, ...change };
+  const source = { ...state.source, ...('page' in change ? NOTHING : {}), ...change };
   return 'above' in change ? { ...state, source, begins: null, fit: null, notice: '' } : readAnew(state, source);
 }
 
@@ -127,7 +127,8 @@ export function fileChosen(state, given) {
   const own = given && held[keyOf({ number, as })];
   const next = { ...state, held, given: given && number !== undefined ? { number, as } : null };
   if (own && isSameFile(own.source.file, file)) return { ...next, ...own, worker: state.worker + 1, notice: '' };
-  const source = { file, isTree: as === undefined ? null : as === 'tree', hasFileDates: false, ...(proposed || NOTHING) };
+  const { hasFileDates, page } = own ? own.source : { hasFileDates: false, page: null };
+  const source = { file, isTree: as === undefined ? null : as === 'tree', hasFileDates, page, ...(proposed || NOTHING) };
   const waits = state.source.file === null ? state.kept : null, choices = own ? ownChoices(own) : null;
   if (choices === null) return chosenAnew(next, source, waits);
   return { ...chosenAnew(next, source, { file: own.source.file, choices, isFilled: false }), columns: own.columns };
@@ -141,7 +142,7 @@ export function fileChosen(state, given) {
  */
 export function choicesChosen(state, file) {
   if (isRunning(state)) return { ...state, notice: 'stopFirst' };
-  const { file: ownFile, isTree, hasFileDates } = state.source, own = { file: ownFile, isTree, hasFileDates, ...NOTHING };
+  const { file: ownFile, isTree, hasFileDates, page } = state.source, own = { file: ownFile, isTree, hasFileDates, page, ...NOTHING };
   return chosenAnew(state, own, { file, choices: null, isFilled: false });
 }
 

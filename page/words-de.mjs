@@ -125,8 +125,8 @@ export const WORDS = {
 
   // ---- Files ----
   files: 'Dateien',
-  filesAre: 'Tabellen, als CSV oder Text gespeicherte Arbeitsmappen, Stammbäume (GEDCOM) und eine gespeicherte Auswahl: ' +
-    'die Seite sieht nach, was jede ist.',
+  filesAre: 'Tabellen als CSV oder Text, Arbeitsmappen (.xlsx, .ods), Stammbäume (GEDCOM), Register und eine gespeicherte ' +
+    'Auswahl: Die Seite sieht selbst nach, was jede Datei ist.',
   chooseFiles: 'Dateien',
   dropFiles: 'Wählen Sie so viele, wie Sie wollen, oder ziehen Sie sie auf diese Seite.',
   pasteCells: 'Oder Zellen einer Tabellenkalkulation',
@@ -135,6 +135,7 @@ export const WORDS = {
   takenFor: (name) => [name, ' gilt als'],
   isRegister: (sealed, between) => `${sealed ? 'ein versiegeltes Register' : 'ein Register'}, zwischen den Feldern ${between}`,
   isSheet: (line) => (line === '' ? 'ein Tabellenblatt' : ['ein Tabellenblatt, das mit „', own(line), '“ beginnt']),
+  isWorkbook: 'eine Arbeitsmappe',
   isKind: { register: 'ein Register', sheet: 'ein Tabellenblatt', tree: 'ein Stammbaum',
     nothing: 'nichts: sie bleibt weg', choices: 'eine Auswahl für ein Tabellenblatt' },
   countOf: {
@@ -272,6 +273,13 @@ export const WORDS = {
   otherColumns: 'die Datei hat andere Spalten als bei der Wahl und ist neu gelesen: Wählen Sie sie noch einmal',
   workbook: 'die Datei ist kein Text, sondern gepackt, und hat keine Tabelle, die hier gelesen wird (.docx, .zip); ' +
     'speichern Sie ihre Tabelle als CSV UTF-8, oder kopieren Sie ihre Zellen und fügen Sie sie unter „Dateien“ ein',
+  book: 'die Datei ist eine Arbeitsmappe; geben Sie sie unter „Dateien“ an, dann gilt sie als Tabellenblatt',
+  xlsb: 'die Datei ist eine binäre Arbeitsmappe (.xlsb); speichern Sie sie als .xlsx, .ods oder CSV UTF-8, oder kopieren Sie ' +
+    'ihre Zellen und fügen Sie sie unter „Dateien“ ein',
+  locked: 'die Arbeitsmappe ist mit einem Kennwort geschützt; speichern Sie sie ohne Kennwort, oder kopieren Sie ihre Zellen ' +
+    'und fügen Sie sie unter „Dateien“ ein',
+  cutWorkbook: 'die Arbeitsmappe oder gepackte Datei ist abgeschnitten oder beschädigt; kopieren Sie sie noch einmal, oder ' +
+    'öffnen und speichern Sie sie neu',
   oldWorkbook: 'die Datei ist eine alte oder geschützte Arbeitsmappe (.xls); speichern Sie sie als .xlsx oder .ods ohne ' +
     'Kennwort oder als CSV UTF-8, oder kopieren Sie ihre Zellen und fügen Sie sie unter „Dateien“ ein',
   rtf: 'die Datei ist ein formatierter Text (RTF); kopieren Sie die Tabelle in eine Tabellenkalkulation und speichern Sie ' +
@@ -405,6 +413,7 @@ export const WORDS = {
   onlyByOrder: { year: 'Das Jahr steht zuerst', day: 'Der Tag steht zuerst', month: 'Der Monat steht zuerst' },
   decides: ', wie hier zu sehen ist: ',
   takeOrder: { year: 'Jahr zuerst', day: 'Tag zuerst', month: 'Monat zuerst' },
+  pageNamed: (name) => ['das Blatt „', own(name), '“'],
   pageOfWorkbook: 'Blatt der Arbeitsmappe',
   fileDates: 'Auch Daten der Datei selbst: ihres Kopfes, und wann ihre Einträge geändert wurden',
   titles: (lines) => ['Über den Namen: ', own(lines.join(' / ')), '.'],

@@ -122,8 +122,8 @@ export const WORDS = {
 
   // ---- Files ----
   files: 'Files',
-  filesAre: 'Tables, workbooks saved as CSV or text, family trees (GEDCOM) and choices that you saved: the page looks ' +
-    'what each is.',
+  filesAre: 'Tables as CSV or text, workbooks (.xlsx, .ods), family trees (GEDCOM), registers and choices that you saved: the ' +
+    'page looks what each is.',
   chooseFiles: 'Files',
   dropFiles: 'Choose as many as you like, or drop them on this page.',
   pasteCells: 'Or cells of a spreadsheet',
@@ -132,6 +132,7 @@ export const WORDS = {
   takenFor: (name) => [name, ' is taken for'],
   isRegister: (sealed, between) => `${sealed ? 'a sealed register' : 'a register'} with ${between}`,
   isSheet: (line) => (line === '' ? 'a sheet' : ['a sheet, which begins with “', own(line), '”']),
+  isWorkbook: 'a workbook',
   isKind: { register: 'a register', sheet: 'a sheet', tree: 'a family tree', nothing: 'nothing: it is left out',
     choices: 'choices for a sheet' },
   countOf: {
@@ -262,6 +263,11 @@ export const WORDS = {
   otherColumns: 'the file has other columns than when it was chosen, so it is read anew: choose them again',
   workbook: 'the file is no text but a packed file without a table that can be read here (.docx, .zip); save its table ' +
     'as CSV UTF-8, or copy its cells and paste them in “Files”',
+  book: 'the file is a workbook; give it in “Files”, and it is taken for a sheet',
+  xlsb: 'the file is a binary workbook (.xlsb); save it as .xlsx, .ods or CSV UTF-8, or copy its cells and paste them in ' +
+    '“Files”',
+  locked: 'the workbook is locked by a password; save it without one, or copy its cells and paste them in “Files”',
+  cutWorkbook: 'the file is a workbook or a packed file that is cut or damaged; copy it here anew, or open it and save it again',
   oldWorkbook: 'the file is an old or a protected workbook (.xls); save it as .xlsx or .ods without a password, or as CSV ' +
     'UTF-8, or copy its cells and paste them in “Files”',
   rtf: 'the file is a formatted text (RTF); copy its table into a spreadsheet and save that as CSV UTF-8, or copy its ' +
@@ -378,6 +384,7 @@ export const WORDS = {
   onlyByOrder: { year: 'The year stands first', day: 'The day stands first', month: 'The month stands first' },
   decides: ', as this one shows: ',
   takeOrder: { year: 'Year first', day: 'Day first', month: 'Month first' },
+  pageNamed: (name) => ['the sheet “', own(name), '”'],
   pageOfWorkbook: 'Sheet of the workbook',
   fileDates: 'Dates of the file itself too: of its header, and when its records were changed',
   titles: (lines) => ['Above the names: ', own(lines.join(' / ')), '.'],

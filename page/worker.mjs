@@ -10,11 +10,13 @@ import {
   isAnsel, isDelimiterOf, isIbmPc, isJson, isObject, isTree, kindOf, likelyAbove, likelyDelimiter, likelyEncodings, markedEncoding,
 } from './proposals.mjs';
 import { EVERY, LOOKED_AT, REFUSED_SHOWN, SHOWN, Table, range, rowsOf } from './tables.mjs';
+import { NoArchive, filesIn } from './packed.mjs';
 import { timelineOf } from './timeline.mjs';
 import { FACTS } from './unbuilt-facts.mjs';
 import { NAMES } from './unbuilt-names.mjs';
+import { NoWorkbook, cellsOf, kindOfBook } from './workbook.mjs';
 
-const COMMA = 44;
+const COMMA = 44, TAB = 9;
 const PIECE = 2 ** 22;
 // More columns or names than these are not offered.
 const MOST_COLUMNS = 200, MOST_NAMES = 200;
@@ -153,11 +155,22 @@ function formOf(module, bytes) {
   return found;
 }
 
+// What an archive is: a workbook that can be read is a sheet.
+async function lookOfBook(file) {
+  try {
+    const kind = kindOfBook(filesIn(new Uint8Array(await file.arrayBuffer())));
+    return kind === null || kind === 'xlsb' ? { kind: kind || 'workbook' } : { kind: 'sheet', firstLine: '', isWorkbook: true };
+  } catch (fault) {
+    return { kind: fault instanceof NoArchive ? 'cutWorkbook' : 'noReading' };
+  }
+}
+
 // What a file looks like, by its first bytes and lines.
 async function lookOf(module, file) {
   const bytes = await file.slice(0, FRONT).arrayBuffer().then((it) => new Uint8Array(it), () => null);
   if (bytes === null) return { kind: 'noReading' };
   const kind = kindOf(bytes), marked = markedEncoding(bytes), form = marked === null ? formOf(module, bytes) : null;
+  if (kind === 'workbook') return lookOfBook(file);
   if (kind !== null && form === null) return { kind };
   const text = beginningOf(bytes);
   if (isTree(text)) return { kind: 'tree' };
@@ -186,7 +199,7 @@ async function register({ compiled, file, columns, isTold }, tell) {
   });
   const bytes = bytesAt(0, text.length), kind = kindOf(bytes) || (markedEncoding(bytes) && 'utf16');
   const form = formOf(module, bytesAt(0, text.length));
-  if (kind !== null && form === null) throw new OtherKind(kind);
+  if (kind !== null && form === null) throw new OtherKind(kind === 'workbook' ? 'book' : kind);
   if (isTree(frontOf(module, text))) throw new OtherKind('tree');
   const { delimiter, sealed } = form || FORMS[0];
   const setup = { columns: numbersOf(columns), delimiter, sealed };
@@ -245,7 +258,7 @@ function emptyAmong(module, text, delimiter, column, head, days) {
  * What a sheet is read from: `number` is that of the reading. An encoding, a delimiter or a number of records above the
  * names that is null is to be proposed, by `kept` choices where they fit, and so is whether it is a family tree.
  * @typedef {{ compiled: WebAssembly.Module, number: number, file: File, isTree?: boolean | null, encoding: string | null,
- *   delimiter: number | null, above: number | null, kept: any, hasFileDates?: boolean }} Source
+ *   delimiter: number | null, above: number | null, kept: any, hasFileDates?: boolean, page?: number | null }} Source
  */
 
 // The sheet that was read last, in the module's memory.
@@ -318,11 +331,21 @@ function delimiterOf(front, { delimiter, kept }) {
   return delimiter ?? (isKept ? kept.delimiter : likelyDelimiter(front));
 }
 
+// A sheet of a workbook, as a text in which a tab stands between two cells, as in cells that are copied.
+async function readBook(module, { raw, bytesAt }, { number, file, page }) {
+  const { pages, width, fields } = await cellsOf(module.bytes(raw).slice(), page || 0);
+  const text = fields.length ? module.write(fields, width, TAB) : module.put(new Uint8Array());
+  sheet = { number, file, bytesAt, module, text, front: frontOf(module, text), encoding: 'utf-8', delimiter: TAB, isOfTree: false,
+    book: { pages, page: page || 0 }, counted: null };
+  return sheet;
+}
+
 /** @param {Source} source */
 async function readSheet({ compiled, number, file, encoding: chosen, ...source }) {
   sheet = null;
   const module = await instantiate(compiled), read = await rawOf(module, file);
   const kind = kindOf(read.bytesAt(0, read.raw.length));
+  if (kind === 'workbook') return readBook(module, read, { number, file, page: source.page });
   if (kind !== null) throw new OtherKind(kind);
   const { encoding, text: own } = textOf(module, read, chosen, source.kept), beginning = frontOf(module, own);
   const isOfTree = source.isTree ?? isTree(beginning);
@@ -364,12 +387,12 @@ function ownDates(bytes, lengths) {
 const sheetOf = async (source) => (sheet && sheet.number === source.number ? sheet : readSheet(source));
 
 // The first records and columns of a sheet under its names, and what stands above these.
-function begins({ module, text, encoding, delimiter, isOfTree }, above, records, widest) {
+function begins({ module, text, encoding, delimiter, isOfTree, book = {} }, above, records, widest) {
   const width = Math.max(1, Math.min(widest, MOST_COLUMNS));
   const first = rowsOf(module.pick(text, delimiter, range(width), above + SHOWN + 1).fields, width);
   const titles = first.slice(0, Math.min(above, SHOWN)).map((fields) => fields.filter(Boolean).join(' '));
   const [heading = [], ...rows] = first.slice(above);
-  return { encoding, delimiter, above, records, widest, heading, rows, titles, isOfTree };
+  return { encoding, delimiter, above, records, widest, heading, rows, titles, isOfTree, ...book };
 }
 
 // The records above the names, so many as were chosen, or kept where a column that was kept has its name below, or are
@@ -676,7 +699,7 @@ const TASKS = {
 };
 
 function faultOf(fault) {
-  if (fault instanceof OtherKind) return fault.message;
+  if (fault instanceof OtherKind || fault instanceof NoWorkbook) return fault.message;
   if (fault instanceof NoReading) return 'noReading';
   if (fault instanceof ChangedFile) return 'changedFile';
   if (fault instanceof NotEncoded) return 'notEncoded';

@@ -44,6 +44,9 @@ byId('languages').append(...NAMES_OF_LANGUAGES.map(({ language, name }) => {
 }));
 open(likelyLanguage(navigator.languages));
 
+// The link to what is proved unfolds it.
+document.querySelector('nav a[href="#proved-part"]').addEventListener('click', () => { byId('proved-fold').open = true; });
+
 // The seconds of what runs go on.
 setInterval(() => draw(page.state), 1000);
 

@@ -64,9 +64,10 @@ function listOfRun(box, run, left, step, now) {
   const openedBox = box.appendChild(element('div', '', { id: 'register-opened' }));
   const drawOpened = articleOf(openedBox, 'register-result', step, now);
   return (it, state) => {
-    drawTable(registersList(it, now()), it.opened);
+    const opened = it.jobs.length === 1 ? it.jobs[0].number : it.opened;
+    drawTable(registersList(it, now()), opened);
     drawArchive(archiveReport(it, countGiven(state)));
-    drawOpened(it.jobs.find(({ number }) => number === it.opened) || null);
+    drawOpened(it.jobs.find(({ number }) => number === opened) || null);
   };
 }
 

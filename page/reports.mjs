@@ -134,9 +134,9 @@ function kindCounts(entries) {
 }
 
 /** The line below: what was given. */
-export function doorStatus({ entries, coming, folders, notice }) {
+export function doorStatus({ entries, coming, folders, notice, question = null }) {
   const told = entries.length === 1 ? oneEntry(entries[0]) : kindCounts(entries);
-  const words = notice ? WORDS[notice] || notice : coming !== null ? WORDS.looking : told;
+  const words = notice ? WORDS[notice] || notice : coming !== null && question === null ? WORDS.looking : told;
   return folders.length ? [WORDS.folders(folders), ' ', words] : words;
 }
 

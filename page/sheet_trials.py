@@ -108,7 +108,7 @@ class SheetTrials:
         self.sheet(
             self.file("german.txt", text.encode("windows-1252")), "windows-1252", 9, -1, "julian", 2, order="day"
         )
-        self.check("one calendar for all", re.compile("3 rows, 1 refused"), self.convert_sheet())
+        self.check("one calendar for all", re.compile("3 rows, none refused, 1 empty"), self.convert_sheet())
         wanted = (
             "\ufeffNr\tName\tDatum\tweekday\tgregorian\trefusal\n"
             '1\t"Müller, ""Hans"""\t4.10.1582\tThursday\t1582-10-14\t\n'

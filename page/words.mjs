@@ -31,14 +31,15 @@ export const WORDS = {
   languages: 'Language',
   title: 'register: historical dates from calendar to calendar',
   name: 'register',
-  about: 'Converts historical dates from calendar to calendar: one, or a whole register. Nothing that you type or ' +
-    'choose leaves this machine.',
+  about: 'Converts historical dates from calendar to calendar: one, or a whole register, which is a table with an id, a ' +
+    'calendar and a date in each line. Nothing of it leaves this machine.',
   noScript: 'This page needs JavaScript and WebAssembly, which are switched off here.',
   noModule: 'The converter could not be started in this browser:',
   parts: 'Parts of this page',
 
   // ---- What is proved ----
   proved: 'What is proved',
+  provedShort: 'The tables are proved, but not that a choice fits: this says what exactly.',
   provedOfRegisters: 'The program in this page was proved before the page was made. The table of a register has a ' +
     'row for each record, in their order, with the day that its calendar gives, or the reason why there is none; and ' +
     'it has these bytes and no others.',
@@ -124,8 +125,8 @@ export const WORDS = {
   files: 'Files',
   filesAre: 'Tables as CSV or text, workbooks (.xlsx, .ods), family trees (GEDCOM), registers and choices that you saved: the ' +
     'page looks what each is.',
-  chooseFiles: 'Files',
-  dropFiles: 'Choose as many as you like, or drop them on this page.',
+  chooseFiles: 'Choose files',
+  dropFiles: 'As many as you like; or drop them on this page.',
   pasteCells: 'Or cells of a spreadsheet',
   pasteCellsIs: 'Copy them, with the line that has the names, and paste them here.',
   pasted: 'pasted.csv',
@@ -361,9 +362,9 @@ export const WORDS = {
 
   // ---- From a sheet ----
   sheet: 'A sheet',
-  sheetIs: 'A table of your own, saved as CSV or text or copied from a spreadsheet. Say which of its columns have ' +
-    'dates, and you get it back with the columns that you want behind its own. How dates in words are read is ' +
-    'proved; whether your choices fit is for you to see, in what the page shows before you convert.',
+  sheetIs: 'A table of your own. Say which of its columns have dates, and you get it back with the columns that you want ' +
+    'behind its own. How dates in words are read is proved; whether your choices fit is for you to see, in what the page ' +
+    'shows before you convert.',
   encoding: 'Encoding',
   encodingIs: 'Are letters with accents wrong below? Choose another.',
   above: 'Lines above the names',

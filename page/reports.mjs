@@ -7,6 +7,7 @@ import { textOf } from './elements.mjs';
 import * as registers from './registers.mjs';
 import * as sheet from './sheet.mjs';
 import { WORDS } from './language.mjs';
+import { isOfEmpty } from './tables.mjs';
 
 // A field is shown so far, in letters.
 const SHORT = 40;
@@ -46,7 +47,7 @@ const shortened = (text) => (text.length > SHORT ? `${text.slice(0, SHORT)}…` 
  */
 function drawnRows({ heading, rows, from, refusal, date }) {
   return rows.map((row) => {
-    const number = row[date].trim() === '' ? 0 : Number(row[refusal]), reason = WORDS.refusals[number - 1];
+    const number = isOfEmpty(row[refusal], row[date]) ? 0 : Number(row[refusal]), reason = WORDS.refusals[number - 1];
     if (!reason) return { fields: row, reason: '', span: 0 };
     return { fields: row.slice(0, from), reason: WORDS.reason(number, reason), span: heading.length - from };
   });
@@ -411,7 +412,8 @@ export function sheetCounts(state) {
 function joinedTable(caption, { heading, rows, from }, names, { dates }) {
   const width = (heading.length - from) / names.length;
   const whyOf = (row) => names.flatMap((name, k) => {
-    const number = row[Number(dates[k].date)].trim() === '' ? 0 : Number(row[from + (k + 1) * width - 1]);
+    const refusal = row[from + (k + 1) * width - 1];
+    const number = isOfEmpty(refusal, row[Number(dates[k].date)]) ? 0 : Number(refusal);
     const reason = number && WORDS.reason(number, WORDS.refusals[number - 1]);
     return number === 0 ? [] : [names.length === 1 ? reason : [name, ' ', reason]];
   });

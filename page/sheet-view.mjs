@@ -198,7 +198,7 @@ function drawBeginning(state) {
   byId('sheet-page').value = String(page);
   byId('sheet-tree-choices').hidden = first === null || !first.isOfTree;
   // What is missing is to be seen.
-  if (first === null || missing(state)) byId('sheet-fold').open = true;
+  if (state.begins !== null && (first === null || missing(state))) byId('sheet-fold').open = true;
   if (first !== null) {
     byId('sheet-id').replaceChildren(option(WORDS.rowNumber, '-1'), ...columnOptions(first.heading));
   }
@@ -309,6 +309,18 @@ function resultView(step) {
   };
 }
 
+// Moves the page so that what was given stands above and the way to convert it is in sight, once for each file.
+function scrolledTo() {
+  let seen = null;
+  return (state) => {
+    const { source: { file }, begins } = state, isKnown = begins !== null && (shownPreview(state) !== null || missing(state));
+    if (file === null || file === seen || !isKnown) return;
+    seen = file;
+    if (byId('sheet-fold').open || byId('sheet-start').getBoundingClientRect().bottom <= innerHeight) return;
+    byId('files-part').scrollIntoView({ block: 'start' });
+  };
+}
+
 /** The answer draws the state. */
 export function sheetView(step) {
   takeSource(step);
@@ -324,6 +336,7 @@ export function sheetView(step) {
   const [drawStatus, drawChosen, drawFit, drawTitles, drawSummary] =
     ['said', 'chosen', 'fit', 'titles', 'summary'].map((name) => wordsIn(`sheet-${name}`));
   const drawOfSource = whenChanged(drawSource), drawChoices = choicesView(step), drawResult = resultView(step);
+  const scroll = scrolledTo();
   return (state) => {
     now = state;
     drawPart('sheet', state.source.file !== null || state.kept !== null);
@@ -338,5 +351,6 @@ export function sheetView(step) {
     drawRunning('sheet', isRunning(state));
     if (!isRunning(state)) byId('sheet-add').disabled = state.picks.dates.length >= MOST_DATES;
     drawStatus(sheetStatus(state));
+    scroll(state);
   };
 }

@@ -20,6 +20,12 @@ export function rowsOf(fields, width) {
  * @typedef {{ heading: string[], rows: string[][], from: number, refusal: number, date: number }} ShownRows
  */
 
+// Refusals that a record without a date can have: its calendar is not known, or the date is not written as it wants.
+const OF_EMPTY = [4, 5];
+
+/** Whether a refusal is only that there is no date, which is then empty and not refused. */
+export const isOfEmpty = (refusal, date) => date.trim() === '' && OF_EMPTY.includes(Number(refusal));
+
 /** The table of a register. */
 export class Table {
   constructor(module, text, delimiter) {
@@ -65,7 +71,7 @@ export class Table {
     const refusals = table.rows(['refusal', 'date'], EVERY);
     // The last record may be cut.
     if (front.length < this.text.length) refusals.pop();
-    const isRefused = ([refusal, date]) => refusal !== '' && date.trim() !== '';
+    const isRefused = ([refusal, date]) => refusal !== '' && !isOfEmpty(refusal, date);
     const numbers = refusals.flatMap((it, i) => (isRefused(it) ? [i] : [])).slice(0, REFUSED_SHOWN);
     const heading = [...this.heading.slice(0, this.column('rd')), 'refusal'];
     const last = heading.length - 1, shown = { heading, rows: [], from: last, refusal: last, date: this.column('date') };

@@ -126,8 +126,7 @@ export const WORDS = {
 
   // ---- Files ----
   files: 'Dateien',
-  filesAre: 'Tabellen als CSV oder Text, Arbeitsmappen (.xlsx, .ods), Stammbäume (GEDCOM), Register und eine gespeicherte ' +
-    'Einstellungen: Die Seite sieht selbst nach, was jede Datei ist.',
+  filesAre: 'Tabellen (CSV, .xlsx, .ods), Stammbäume (GEDCOM), Register, Einstellungen: Die Seite sieht nach, was jede ist.',
   chooseFiles: 'Dateien auswählen',
   dropFiles: 'Wählen Sie beliebig viele aus, oder ziehen Sie sie auf diese Seite.',
   pasteCells: 'Oder Zellen einer Tabellenkalkulation',

@@ -123,12 +123,11 @@ export const WORDS = {
 
   // ---- Files ----
   files: 'Files',
-  filesAre: 'Tables as CSV or text, workbooks (.xlsx, .ods), family trees (GEDCOM), registers and choices that you saved: the ' +
-    'page looks what each is.',
+  filesAre: 'Tables (CSV, .xlsx, .ods), family trees (GEDCOM), registers, saved choices: the page looks what each is.',
   chooseFiles: 'Choose files',
   dropFiles: 'As many as you like; or drop them on this page.',
   pasteCells: 'Or cells of a spreadsheet',
-  pasteCellsIs: 'Copy them, with the line that has the names, and paste them here.',
+  pasteCellsIs: 'Copy them with the names of their columns, and paste them here.',
   pasted: 'pasted.csv',
   takenFor: (name) => [name, ' is taken for'],
   isRegister: (sealed, between) => `${sealed ? 'a sealed register' : 'a register'} with ${between}`,

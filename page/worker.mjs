@@ -9,7 +9,7 @@ import { NO_DAY, NoMemory, expectedLength, instantiate } from './module.mjs';
 import {
   isAnsel, isDelimiterOf, isIbmPc, isJson, isObject, isTree, kindOf, likelyAbove, likelyDelimiter, likelyEncodings, markedEncoding,
 } from './proposals.mjs';
-import { EVERY, LOOKED_AT, REFUSED_SHOWN, SHOWN, Table, range, rowsOf } from './tables.mjs';
+import { EVERY, LOOKED_AT, REFUSED_SHOWN, SHOWN, Table, isOfEmpty, range, rowsOf } from './tables.mjs';
 import { NoArchive, filesIn } from './packed.mjs';
 import { timelineOf } from './timeline.mjs';
 import { FACTS } from './unbuilt-facts.mjs';
@@ -524,7 +524,7 @@ function refusedDates(module, table, delimiter, { above, dates, places, own }, w
     // The last record may be cut.
     if (front.length < table.length) rows.pop();
     const found = rows.flatMap((row, i) => rowsOf(row, 3).flatMap(([date, calendar, refusal], k) =>
-      (refusal === '' || date.trim() === '' ? [] : [{ number: i + 1, place: k, calendar, date, refusal: Number(refusal) }])));
+      (refusal === '' || isOfEmpty(refusal, date) ? [] : [{ number: i + 1, place: k, calendar, date, refusal: Number(refusal) }])));
     if (found.length || front.length === table.length || most >= LOOKED_AT) return found.slice(0, REFUSED_SHOWN);
   }
 }

@@ -5,7 +5,7 @@ from browsers import wait_for
 
 # The day that the example beside each calendar is, in the Gregorian calendar; known from elsewhere.
 DAYS = {
-    "gregorian": "1699-11-30", "iso": "1945-11-12", "julian": "1699-12-10", "coptic": "1945-11-12", "ethiopic": "1945-11-12",
+    "gregorian": "1699-11-30", "iso": "1945-11-12", "julian": "1699-12-10", "coptic": "1944-11-12", "ethiopic": "1945-11-12",
     "egyptian": "1945-11-12", "armenian": "1945-11-12", "islamic": "1945-11-12", "hebrew": "1945-11-12", "longcount": "1945-11-12",
     "french": "1799-11-08", "roman": "1945-11-12", "republican": "1799-11-09",
 }

@@ -27,10 +27,14 @@ abbrev pub AreMade : {W : Type 0} → (List ℕ → ℕ → W → Type 0) → Li
 AreMade IsMade files outputs = AreMatched (λ i file output. IsMade (file ++ codes ".out.csv") (i + 1) output) files
     outputs
 
--- the name of each file's output was told apart from the file's own
+-- a name was told apart from those of all files
+abbrev pub IsNoSource : (List ℕ → List ℕ → Type 0) → List (List ℕ) → List ℕ → Type 0
+IsNoSource AreApart files name = (k : ℕ) (other : List ℕ) → slice_get files k ≡ Some other → AreApart other name
+
+-- the name of each file's output was told apart from those of all files
 abbrev pub AreNotSources : (List ℕ → List ℕ → Type 0) → List (List ℕ) → Type 0
 AreNotSources AreApart files =
-    (i : ℕ) (file : List ℕ) → slice_get files i ≡ Some file → AreApart file (file ++ codes ".out.csv")
+    (i : ℕ) (file : List ℕ) → slice_get files i ≡ Some file → IsNoSource AreApart files (file ++ codes ".out.csv")
 
 -- the names of any two outputs were told apart
 abbrev pub AreTwoFiles : (List ℕ → List ℕ → Type 0) → List (List ℕ) → Type 0

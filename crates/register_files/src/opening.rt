@@ -3,7 +3,7 @@
 ghost use Rattle.std.specs.Prelude.{◌≡◌, ◌<◌, ◌^◌, ◌++◌, ℕ, List, Some, false, length};
 ghost use Rattle.std.specs.Prelude.{IfErr, IfOk, OnOk, map, slice_get};
 ghost use Rattle.std.specs.String.{string_bytes};
-ghost use Rattle.register_files.specs.Openings.{AreMade, AreNotSources, AreOpened, AreTwoFiles, IsNewlyMade, IsOfFiles};
+ghost use Rattle.register_files.specs.Openings.{AreMade, AreNotSources, AreOpened, AreTwoFiles, IsNewlyMade, IsNoSource, IsOfFiles};
 
 use crate::file_store::FileStore;
 use register_records::Output;
@@ -73,7 +73,19 @@ fn is_taken<R, W: Output, P: FileStore<R, W>>(store: &P, names: &[String], name:
     false
 }
 
-/// Refuses the first file whose output would go to the file itself and empty it, as where it is a link to it.
+/// Whether an output's name is that of one of the files.
+fn is_source<R, W: Output, P: FileStore<R, W>>(store: &P, files: &[&str], name: &str) -> bool
+    ensures { result ≡ false → IsNoSource (P.are_apart store.now) (map (λ file. file.now) files.now) name.now }
+{
+    'files: for &other in files {
+        if store.are_one_file(other, name) {
+            return true;
+        }
+    }
+    false
+}
+
+/// Refuses the first file whose output would go to one of the files and empty it, as where it is a link to it.
 fn check_sources_kept<'a, R, W: Output, P: FileStore<R, W>>(
     alloc: Global,
     store: &P,
@@ -86,7 +98,7 @@ fn check_sources_kept<'a, R, W: Output, P: FileStore<R, W>>(
         let Ok(name) = output_name(alloc, file) else {
             return Err(FileFault::OutOfMemory);
         };
-        if store.are_one_file(file, name.as_str()) {
+        if is_source(store, files, name.as_str()) {
             return Err(FileFault::CannotMake(file));
         }
     }
@@ -131,7 +143,7 @@ fn make_outputs<'a, R, W: Output + Drop, P: FileStore<R, W>>(
 /// # Errors
 ///
 /// `CannotOpen` for the first file that cannot be opened, before any output is made; `CannotMake` for the first whose
-/// output would go to the file itself, before any output is made too, or else for the first whose output cannot be made
+/// output would go to one of the files, before any output is made too, or else for the first whose output cannot be made
 /// or goes to the file of an earlier one; `OutOfMemory` where memory ran out.
 pub fn open_files<'a, R: Drop, W: Output + Drop, P: FileStore<R, W>>(
     alloc: Global,

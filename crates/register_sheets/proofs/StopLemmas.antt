@@ -3,11 +3,10 @@ use Rattle.std.proofs.Common.{◌≡◌, ◌≤◌, ◌<◌, ◌+◌, ◌∙◌,
 use Rattle.std.proofs.Common.{ap, append-nil, arith, count_by, filter, get_or, inl, inr, length, map, refl, set, sym, take}
 use Rattle.std.specs.Prelude.{⊤, Some, option_map, slice_get}
 use Rattle.std.specs.List.{list_any}
-use Rattle.std.specs.Str.{str_to_ascii_lowercase}
 use Rattle.std.specs.Cmp.{IsEquivalence}
 use Rattle.std.proofs.Math.Bool.{or-false, or-true}
 use Rattle.std.proofs.lemmas.Bool.{cases_Bool, or_parts}
-use Rattle.std.proofs.lemmas.Cmp.{and_equiv, nat_eq_equiv, nat_list_eq_equiv, on_equiv}
+use Rattle.std.proofs.lemmas.Cmp.{and_equiv, nat_eq_equiv, on_equiv}
 use Rattle.std.specs.Cmp.Lexicographic.{options_equiv}
 use Rattle.std.proofs.lemmas.List.{get_or-map, length-append, length-map, length-take, map-append, take-append-le, take_all}
 use Rattle.std.proofs.lemmas.List.Elements.{filter-append}
@@ -15,6 +14,7 @@ use Rattle.std.proofs.lemmas.Option.{get_or_from_slice_get, slice_get-map, slice
 use Rattle.std.proofs.lemmas.List.Folds.{list_any-append, list_any_at, list_any_more}
 use Rattle.std.proofs.lemmas.List.Sums.{sum_by-cons, sum_by_push}
 use Rattle.written_dates.specs.Calendars.{place}
+use Rattle.written_dates.proofs.WordLemmas.{same_word_equiv}
 use Rattle.register_sheets.specs.UnknownNames.{AreNames, NameCount, NameStop, counted, firsts, is_alike, is_other}
 use Rattle.register_sheets.specs.UnknownNames.{name_seen}
 use Rattle.register_sheets.specs.UnknownViews.{named}
@@ -23,7 +23,7 @@ use Rattle.register_sheets.specs.declared.stopped_names.UnknownName.{UnknownName
 pub alike_equiv : IsEquivalence is_alike
 alike_equiv =
     and_equiv (on_equiv (λ (a : NameStop). a.1) (options_equiv (on_equiv place nat_eq_equiv)))
-    (on_equiv (λ (a : NameStop). str_to_ascii_lowercase a.0) nat_list_eq_equiv)
+    (on_equiv (λ (a : NameStop). a.0) same_word_equiv)
 
 -- one of these is alike to the stop
 abbrev pub has : List NameStop → NameStop → Bool

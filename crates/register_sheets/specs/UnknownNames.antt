@@ -5,7 +5,6 @@ use Rattle.std.specs.Prelude.{option_to_list, take}
 use Rattle.std.specs.Fmt.{decimal}
 use Rattle.std.specs.List.{AllZip, flat_map, list_any}
 use Rattle.std.specs.Option.{option_eq}
-use Rattle.std.specs.Str.{str_eq_ignore_ascii_case}
 use Rattle.date_texts.specs.Calendars.{calendar_name}
 use Rattle.date_texts.specs.DateText.{IsDateText}
 use Rattle.date_texts.specs.declared.calendar.Calendar.{Calendar}
@@ -14,6 +13,7 @@ use Rattle.register_records.specs.Entries.{Fields, record_limit}
 use Rattle.written_dates.specs.Calendars.{place}
 use Rattle.written_dates.specs.Fields.{without_blanks}
 use Rattle.written_dates.specs.Unknown.{unknown_word}
+use Rattle.written_dates.specs.Words.{same_word}
 use Rattle.register_sheets.specs.Choices.{calendar_called, calendar_text, date_text}
 use Rattle.register_sheets.specs.Converted.{below}
 use Rattle.register_sheets.specs.Sheets.{records_text}
@@ -66,12 +66,12 @@ all_dates choice records = flat_map (dates_of choice) records
 abbrev pub stops_in : SheetChoice → List SheetDate → List NameStop
 stops_in choice dates = flat_map (λ date. option_to_list (stop_of choice date)) dates
 
--- two stops are alike: in the same calendar, with names that are the same with A to Z as small letters
+-- two stops are alike: in the same calendar, with names that are the same to a reader
 abbrev pub is_same : Option Calendar → Option Calendar → Bool
 is_same a b = option_eq (λ x y. place x == place y) a b
 
 abbrev pub is_alike : NameStop → NameStop → Bool
-is_alike a b = is_same a.1 b.1 && str_eq_ignore_ascii_case a.0 b.0
+is_alike a b = is_same a.1 b.1 && same_word a.0 b.0
 
 -- of the stops that are alike the first ones, in order
 abbrev pub firsts : List NameStop → List NameStop

@@ -11,7 +11,7 @@ use crate::choices::{CalendarField, DateColumn, SheetChoice};
 use crate::reading::field_at;
 use csv::ByteRecord;
 use date_texts::Calendar;
-use written_dates::{Names, unknown_word, without_blanks};
+use written_dates::{Names, is_same_word, unknown_word, without_blanks};
 
 /// A name that stopped a date: a name of a calendar that is not known, or the first word that is none in the date's
 /// calendar.
@@ -36,7 +36,7 @@ fn is_same_calendar(a: Option<Calendar>, b: Option<Calendar>) -> bool
 pub(crate) fn is_alike(a: Stop<'_>, b: Stop<'_>) -> bool
     ensures { result ≡ is_alike (stop_seen a.entry) (stop_seen b.entry) }
 {
-    is_same_calendar(a.calendar, b.calendar) && a.name.eq_ignore_ascii_case(b.name)
+    is_same_calendar(a.calendar, b.calendar) && is_same_word(a.name, b.name)
 }
 
 /// The word that stops a date in its calendar.

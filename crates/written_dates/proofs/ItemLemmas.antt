@@ -61,7 +61,7 @@ no_other_number text i h other =
     rw (none, and_false (nat_le (length text) 9)) refl
 
 pub a_number : (text : List ℕ) (v : ℕ) → length text ≤ 9 → list_all is_ascii_digit text ≡ true → v ≡ spelled text
-    → Some (record { value = v; digits = length text }) ≡ number_of_digits text
+    → Some (record { value = v; digits = length text; named = false }) ≡ number_of_digits text
 unfolding number_of_digits
 a_number text v few all is =
     let yes : nat_le (length text) 9 ≡ true = grind (arith, nat_tests) in rw (yes, all, is) refl
@@ -97,27 +97,3 @@ a_name names text behind part found e f some =
     rw (e, start, there, after, items_skipped names (found.0 - 1) behind) refl
 
 -- ---- lists of items
-pub before_before : (xs ys : List Item) (rest : Option (List Item))
-    → before xs (before ys rest) ≡ before (xs ++ ys) rest
-before_before xs ys None = refl
-before_before xs ys (Some zs) = ap Some (sym (append_assoc xs ys zs))
-
-pub before_none : (xs found : List Item) (whole rest : Option (List Item)) → whole ≡ before xs rest → rest ≡ None
-    → whole ≡ Some found → ⊥
-before_none xs found whole (Some zs) e h f = cc
-before_none xs found whole None e h f = cc
-
-pub before_full : (xs ys found : List Item) (whole rest : Option (List Item))
-    → whole ≡ before xs (before ys rest) → whole ≡ Some found → length xs + length ys ≤ length found
-before_full xs ys found whole None e f = absurd (cc)
-before_full xs ys found whole (Some zs) e f =
-    let is : Some (xs ++ (ys ++ zs)) ≡ Some found = sym e ∙ f in
-    let same : xs ++ (ys ++ zs) ≡ found = cc in
-    omega (arith, ap length same, length-append xs (ys ++ zs), length-append ys zs)
-
-pub before_all : (xs : List Item) (names : List Name) (whole : Option (List Item)) (rest : List Piece)
-    → whole ≡ before xs (items names 0 rest) → rest ≡ [] → whole ≡ Some xs
-unfolding items
-before_all xs names whole rest e h =
-    let none : items names 0 rest ≡ Some [] = rw h refl in
-    rw none at e ∙ ap Some (append-nil xs)

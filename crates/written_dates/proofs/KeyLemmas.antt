@@ -1,17 +1,13 @@
 -- Names whose key is another do not stand in front.
-use Rattle.std.proofs.Common.{◌≡◌, ◌≢◌, ℕ, zero, suc, ◌+◌, ◌*◌, ◌%◌, ◌<◌, Bool, true, false, ◌&&◌, ◌==◌, nat_lt}
-use Rattle.std.proofs.Common.{List, [], ◌∷◌, cond, length, refl, sym, ap, ◌∙◌, arith, get_or, drop, set, replicate, fold}
+use Rattle.std.proofs.Common.{◌≡◌, ◌≢◌, ℕ, zero, suc, ◌+◌, ◌<◌, Bool, true, false, ◌&&◌, ◌==◌, nat_lt}
+use Rattle.std.proofs.Common.{List, [], ◌∷◌, cond, length, refl, sym, ap, ◌∙◌, arith, get_or, drop, set, replicate}
 use Rattle.std.proofs.Common.{Some, slice_get}
 use Rattle.std.proofs.Math.Seq.{drop-nil, drop-length}
 use Rattle.std.proofs.Math.ListN.{length-set}
 use Rattle.std.proofs.lemmas.Option.{slice_get_within}
-use Rattle.std.specs.Char.{to_ascii_lowercase}
-use Rattle.std.specs.Str.{str_eq_ignore_ascii_case, str_to_ascii_lowercase}
 use Rattle.std.specs.List.{list_any}
 use Rattle.std.proofs.lemmas.Bool.Decides.{nat_tests}
 use Rattle.std.proofs.lemmas.List.{get_or-set_same, get_or-set_other, get_or-replicate, length-replicate}
-use Rattle.std.proofs.lemmas.List.Folds.{fold-map}
-use Rattle.std.proofs.lemmas.Slice.Eq.{bytes_eq-Decides}
 use Rattle.date_texts.specs.declared.calendar.Calendar.{Calendar}
 use Rattle.written_dates.specs.declared.meanings.Meaning.{Meaning}
 use Rattle.written_dates.specs.declared.meanings.Meaning.TheVariants.{Nothing}
@@ -19,21 +15,14 @@ use Rattle.written_dates.specs.declared.meanings.Name.{Name}
 use Rattle.written_dates.specs.Tokens.{Piece}
 use Rattle.written_dates.specs.Parts.{parts, stands}
 use Rattle.written_dates.specs.Items.{longest}
-use Rattle.written_dates.specs.Keys.{key_of, first_text, key, ahead, place_from, IsIndexed}
+use Rattle.written_dates.specs.Words.{same_word}
+use Rattle.written_dates.specs.Keys.{key_of, key_of_chars, first_text, key, ahead, place_from, IsIndexed}
 use Rattle.written_dates.specs.Names.{holds, names_in, conflict}
+use Rattle.written_dates.proofs.WordLemmas.{same_word-Decides}
 
 -- ---- keys
-step : ℕ → ℕ → ℕ
-step value byte = (31 * value + byte) % 1024
-
-by_lower : (word : List ℕ) → key_of word ≡ fold step 0 (str_to_ascii_lowercase word)
-unfolding step
-by_lower word = sym (fold-map step to_ascii_lowercase 0 word)
-
-pub same_key : (a b : List ℕ) → str_eq_ignore_ascii_case a b ≡ true → key_of a ≡ key_of b
-same_key a b h =
-    let same : str_to_ascii_lowercase a ≡ str_to_ascii_lowercase b = (bytes_eq-Decides _ _).0 h in
-    by_lower a ∙ ap (fold step 0) same ∙ sym (by_lower b)
+pub same_key : (a b : List ℕ) → same_word a b ≡ true → key_of a ≡ key_of b
+same_key a b h = ap key_of_chars ((same_word-Decides a b).0 h).1
 
 -- a name of another key does not stand, or has no parts
 other_by : (name text : List Piece) (n : ℕ) → (key_of (first_text name) == key_of (first_text text)) ≡ false
@@ -41,7 +30,7 @@ other_by : (name text : List Piece) (n : ℕ) → (key_of (first_text name) == k
 other_by [] text n h = grind (arith, nat_tests)
 other_by (p ∷ ps) [] n h = refl
 other_by (p ∷ ps) (t ∷ ts) n h =
-    let b = str_eq_ignore_ascii_case p.text t.text in
+    let b = same_word p.text t.text in
     let differ : (x : Bool) → b ≡ x → ((x && stands ps ts) && nat_lt n (length (p ∷ ps))) ≡ false
     = λ x. elim x as (λ x. b ≡ x → ((x && stands ps ts) && nat_lt n (length (p ∷ ps))) ≡ false) [
       | true ↦ λ e. absurd (let same : key_of p.text ≡ key_of t.text = same_key p.text t.text e in
@@ -67,7 +56,7 @@ unlike_by [] [] h = absurd (let yes : (key_of [] == key_of []) ≡ true = grind 
 unlike_by [] (q ∷ qs) h = refl
 unlike_by (p ∷ ps) [] h = refl
 unlike_by (p ∷ ps) (q ∷ qs) h =
-    let b = str_eq_ignore_ascii_case p.text q.text in
+    let b = same_word p.text q.text in
     let rest = stands (q ∷ qs) (p ∷ ps) in
     let differ : (x : Bool) → b ≡ x → ((x && stands ps qs) && rest) ≡ false
     = λ x. elim x as (λ x. b ≡ x → ((x && stands ps qs) && rest) ≡ false) [
@@ -189,7 +178,7 @@ next_same text calendar best better names place next name there is keyed at =
 
 -- ---- the index grows from the back
 pub indexed_more : (names : List Name) (firsts nexts : List ℕ) (from place k next : ℕ) (name : Name)
-    → slice_get names from ≡ Some name → k ≡ key name → k < 1024 → next ≡ get_or firsts k 0
+    → slice_get names from ≡ Some name → k ≡ key name → k < 16384 → next ≡ get_or firsts k 0
     → place ≡ from + 1 → IsIndexed names firsts nexts place → IsIndexed names (set firsts k from) (set nexts from next) from
 indexed_more names firsts nexts from place k next name there is few at before g = record {
   keys = length-set firsts k from ∙ h.keys;
@@ -203,7 +192,7 @@ indexed_more names firsts nexts from place k next name there is few at before g 
   here : drop from names ≡ name ∷ drop (from + 1) names
   here = at_place names from name there
 
-  first_by : (j : ℕ) → j < 1024 → (x : Bool) → (key name == j) ≡ x → get_or (set firsts k from) j 0 ≡ place_from j names from
+  first_by : (j : ℕ) → j < 16384 → (x : Bool) → (key name == j) ≡ x → get_or (set firsts k from) j 0 ≡ place_from j names from
   first_by j less true e =
       let same : j ≡ k = (let s : key name ≡ j = grind (arith, nat_tests) in omega (arith, s, is)) in
       let got : get_or (set firsts k from) j 0 ≡ from
@@ -227,14 +216,14 @@ indexed_more names firsts nexts from place k next name there is few at before g 
       let differ : place ≢ from = λ s. (let yes : (place == from) ≡ true = grind (arith, nat_tests) in cc) in
       get_or-set_other nexts from place next 0 differ ∙ h.next place other (omega (arith, differ)) e
 
-pub nothing_indexed : (names : List Name) (firsts nexts : List ℕ) → firsts ≡ replicate 1024 (length names)
+pub nothing_indexed : (names : List Name) (firsts nexts : List ℕ) → firsts ≡ replicate 16384 (length names)
     → nexts ≡ replicate (length names) 0 → IsIndexed names firsts nexts (length names)
 nothing_indexed names firsts nexts e f = record {
-  keys = ap length e ∙ length-replicate 1024 (length names);
+  keys = ap length e ∙ length-replicate 16384 (length names);
   as_many = ap length f ∙ length-replicate (length names) 0;
   first = λ k less.
       let none : drop (length names) names ≡ [] = drop-length names in
-      rw (e, none) (get_or-replicate 1024 k (length names) 0 less ∙ omega arith);
+      rw (e, none) (get_or-replicate 16384 k (length names) 0 less ∙ omega arith);
   next = λ place name least there. absurd (omega (arith, slice_get_within names place name there));
 }
 

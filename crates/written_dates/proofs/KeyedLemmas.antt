@@ -7,7 +7,7 @@ use Rattle.std.proofs.lemmas.Bool.Decides.{nat_tests}
 use Rattle.std.proofs.lemmas.List.{get_or-set_same, get_or-set_other, get_or-replicate, length-replicate}
 use Rattle.std.proofs.lemmas.List.Sums.{prefix_len-le-length}
 use Rattle.std.specs.List.{position_or_len}
-use Rattle.std.specs.Str.{str_eq_ignore_ascii_case}
+use Rattle.written_dates.specs.Words.{same_word}
 use Rattle.written_dates.specs.Fields.{entry, meant_by}
 use Rattle.written_dates.specs.Keys.{HasFirsts, key_of}
 use Rattle.written_dates.specs.declared.fields.CalendarName.{CalendarName}
@@ -22,7 +22,7 @@ ahead_within k names = prefix_len-le-length (λ name. not (key_of name.text.now 
 
 -- ---- the index grows from the back
 pub keyed_more : (names : List CalendarName) (firsts : List ℕ) (from before k : ℕ) (name : CalendarName)
-    → slice_get names from ≡ Some name → k ≡ key_of name.text.now → k < 1024 → before ≡ from + 1
+    → slice_get names from ≡ Some name → k ≡ key_of name.text.now → k < 16384 → before ≡ from + 1
     → HasFirsts names firsts before → HasFirsts names (set firsts k from) from
 keyed_more names firsts from before k name there is few next g = record {
   keys = length-set firsts k from ∙ h.keys;
@@ -34,7 +34,7 @@ keyed_more names firsts from before k name there is few next g = record {
   here : drop from names ≡ name ∷ drop (from + 1) names
   here = at_place names from name there
 
-  first_by : (j : ℕ) → j < 1024 → (x : Bool) → (key_of name.text.now == j) ≡ x
+  first_by : (j : ℕ) → j < 16384 → (x : Bool) → (key_of name.text.now == j) ≡ x
       → get_or (set firsts k from) j 0 ≡ from + ahead j (drop from names)
   first_by j less true e =
       let same : j ≡ k = (let s : key_of name.text.now ≡ j = grind (arith, nat_tests) in omega (arith, s, is)) in
@@ -48,25 +48,25 @@ keyed_more names firsts from before k name there is few next g = record {
       let one : ahead j (drop from names) ≡ 1 + ahead j (drop (from + 1) names) = rw (here, e) refl in
       get_or-set_other firsts k j from 0 other ∙ h.first j less ∙ omega (arith, one)
 
-pub nothing_keyed : (names : List CalendarName) (firsts : List ℕ) → firsts ≡ replicate 1024 (length names)
+pub nothing_keyed : (names : List CalendarName) (firsts : List ℕ) → firsts ≡ replicate 16384 (length names)
     → HasFirsts names firsts (length names)
 nothing_keyed names firsts e = record {
-  keys = ap length e ∙ length-replicate 1024 (length names);
+  keys = ap length e ∙ length-replicate 16384 (length names);
   first = λ k less.
       let none : drop (length names) names ≡ [] = drop-length names in
-      rw (e, none) (get_or-replicate 1024 k (length names) 0 less ∙ omega arith);
+      rw (e, none) (get_or-replicate 16384 k (length names) 0 less ∙ omega arith);
 }
 
 -- ---- names of other keys are passed over
-unlike : (a text : List ℕ) (k : ℕ) → k ≡ key_of text → (key_of a == k) ≡ false → str_eq_ignore_ascii_case a text ≡ false
+unlike : (a text : List ℕ) (k : ℕ) → k ≡ key_of text → (key_of a == k) ≡ false → same_word a text ≡ false
 unlike a text k is h =
-    let alike : (x : Bool) → str_eq_ignore_ascii_case a text ≡ x → x ≡ false
-    = λ x. elim x as (λ x. str_eq_ignore_ascii_case a text ≡ x → x ≡ false) [
+    let alike : (x : Bool) → same_word a text ≡ x → x ≡ false
+    = λ x. elim x as (λ x. same_word a text ≡ x → x ≡ false) [
       | true ↦ λ e. absurd (let same : key_of a ≡ key_of text = same_key a text e in
           let yes : (key_of a == k) ≡ true = grind (arith, nat_tests) in cc)
       | false ↦ λ e. refl
     ] in
-    alike (str_eq_ignore_ascii_case a text) refl
+    alike (same_word a text) refl
 
 pub passed_over : (names : List CalendarName) (text : List ℕ) (k : ℕ) → k ≡ key_of text
     → meant_by (map entry (drop (ahead k names) names)) text ≡ meant_by (map entry names) text

@@ -2,8 +2,11 @@ pub mod TokenLemmas
 pub mod KindLemmas
 pub mod FrontLemmas
 pub mod RomanLemmas
+pub mod WordLemmas
+pub mod LetterLemmas
 pub mod PartLemmas
 pub mod ItemLemmas
+pub mod SumLemmas
 pub mod UnknownLemmas
 pub mod KeyLemmas
 pub mod KeyedLemmas

@@ -1,9 +1,9 @@
 -- Parts can be read from the left.
 use Rattle.std.proofs.Common.{◌≡◌, ℕ, zero, suc, ◌+◌, true, false, List, [], ◌∷◌}
 use Rattle.std.proofs.Common.{refl, drop, arith}
-use Rattle.std.specs.Str.{str_eq_ignore_ascii_case}
 use Rattle.written_dates.specs.Tokens.{Piece, tokens}
 use Rattle.written_dates.specs.Parts.{is_part_kind, parts, stands}
+use Rattle.written_dates.specs.Words.{same_word}
 
 pub part_first : (text rest : List ℕ) (t : Piece) → tokens 0 text ≡ t ∷ tokens 0 rest → is_part_kind t.kind ≡ true
     → parts text ≡ t ∷ parts rest
@@ -20,7 +20,7 @@ unfolding parts
 no_part text e = rw e refl
 
 pub stands_step : (n t : Piece) (ns ts xs ys : List Piece) → xs ≡ n ∷ ns → ys ≡ t ∷ ts
-    → str_eq_ignore_ascii_case n.text t.text ≡ true → stands ns ts ≡ stands xs ys
+    → same_word n.text t.text ≡ true → stands ns ts ≡ stands xs ys
 stands_step n t ns ts xs ys e f h = rw (e, f, h) refl
 
 pub stands_short : (n : Piece) (ns xs ys : List Piece) → xs ≡ n ∷ ns → ys ≡ [] → stands xs ys ≡ false

@@ -1,5 +1,6 @@
 -- What is read is what was written.
 use Rattle.std.proofs.Common.{◌≡◌, inl, inr, ℕ, zero, suc, ◌+◌, ◌-◌, ◌*◌, ◌<◌, ◌≤◌, Bool, true, false, not, ◌&&◌, ◌||◌}
+use Rattle.std.specs.Prelude.{⊤}
 use Rattle.std.proofs.Common.{cond, refl, sym, ap, arith, List, [], ◌∷◌, ◌++◌, Option, Some, None, ◌∙◌, subst, ◌==◌, nat_le}
 use Rattle.std.specs.List.{filter, list_all, All, Contains}
 use Rattle.std.proofs.lemmas.Bool.{true≢false}
@@ -15,7 +16,7 @@ use Rattle.written_dates.specs.declared.calendars.Form.{Form}
 use Rattle.written_dates.specs.declared.calendars.Form.TheVariants as forms
 use Rattle.written_dates.specs.declared.items.Number.{Number as Numeral}
 use Rattle.written_dates.specs.declared.items.Item.{Item}
-use Rattle.written_dates.specs.declared.items.Item.TheVariants.{Number, Month, Mark, Weekday}
+use Rattle.written_dates.specs.declared.items.Item.TheVariants.{Number, Month, Mark, Weekday, DecadeDay}
 use Rattle.written_dates.specs.declared.meanings.Name.{Name}
 use Rattle.written_dates.specs.declared.rules.InYear.{InYear}
 use Rattle.written_dates.specs.declared.rules.InYear.TheVariants as days
@@ -23,27 +24,27 @@ use Rattle.written_dates.specs.declared.rules.Order.{Order}
 use Rattle.written_dates.specs.declared.rules.Reading.{Reading}
 use Rattle.written_dates.specs.declared.rules.Reading.TheVariants.{Civil, Roman}
 use Rattle.written_dates.specs.declared.written.Answer.{Answer}
-use Rattle.written_dates.specs.declared.written.Answer.TheVariants.{Stays, OtherWeekday, Refused, Date, RomanDate}
+use Rattle.written_dates.specs.declared.written.Answer.TheVariants.{Stays, NoSuchYear, OtherWeekday, Refused, Date, RomanDate}
 use Rattle.written_dates.specs.declared.written.Choice.{Choice}
 use Rattle.written_dates.specs.declared.written.Short.{Short}
 use Rattle.written_dates.specs.declared.written.Short.TheVariants.{Refuse, Keep, Add}
 use Rattle.written_dates.specs.Calendars.{form}
-use Rattle.written_dates.specs.Tokens.{tokens}
-use Rattle.written_dates.specs.Parts.{parts}
-use Rattle.written_dates.specs.Items.{items, is_long}
-use Rattle.written_dates.specs.Names.{names_in}
-use Rattle.written_dates.specs.Signs.{bare, begins_with_dash, has_minus, has_other, has_two_dashes, three_runs, runs_behind_minus}
-use Rattle.written_dates.specs.Rules.{roman_reading, or_reading, civil, month_between, is_year_first, is_month_between}
+use Rattle.written_dates.specs.Tokens.{Piece, tokens}
+use Rattle.written_dates.specs.Items.{is_long}
+use Rattle.written_dates.specs.Sums.{found_items}
+use Rattle.written_dates.specs.Signs.{bare, begins_with_dash, has_bar_between, has_minus, has_mixed_signs, has_other, three_runs}
+use Rattle.written_dates.specs.Signs.{runs_behind_minus}
+use Rattle.written_dates.specs.Rules.{beside_weekday, roman_reading, or_reading, civil, month_between, is_year_first, is_month_between}
 use Rattle.written_dates.specs.Weekdays.{is_on, is_on_by, IsOn, IsOnBy, first_on, if_no_other, numbered_weekday}
 use Rattle.written_dates.specs.Written.{agrees, answer, answer_by, date_by_rule, date_in, date_of, date_or_stays, has_year}
 use Rattle.written_dates.specs.Written.{if_agreed, in_month, items_answer, month_and_day, reading_by, short_rule, written_form}
-use Rattle.written_dates.specs.ReadLaws.{if_on, WeekdaysOnlyTest}
+use Rattle.written_dates.specs.ReadLaws.{if_on, WeekdaysOnlyTest, DecadeDaysAgree, MixedSignsStay, DaysToDaysStay}
 use Rattle.written_dates.specs.ReadLaws.{IsRead, WeekdaysAgree, UsesAll, AreYearMonthDay, IsMonthItem, IsDayItem}
 use Rattle.written_dates.specs.ReadLaws.{NothingIsLeftOver, LongNumbersAreYears, MonthsAreMonths}
 use Rattle.written_dates.specs.ReadLaws.{NumberedWeekdays, MinusesAreNotRead, MinusesStay, YearsOfTheRepublic, is_no_weekday}
 use Rattle.written_dates.specs.ReadLaws.{is_numeral, IsRepublican, DaysStandBehindMonths, RomanNumbersAreMonths}
 use Rattle.written_dates.specs.declared.stops.Stop.TheVariants as stops
-use Rattle.written_dates.specs.Stops.{stop, stop_by, SaysOtherWeekday, OtherWeekdaysStop}
+use Rattle.written_dates.specs.Stops.{stop, stop_by, missing, missing_in, IsNotOn, SaysOtherWeekday, OtherWeekdaysStop}
 use Rattle.written_dates.proofs.DayLemmas.{on_parts}
 use Rattle.written_dates.proofs.LawLemmas.{long_kept}
 use Rattle.written_dates.proofs.UseLemmas.{Uses, civil_uses}
@@ -66,23 +67,23 @@ some_by (Some xs) say y m d h = (xs, h)
 
 says : (choice : Choice) (calendar : Calendar) (names : List Name) (text : List ℕ) (found : List Item) (y m d : ℕ)
     → IsRead choice calendar names text found y m d
-    → items_answer choice calendar (has_two_dashes (tokens 0 text)) found ≡ Date y m d
+    → items_answer choice calendar (tokens 0 text) found ≡ Date y m d
 unfolding answer
 says choice calendar names text found y m d r =
-    found_by (items (names_in calendar names) 0 (parts text))
-    (items_answer choice calendar (has_two_dashes (tokens 0 text))) found y m d r.has (date_by _ _ y m d r.says)
+    found_by (found_items calendar names text)
+    (items_answer choice calendar (tokens 0 text)) found y m d r.has (date_by _ _ y m d r.says)
 
 said : (choice : Choice) (calendar : Calendar) (names : List Name) (text : List ℕ) (y m d : ℕ)
     → answer choice calendar names text ≡ Date y m d
-    → (found : List Item) × (items_answer choice calendar (has_two_dashes (tokens 0 text)) found ≡ Date y m d)
+    → (found : List Item) × (items_answer choice calendar (tokens 0 text) found ≡ Date y m d)
 unfolding answer
 said choice calendar names text y m d e =
-    some_by (items (names_in calendar names) 0 (parts text))
-    (items_answer choice calendar (has_two_dashes (tokens 0 text))) y m d (date_by _ _ y m d e)
+    some_by (found_items calendar names text)
+    (items_answer choice calendar (tokens 0 text)) y m d (date_by _ _ y m d e)
 
 -- ---- the weekdays among the items are those of the date
 agreed_if : (b : Bool) (calendar : Calendar) (found : List Item) (y m d y' m' d' : ℕ)
-    → list_all (agrees calendar y' m' d') found ≡ b → cond b (Date y' m' d') OtherWeekday ≡ Date y m d
+    → list_all (agrees calendar y' m' d') found ≡ b → cond b (Date y' m' d') (OtherWeekday y' m' d') ≡ Date y m d
     → (Date y' m' d' ≡ Date y m d) × (list_all (agrees calendar y m d) found ≡ true)
 agreed_if false calendar found y m d y' m' d' all e = absurd (cc)
 agreed_if true calendar found y m d y' m' d' all e =
@@ -94,7 +95,8 @@ agreed_by : (calendar : Calendar) (found : List Item) (a : Answer) (y m d : ℕ)
 agreed_by calendar found (Date y' m' d') y m d e =
     agreed_if (list_all (agrees calendar y' m' d') found) calendar found y m d y' m' d' refl e
 agreed_by calendar found Stays y m d e = absurd (cc)
-agreed_by calendar found OtherWeekday y m d e = absurd (cc)
+agreed_by calendar found NoSuchYear y m d e = absurd (cc)
+agreed_by calendar found (OtherWeekday _ _ _) y m d e = absurd (cc)
 agreed_by calendar found Refused y m d e = absurd (cc)
 agreed_by calendar found (RomanDate _ _ _ _) y m d e = absurd (cc)
 
@@ -113,13 +115,19 @@ weekdays_agree choice calendar names text found y m d w r has =
     (All-contains (λ (i : Item). agrees calendar y m d i ≡ true) found (Weekday w)
     (AllPass-from_list_all (agrees calendar y m d) found all) has)
 
+pub decade_days_agree : DecadeDaysAgree
+decade_days_agree choice calendar names text found y m d n r has =
+    let all = (agreed_by calendar found _ y m d (says choice calendar names text found y m d r)).1 in
+    All-contains (λ (i : Item). agrees calendar y m d i ≡ true) found (DecadeDay n)
+    (AllPass-from_list_all (agrees calendar y m d) found all) has
+
 -- ---- a weekday beside a date is a test, and no more
 -- what is said, alone and with a weekday in front or behind
-abbrev SaysAlike : Choice → Calendar → Bool → List Item → Reading → NamedWeekday → Type 0
-SaysAlike choice calendar dashes xs reading w =
-    (items_answer choice calendar dashes xs ≡ date_of choice calendar (Some reading))
-    × (items_answer choice calendar dashes (Weekday w ∷ xs) ≡ if_on calendar w (date_of choice calendar (Some reading)))
-    × (items_answer choice calendar dashes (xs ++ Weekday w ∷ [])
+abbrev SaysAlike : Choice → Calendar → List Piece → List Item → Reading → NamedWeekday → Type 0
+SaysAlike choice calendar pieces xs reading w =
+    (items_answer choice calendar pieces xs ≡ date_of choice calendar (Some reading))
+    × (items_answer choice calendar pieces (Weekday w ∷ xs) ≡ if_on calendar w (date_of choice calendar (Some reading)))
+    × (items_answer choice calendar pieces (xs ++ Weekday w ∷ [])
     ≡ if_on calendar w (date_of choice calendar (Some reading)))
 
 -- three items that agree with every date
@@ -130,7 +138,8 @@ kept_agreed : (calendar : Calendar) (x : Answer) (a b c : Item) → AgreeAlways 
     → if_agreed calendar (a ∷ b ∷ c ∷ []) x ≡ x
 kept_agreed calendar (Date y m d) a b c p q r = rw (p calendar y m d, q calendar y m d, r calendar y m d) refl
 kept_agreed calendar Stays a b c p q r = refl
-kept_agreed calendar OtherWeekday a b c p q r = refl
+kept_agreed calendar NoSuchYear a b c p q r = refl
+kept_agreed calendar (OtherWeekday _ _ _) a b c p q r = refl
 kept_agreed calendar Refused a b c p q r = refl
 kept_agreed calendar (RomanDate _ _ _ _) a b c p q r = refl
 
@@ -142,9 +151,10 @@ front_tested : (calendar : Calendar) (x : Answer) (w : NamedWeekday) (a b c : It
     → AgreeAlways c → if_agreed calendar (Weekday w ∷ a ∷ b ∷ c ∷ []) x ≡ if_on calendar w x
 front_tested calendar (Date y m d) w a b c p q r =
     rw (p calendar y m d, q calendar y m d, r calendar y m d)
-    (one_tested (is_on calendar y m d w) (Date y m d) OtherWeekday)
+    (one_tested (is_on calendar y m d w) (Date y m d) (OtherWeekday y m d))
 front_tested calendar Stays w a b c p q r = refl
-front_tested calendar OtherWeekday w a b c p q r = refl
+front_tested calendar NoSuchYear w a b c p q r = refl
+front_tested calendar (OtherWeekday _ _ _) w a b c p q r = refl
 front_tested calendar Refused w a b c p q r = refl
 front_tested calendar (RomanDate _ _ _ _) w a b c p q r = refl
 
@@ -152,19 +162,20 @@ end_tested : (calendar : Calendar) (x : Answer) (w : NamedWeekday) (a b c : Item
     → AgreeAlways c → if_agreed calendar (a ∷ b ∷ c ∷ Weekday w ∷ []) x ≡ if_on calendar w x
 end_tested calendar (Date y m d) w a b c p q r =
     rw (p calendar y m d, q calendar y m d, r calendar y m d)
-    (one_tested (is_on calendar y m d w) (Date y m d) OtherWeekday)
+    (one_tested (is_on calendar y m d w) (Date y m d) (OtherWeekday y m d))
 end_tested calendar Stays w a b c p q r = refl
-end_tested calendar OtherWeekday w a b c p q r = refl
+end_tested calendar NoSuchYear w a b c p q r = refl
+end_tested calendar (OtherWeekday _ _ _) w a b c p q r = refl
 end_tested calendar Refused w a b c p q r = refl
 end_tested calendar (RomanDate _ _ _ _) w a b c p q r = refl
 
-alike : (choice : Choice) (calendar : Calendar) (dashes : Bool) (a b c : Item) (reading : Reading) (w : NamedWeekday)
+alike : (choice : Choice) (calendar : Calendar) (pieces : List Piece) (a b c : Item) (reading : Reading) (w : NamedWeekday)
     → AgreeAlways a → AgreeAlways b → AgreeAlways c
-    → reading_by (form calendar) choice dashes (a ∷ b ∷ c ∷ []) ≡ Some reading
-    → reading_by (form calendar) choice dashes (Weekday w ∷ a ∷ b ∷ c ∷ []) ≡ Some reading
-    → reading_by (form calendar) choice dashes (a ∷ b ∷ c ∷ Weekday w ∷ []) ≡ Some reading
-    → SaysAlike choice calendar dashes (a ∷ b ∷ c ∷ []) reading w
-alike choice calendar dashes a b c reading w p q r x y z = (
+    → reading_by (form calendar) choice pieces (a ∷ b ∷ c ∷ []) ≡ Some reading
+    → reading_by (form calendar) choice pieces (Weekday w ∷ a ∷ b ∷ c ∷ []) ≡ Some reading
+    → reading_by (form calendar) choice pieces (a ∷ b ∷ c ∷ Weekday w ∷ []) ≡ Some reading
+    → SaysAlike choice calendar pieces (a ∷ b ∷ c ∷ []) reading w
+alike choice calendar pieces a b c reading w p q r x y z = (
   rw x (kept_agreed calendar (date_of choice calendar (Some reading)) a b c p q r),
   rw y (front_tested calendar (date_of choice calendar (Some reading)) w a b c p q r),
   rw z (end_tested calendar (date_of choice calendar (Some reading)) w a b c p q r),
@@ -174,19 +185,19 @@ or_first : (o other : Option Reading) (reading : Reading) → o ≡ Some reading
 or_first o other reading e = rw e refl
 
 pub weekdays_only_test : WeekdaysOnlyTest
-weekdays_only_test choice calendar dashes (Number a ∷ Month m ∷ Number c ∷ []) reading w is_civil e =
-    alike choice calendar dashes (Number a) (Month m) (Number c) reading w (λ k y n d. refl) (λ k y n d. refl)
+weekdays_only_test choice calendar pieces (Number a ∷ Month m ∷ Number c ∷ []) reading w is_civil e =
+    alike choice calendar pieces (Number a) (Month m) (Number c) reading w (λ k y n d. refl) (λ k y n d. refl)
     (λ k y n d. refl) (rw is_civil (or_first _ _ reading e)) (rw is_civil (or_first _ _ reading e))
     (rw is_civil (or_first _ _ reading e))
-weekdays_only_test choice calendar dashes (Month m ∷ Number a ∷ Number c ∷ []) reading w is_civil e =
-    alike choice calendar dashes (Month m) (Number a) (Number c) reading w (λ k y n d. refl) (λ k y n d. refl)
+weekdays_only_test choice calendar pieces (Month m ∷ Number a ∷ Number c ∷ []) reading w is_civil e =
+    alike choice calendar pieces (Month m) (Number a) (Number c) reading w (λ k y n d. refl) (λ k y n d. refl)
     (λ k y n d. refl) (rw is_civil (or_first _ _ reading e)) (rw is_civil (or_first _ _ reading e))
     (rw is_civil (or_first _ _ reading e))
-weekdays_only_test choice calendar dashes (Number a ∷ Number b ∷ Number c ∷ []) reading w is_civil e =
-    alike choice calendar dashes (Number a) (Number b) (Number c) reading w (λ k y n d. refl) (λ k y n d. refl)
+weekdays_only_test choice calendar pieces (Number a ∷ Number b ∷ Number c ∷ []) reading w is_civil e =
+    alike choice calendar pieces (Number a) (Number b) (Number c) reading w (λ k y n d. refl) (λ k y n d. refl)
     (λ k y n d. refl) (rw is_civil (or_first _ _ reading e)) (rw is_civil (or_first _ _ reading e))
     (rw is_civil (or_first _ _ reading e))
-weekdays_only_test choice calendar dashes _ reading w is_civil e = absurd (cc)
+weekdays_only_test choice calendar pieces _ reading w is_civil e = absurd (cc)
 
 -- ---- nothing is left over
 -- a date is made of a year and a day in it
@@ -201,11 +212,11 @@ made_by choice calendar None y m d e = absurd (cc)
 made_by choice calendar (Some (Civil number day)) y m d e = (number, day, refl, e)
 made_by choice calendar (Some (Roman _ _ _ _)) y m d e = absurd (cc)
 
-made : (choice : Choice) (calendar : Calendar) (dashes : Bool) (found : List Item) (y m d : ℕ)
-    → items_answer choice calendar dashes found ≡ Date y m d
-    → IsMade choice calendar (reading_by (form calendar) choice dashes found) y m d
-made choice calendar dashes found y m d e =
-    made_by choice calendar (reading_by (form calendar) choice dashes found) y m d (agreed_by calendar found _ y m d e).0
+made : (choice : Choice) (calendar : Calendar) (pieces : List Piece) (found : List Item) (y m d : ℕ)
+    → items_answer choice calendar pieces found ≡ Date y m d
+    → IsMade choice calendar (reading_by (form calendar) choice pieces found) y m d
+made choice calendar pieces found y m d e =
+    made_by choice calendar (reading_by (form calendar) choice pieces found) y m d (agreed_by calendar found _ y m d e).0
 
 uses_of : (found : List Item) (number : Numeral) (day : InYear) → Uses found (Civil number day)
     → UsesAll found number day
@@ -220,18 +231,18 @@ no_civil charters (Number n ∷ Mark k ∷ Month m ∷ Number y ∷ []) number d
 no_civil charters (Mark k ∷ Month m ∷ Number y ∷ []) number day e = cc
 no_civil charters _ number day e = cc
 
-uses_by : (f : Form) (choice : Choice) (dashes : Bool) (found : List Item) (number : Numeral) (day : InYear)
-    → reading_by f choice dashes found ≡ Some (Civil number day) → UsesAll found number day
-uses_by forms.Civil choice dashes found number day e =
-    uses_of found number day (civil_uses dashes choice.order found (Civil number day) e)
-uses_by forms.Roman choice dashes found number day e = absurd (no_civil choice.charters found number day e)
-uses_by forms.Other choice dashes found number day e = absurd (cc)
+uses_by : (f : Form) (choice : Choice) (pieces : List Piece) (found : List Item) (number : Numeral) (day : InYear)
+    → reading_by f choice pieces found ≡ Some (Civil number day) → UsesAll found number day
+uses_by forms.Civil choice pieces found number day e =
+    uses_of found number day (civil_uses pieces choice.order found (Civil number day) e)
+uses_by forms.Roman choice pieces found number day e = absurd (no_civil choice.charters found number day e)
+uses_by forms.Other choice pieces found number day e = absurd (cc)
 
 pub nothing_is_left_over : NothingIsLeftOver
 nothing_is_left_over choice calendar names text found y m d r =
     let (number, day, is, date) =
-    made choice calendar (has_two_dashes (tokens 0 text)) found y m d (says choice calendar names text found y m d r) in
-    (number, day, uses_by (form calendar) choice (has_two_dashes (tokens 0 text)) found number day is, date)
+    made choice calendar (tokens 0 text) found y m d (says choice calendar names text found y m d r) in
+    (number, day, uses_by (form calendar) choice (tokens 0 text) found number day is, date)
 
 -- ---- what holds of the items that are kept holds of all, where it holds of those that are not
 back_if : (b : Bool) (P : Item → Type 0) (x : Item) (kept xs : List Item) → (b ≡ false → P x)
@@ -300,7 +311,7 @@ stays_by : (o : Option (ℕ × ℕ)) (v y m d : ℕ) → date_or_stays v o ≡ D
 stays_by None v y m d e = absurd (cc)
 stays_by (Some x) v y m d e = cc
 
-year_by : (b : Bool) (o : Option (ℕ × ℕ)) (v y m d : ℕ) → cond b (date_or_stays v o) Stays ≡ Date y m d
+year_by : (b : Bool) (o : Option (ℕ × ℕ)) (v y m d : ℕ) → cond b (date_or_stays v o) NoSuchYear ≡ Date y m d
     → (b ≡ true) × (y ≡ v) × (date_or_stays v o ≡ Date y m d)
 year_by true o v y m d e = (refl, stays_by o v y m d e, e)
 year_by false o v y m d e = absurd (cc)
@@ -421,26 +432,45 @@ said_day choice calendar (Some (Civil number day)) y m d h year k e is =
     (subst (λ (x : InYear). date_by_rule (short_rule choice calendar number) calendar number.value x ≡ Date y m d) b h)
 said_day choice calendar (Some (Roman _ _ _ _)) y m d h year k e is = absurd (cc)
 
-behind_if : (long : Bool) (choice : Choice) (calendar : Calendar) (m y month day : ℕ) (a c : Numeral) → is_long a ≡ long
-    → date_of choice calendar (or_reading (cond long None (civil c m a.value)) None) ≡ Date y month day
-    → (day ≡ a.value) × (is_long a ≡ false)
-behind_if true choice calendar m y month day a c long h = absurd (cc)
-behind_if false choice calendar m y month day a c long h =
-    (sym (said_day choice calendar (civil c m a.value) y month day h c m a.value refl).1, long)
+-- a month in front is read only where the day is short, and no dash or slash stands before a short year
+abbrev IsBehind : List Piece → ℕ → Numeral → Numeral → Type 0
+IsBehind pieces day a c =
+    (day ≡ a.value) × (is_long a ≡ false) × (is_long c ≡ false → has_bar_between pieces ≡ false)
 
-behind_form : (f : Form) (choice : Choice) (calendar : Calendar) (dashes : Bool) (m y month day : ℕ) (a c : Numeral)
-    → date_of choice calendar (reading_by f choice dashes (Month m ∷ Number a ∷ Number c ∷ [])) ≡ Date y month day
-    → (day ≡ a.value) × (is_long a ≡ false)
-behind_form forms.Civil choice calendar dashes m y month day a c h =
-    behind_if (is_long a) choice calendar m y month day a c refl h
-behind_form forms.Roman choice calendar dashes m y month day a c h = absurd (cc)
-behind_form forms.Other choice calendar dashes m y month day a c h = absurd (cc)
+behind_if : (la lc bar : Bool) (choice : Choice) (calendar : Calendar) (pieces : List Piece) (m y month day : ℕ)
+    (a c : Numeral) → is_long a ≡ la → is_long c ≡ lc → has_bar_between pieces ≡ bar
+    → date_of choice calendar (or_reading (cond (la || (not lc && bar)) None (civil c m a.value)) None)
+    ≡ Date y month day → IsBehind pieces day a c
+behind_if true lc bar choice calendar pieces m y month day a c ea ec eb h = absurd (cc)
+behind_if false false true choice calendar pieces m y month day a c ea ec eb h = absurd (cc)
+behind_if false false false choice calendar pieces m y month day a c ea ec eb h =
+    (sym (said_day choice calendar (civil c m a.value) y month day h c m a.value refl).1, ea, λ e. eb)
+behind_if false true bar choice calendar pieces m y month day a c ea ec eb h =
+    (sym (said_day choice calendar (civil c m a.value) y month day h c m a.value refl).1, ea, λ e. absurd (cc))
+
+behind_form : (f : Form) (choice : Choice) (calendar : Calendar) (pieces : List Piece) (m y month day : ℕ) (a c : Numeral)
+    → date_of choice calendar (reading_by f choice pieces (Month m ∷ Number a ∷ Number c ∷ [])) ≡ Date y month day
+    → IsBehind pieces day a c
+behind_form forms.Civil choice calendar pieces m y month day a c h =
+    behind_if (is_long a) (is_long c) (has_bar_between pieces) choice calendar pieces m y month day a c refl refl refl h
+behind_form forms.Roman choice calendar pieces m y month day a c h = absurd (cc)
+behind_form forms.Other choice calendar pieces m y month day a c h = absurd (cc)
+
+behind : (choice : Choice) (calendar : Calendar) (names : List Name) (text : List ℕ) (y month day m : ℕ) (a c : Numeral)
+    → IsRead choice calendar names text (Month m ∷ Number a ∷ Number c ∷ []) y month day
+    → IsBehind (tokens 0 text) day a c
+behind choice calendar names text y month day m a c r =
+    behind_form (form calendar) choice calendar (tokens 0 text) m y month day a c
+    (agreed_by calendar (Month m ∷ Number a ∷ Number c ∷ []) _ y month day
+    (says choice calendar names text (Month m ∷ Number a ∷ Number c ∷ []) y month day r)).0
 
 pub days_stand_behind_months : DaysStandBehindMonths
 days_stand_behind_months choice calendar names text y month day m a c r =
-    behind_form (form calendar) choice calendar (has_two_dashes (tokens 0 text)) m y month day a c
-    (agreed_by calendar (Month m ∷ Number a ∷ Number c ∷ []) _ y month day
-    (says choice calendar names text (Month m ∷ Number a ∷ Number c ∷ []) y month day r)).0
+    let is = behind choice calendar names text y month day m a c r in (is.0, is.1)
+
+pub days_to_days_stay : DaysToDaysStay
+days_to_days_stay choice calendar names text y month day m a c r =
+    (behind choice calendar names text y month day m a c r).2
 
 -- a month that is said between two numbers
 between_month : (la lc yf : Bool) (choice : Choice) (calendar : Calendar) (k y month day : ℕ) (a c : Numeral)
@@ -467,24 +497,48 @@ middle_if false true choice calendar order other y month day a b c is h =
     between_month (is_long a) (is_long c) (is_year_first order) choice calendar b.value y month day a c h
 middle_if false false choice calendar order other y month day a b c is h = absurd (cc)
 
-middle_form : (f : Form) (choice : Choice) (calendar : Calendar) (dashes : Bool) (y month day : ℕ) (a b c : Numeral)
+middle_form : (f : Form) (choice : Choice) (calendar : Calendar) (pieces : List Piece) (y month day : ℕ) (a b c : Numeral)
     → is_month_between a b c ≡ true
-    → date_of choice calendar (reading_by f choice dashes (Number a ∷ Number b ∷ Number c ∷ [])) ≡ Date y month day
+    → date_of choice calendar (reading_by f choice pieces (Number a ∷ Number b ∷ Number c ∷ [])) ≡ Date y month day
     → month ≡ b.value
-middle_form forms.Civil choice calendar dashes y month day a b c mid h =
-    middle_if (is_long b || (is_long a && is_long c)) (is_month_between a b c) choice calendar choice.order _ y month day
-    a b c mid h
-middle_form forms.Roman choice calendar dashes y month day a b c mid h = absurd (cc)
-middle_form forms.Other choice calendar dashes y month day a b c mid h = absurd (cc)
+middle_form forms.Civil choice calendar pieces y month day a b c mid h =
+    middle_if (is_long b || (is_long a && is_long c) || has_mixed_signs pieces) (is_month_between a b c) choice calendar
+    choice.order _ y month day a b c mid h
+middle_form forms.Roman choice calendar pieces y month day a b c mid h = absurd (cc)
+middle_form forms.Other choice calendar pieces y month day a b c mid h = absurd (cc)
 
 is_middle : (a b c : Numeral) → 0 < a.digits → b.digits ≡ 0 → 0 < c.digits → is_month_between a b c ≡ true
 is_middle a b c p q r = grind (arith, nat_tests)
 
 pub roman_numbers_are_months : RomanNumbersAreMonths
 roman_numbers_are_months choice calendar names text y month day a b c read p q r =
-    middle_form (form calendar) choice calendar (has_two_dashes (tokens 0 text)) y month day a b c (is_middle a b c p q r)
+    middle_form (form calendar) choice calendar (tokens 0 text) y month day a b c (is_middle a b c p q r)
     (agreed_by calendar (Number a ∷ Number b ∷ Number c ∷ []) _ y month day
     (says choice calendar names text (Number a ∷ Number b ∷ Number c ∷ []) y month day read)).0
+
+-- ---- three numbers have like signs
+mixed_if : (b la lc mixed : Bool) (choice : Choice) (calendar : Calendar) (other : Option Reading) (y month day : ℕ)
+    → date_of choice calendar (or_reading (cond (b || (la && lc) || mixed) None other) None) ≡ Date y month day
+    → mixed ≡ false
+mixed_if b la lc false choice calendar other y month day h = refl
+mixed_if true la lc true choice calendar other y month day h = absurd (cc)
+mixed_if false true true true choice calendar other y month day h = absurd (cc)
+mixed_if false true false true choice calendar other y month day h = absurd (cc)
+mixed_if false false lc true choice calendar other y month day h = absurd (cc)
+
+mixed_form : (f : Form) (choice : Choice) (calendar : Calendar) (pieces : List Piece) (y month day : ℕ) (a b c : Numeral)
+    → date_of choice calendar (reading_by f choice pieces (Number a ∷ Number b ∷ Number c ∷ [])) ≡ Date y month day
+    → has_mixed_signs pieces ≡ false
+mixed_form forms.Civil choice calendar pieces y month day a b c h =
+    mixed_if (is_long b) (is_long a) (is_long c) (has_mixed_signs pieces) choice calendar _ y month day h
+mixed_form forms.Roman choice calendar pieces y month day a b c h = absurd (cc)
+mixed_form forms.Other choice calendar pieces y month day a b c h = absurd (cc)
+
+pub mixed_signs_stay : MixedSignsStay
+mixed_signs_stay choice calendar names text y month day a b c r =
+    mixed_form (form calendar) choice calendar (tokens 0 text) y month day a b c
+    (agreed_by calendar (Number a ∷ Number b ∷ Number c ∷ []) _ y month day
+    (says choice calendar names text (Number a ∷ Number b ∷ Number c ∷ []) y month day r)).0
 
 -- ---- weekdays that are numbered
 first_if : (b : Bool) (later : Option ℕ) (left from day : ℕ)
@@ -571,18 +625,18 @@ civil_nth : (long : Bool) (choice : Choice) (calendar : Calendar) (reading : Rea
 civil_nth true choice calendar reading a e = e
 civil_nth false choice calendar reading a e = e
 
-form_nth : (f : Form) (choice : Choice) (calendar : Calendar) (dashes : Bool) (n y : Numeral) (w : NamedWeekday)
+form_nth : (f : Form) (choice : Choice) (calendar : Calendar) (pieces : List Piece) (n y : Numeral) (w : NamedWeekday)
     (m year month day : ℕ)
-    → date_of choice calendar (reading_by f choice dashes (numbered_items n w m y)) ≡ Date year month day
+    → date_of choice calendar (reading_by f choice pieces (numbered_items n w m y)) ≡ Date year month day
     → IsNth calendar year month w n.value day
-form_nth forms.Civil choice calendar dashes n y w m year month day e =
+form_nth forms.Civil choice calendar pieces n y w m year month day e =
     long_nth (is_long n) choice calendar n y w m year month day (civil_nth (is_long n) choice calendar _ _ e)
-form_nth forms.Roman choice calendar dashes n y w m year month day e = absurd (cc)
-form_nth forms.Other choice calendar dashes n y w m year month day e = absurd (cc)
+form_nth forms.Roman choice calendar pieces n y w m year month day e = absurd (cc)
+form_nth forms.Other choice calendar pieces n y w m year month day e = absurd (cc)
 
 pub numbered_weekdays : NumberedWeekdays
 numbered_weekdays choice calendar names text year month day m n y w r =
-    form_nth (form calendar) choice calendar (has_two_dashes (tokens 0 text)) n y w m year month day
+    form_nth (form calendar) choice calendar (tokens 0 text) n y w m year month day
     (agreed_by calendar (numbered_items n w m y) _ year month day
     (says choice calendar names text (numbered_items n w m y) year month day r)).0
 
@@ -630,17 +684,22 @@ republic_by choice _ number day y m d (inr is) e = absurd (cc)
 pub years_of_the_republic : YearsOfTheRepublic
 years_of_the_republic choice calendar names text y m d is e =
     let (found, has) = said choice calendar names text y m d e in
-    let (number, day, reading, date) = made choice calendar (has_two_dashes (tokens 0 text)) found y m d has in
+    let (number, day, reading, date) = made choice calendar (tokens 0 text) found y m d has in
     republic_by choice calendar number day y m d is date
 
 -- ---- another weekday
-other_by : (b : Bool) (x : Answer) → cond b Stays x ≡ OtherWeekday → x ≡ OtherWeekday
-other_by true x e = absurd (cc)
+-- an answer that names another weekday
+abbrev IsOther : Answer → Type 0
+IsOther (OtherWeekday _ _ _) = ⊤
+IsOther x = ⊥
+
+other_by : (b : Bool) (x : Answer) → IsOther (cond b Stays x) → IsOther x
+other_by true x e = absurd e
 other_by false x e = e
 
-found_other : (o : Option (List Item)) (say : List Item → Answer) → answer_by o say ≡ OtherWeekday
-    → (found : List Item) × (o ≡ Some found) × (say found ≡ OtherWeekday)
-found_other None say e = absurd (cc)
+found_other : (o : Option (List Item)) (say : List Item → Answer) → IsOther (answer_by o say)
+    → (found : List Item) × (o ≡ Some found) × IsOther (say found)
+found_other None say e = absurd e
 found_other (Some xs) say e = (xs, refl, e)
 
 -- a date of which not every weekday agrees
@@ -649,103 +708,122 @@ Disagrees calendar found a =
     (y m d : ℕ) × (a ≡ Date y m d) × (list_all (agrees calendar y m d) found ≡ false)
 
 disagreed_if : (b : Bool) (calendar : Calendar) (found : List Item) (y m d : ℕ)
-    → list_all (agrees calendar y m d) found ≡ b → cond b (Date y m d) OtherWeekday ≡ OtherWeekday
+    → list_all (agrees calendar y m d) found ≡ b → IsOther (cond b (Date y m d) (OtherWeekday y m d))
     → Disagrees calendar found (Date y m d)
-disagreed_if true calendar found y m d all e = absurd (cc)
+disagreed_if true calendar found y m d all e = absurd e
 disagreed_if false calendar found y m d all e = (y, m, d, refl, all)
 
-disagreed_by : (calendar : Calendar) (found : List Item) (a : Answer) → (a ≡ OtherWeekday → ⊥)
-    → if_agreed calendar found a ≡ OtherWeekday → Disagrees calendar found a
+disagreed_by : (calendar : Calendar) (found : List Item) (a : Answer) → (IsOther a → ⊥)
+    → IsOther (if_agreed calendar found a) → Disagrees calendar found a
 disagreed_by calendar found (Date y m d) never e =
     disagreed_if (list_all (agrees calendar y m d) found) calendar found y m d refl e
-disagreed_by calendar found OtherWeekday never e = absurd (never refl)
-disagreed_by calendar found _ never e = absurd (cc)
+disagreed_by calendar found (OtherWeekday _ _ _) never e = absurd (never tt)
+disagreed_by calendar found Stays never e = absurd e
+disagreed_by calendar found NoSuchYear never e = absurd e
+disagreed_by calendar found Refused never e = absurd e
+disagreed_by calendar found (RomanDate _ _ _ _) never e = absurd e
 
-stays_never : (o : Option (ℕ × ℕ)) (v : ℕ) → date_or_stays v o ≡ OtherWeekday → ⊥
-stays_never None v e = cc
-stays_never (Some x) v e = cc
+stays_never : (o : Option (ℕ × ℕ)) (v : ℕ) → IsOther (date_or_stays v o) → ⊥
+stays_never None v e = e
+stays_never (Some x) v e = e
 
-year_never : (b : Bool) (o : Option (ℕ × ℕ)) (v : ℕ) → cond b (date_or_stays v o) Stays ≡ OtherWeekday → ⊥
+year_never : (b : Bool) (o : Option (ℕ × ℕ)) (v : ℕ) → IsOther (cond b (date_or_stays v o) NoSuchYear) → ⊥
 year_never true o v e = stays_never o v e
-year_never false o v e = cc
+year_never false o v e = e
 
 rule_never : (short : Short) (calendar : Calendar) (v : ℕ) (day : InYear)
-    → date_by_rule short calendar v day ≡ OtherWeekday → ⊥
-rule_never Refuse calendar v day e = cc
+    → IsOther (date_by_rule short calendar v day) → ⊥
+rule_never Refuse calendar v day e = e
 rule_never Keep calendar v day e = year_never (has_year calendar v) (month_and_day calendar v day) v e
 rule_never (Add more) calendar v day e =
     year_never (has_year calendar (v + more)) (month_and_day calendar (v + more) day) (v + more) e
 
 never_other : (choice : Choice) (calendar : Calendar) (reading : Option Reading)
-    → date_of choice calendar reading ≡ OtherWeekday → ⊥
-never_other choice calendar None e = cc
+    → IsOther (date_of choice calendar reading) → ⊥
+never_other choice calendar None e = e
 never_other choice calendar (Some (Civil number day)) e =
     rule_never (short_rule choice calendar number) calendar number.value day e
-never_other choice calendar (Some (Roman _ _ _ _)) e = cc
-
-disagreed : (calendar : Calendar) (found : List Item) (choice : Choice) (reading : Option Reading)
-    → if_agreed calendar found (date_of choice calendar reading) ≡ OtherWeekday
-    → Disagrees calendar found (date_of choice calendar reading)
-disagreed calendar found choice reading e =
-    disagreed_by calendar found (date_of choice calendar reading) (never_other choice calendar reading) e
+never_other choice calendar (Some (Roman _ _ _ _)) e = e
 
 -- the weekday that does not
+abbrev HasOther : Calendar → ℕ → ℕ → ℕ → List Item → Type 0
+HasOther calendar y m d xs = (x : Item) × Contains xs x × IsNotOn calendar y m d x
+
 other_if : (b : Bool) (calendar : Calendar) (y m d : ℕ) (x : Item) (xs : List Item) → agrees calendar y m d x ≡ b
-    → (list_all (agrees calendar y m d) xs ≡ false
-    → (w : NamedWeekday) × Contains xs (Weekday w) × (is_on calendar y m d w ≡ false))
-    → (b && list_all (agrees calendar y m d) xs) ≡ false
-    → (w : NamedWeekday) × Contains (x ∷ xs) (Weekday w) × (is_on calendar y m d w ≡ false)
-other_if false calendar y m d (Weekday w) xs is rest e = (w, (0, omega arith, refl), is)
+    → (list_all (agrees calendar y m d) xs ≡ false → HasOther calendar y m d xs)
+    → (b && list_all (agrees calendar y m d) xs) ≡ false → HasOther calendar y m d (x ∷ xs)
+other_if false calendar y m d (Weekday w) xs is rest e = (Weekday w, (0, omega arith, refl), is)
+other_if false calendar y m d (DecadeDay n) xs is rest e = (DecadeDay n, (0, omega arith, refl), is)
 other_if false calendar y m d _ xs is rest e = absurd (cc)
 other_if true calendar y m d x xs is rest e =
-    let (w, (k, below, at), off) = rest e in (w, (suc k, omega arith, at), off)
+    let (z, (k, below, at), off) = rest e in (z, (suc k, omega arith, at), off)
 
 other_in : (calendar : Calendar) (y m d : ℕ) (xs : List Item) → list_all (agrees calendar y m d) xs ≡ false
-    → (w : NamedWeekday) × Contains xs (Weekday w) × (is_on calendar y m d w ≡ false)
+    → HasOther calendar y m d xs
 other_in calendar y m d [] e = absurd (cc)
 other_in calendar y m d (x ∷ xs) e =
     other_if (agrees calendar y m d x) calendar y m d x xs refl (other_in calendar y m d xs) e
 
 says_other : (choice : Choice) (calendar : Calendar) (names : List Name) (text : List ℕ)
-    → answer choice calendar names text ≡ OtherWeekday → SaysOtherWeekday choice calendar names text
+    → IsOther (answer choice calendar names text) → SaysOtherWeekday choice calendar names text
 unfolding answer
 says_other choice calendar names text e =
-    let dashes = has_two_dashes (tokens 0 text) in
+    let pieces = tokens 0 text in
     let (found, has, say) =
-    found_other (items (names_in calendar names) 0 (parts text)) (items_answer choice calendar dashes) (other_by _ _ e) in
+    found_other (found_items calendar names text) (items_answer choice calendar pieces) (other_by _ _ e) in
+    let reading = reading_by (form calendar) choice pieces found in
     let (y, m, d, date, not_all) =
-    disagreed calendar found choice (reading_by (form calendar) choice dashes found) say in
-    let (number, day, reading, own) =
-    made_by choice calendar (reading_by (form calendar) choice dashes found) y m d date in
-    let (w, stands, off) = other_in calendar y m d found not_all in
+    disagreed_by calendar found (date_of choice calendar reading) (never_other choice calendar reading) say in
+    let (number, day, is, own) = made_by choice calendar reading y m d date in
+    let (x, stands, off) = other_in calendar y m d found not_all in
     record {
       found = found;
       has = has;
       number = number;
       in_year = day;
-      uses = uses_by (form calendar) choice dashes found number day reading;
+      uses = uses_by (form calendar) choice pieces found number day is;
       year = y;
       month = m;
       day = d;
       date = own;
-      weekday = w;
+      weekday = x;
       stands = stands;
       other = off;
     }
 
-stop_if : (a b : Bool) (x : Answer) → cond a (Some stops.Character) (cond b (Some stops.Minus) (stop_by x))
-    ≡ Some stops.OtherWeekday → x ≡ OtherWeekday
-stop_if true b x e = absurd (cc)
-stop_if false true x e = absurd (cc)
-stop_if false false OtherWeekday e = refl
-stop_if false false Stays e = absurd (cc)
-stop_if false false Refused e = absurd (cc)
-stop_if false false (Date _ _ _) e = absurd (cc)
-stop_if false false (RomanDate _ _ _ _) e = absurd (cc)
+either_never : (b : Bool) → Some (cond b stops.NoDay stops.NoYear) ≡ Some stops.OtherWeekday → ⊥
+either_never true e = cc
+either_never false e = cc
+
+day_never : (b : Bool) → Some (cond b stops.NoDay stops.NoDate) ≡ Some stops.OtherWeekday → ⊥
+day_never true e = cc
+day_never false e = cc
+
+missing_never : (xs : List Item) → Some (missing xs) ≡ Some stops.OtherWeekday → ⊥
+missing_never (Month m ∷ Number n ∷ []) e = either_never (is_long n) e
+missing_never (Number n ∷ Month m ∷ []) e = either_never (is_long n) e
+missing_never (Number n ∷ []) e = day_never (is_long n) e
+missing_never _ e = cc
+
+missing_in_never : (o : Option (List Item)) → Some (missing_in o) ≡ Some stops.OtherWeekday → ⊥
+missing_in_never None e = cc
+missing_in_never (Some xs) e = missing_never (beside_weekday xs) e
+
+stop_if : (a b : Bool) (o : Option (List Item)) (x : Answer)
+    → cond a (Some stops.Character) (cond b (Some stops.Minus) (stop_by (missing_in o) x)) ≡ Some stops.OtherWeekday
+    → IsOther x
+stop_if true b o x e = absurd (cc)
+stop_if false true o x e = absurd (cc)
+stop_if false false o (OtherWeekday _ _ _) e = tt
+stop_if false false o Stays e = absurd (missing_in_never o e)
+stop_if false false o NoSuchYear e = absurd (cc)
+stop_if false false o Refused e = absurd (cc)
+stop_if false false o (Date _ _ _) e = absurd (cc)
+stop_if false false o (RomanDate _ _ _ _) e = absurd (cc)
 
 pub other_weekdays_stop : OtherWeekdaysStop
 unfolding stop
 other_weekdays_stop choice calendar names text e =
     says_other choice calendar names text
     (stop_if (has_other (tokens 0 text)) (has_minus (tokens 0 text) || begins_with_dash (bare (tokens 0 text)))
-    (answer choice calendar names text) e)
+    (found_items calendar names text) (answer choice calendar names text) e)

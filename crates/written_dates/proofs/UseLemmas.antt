@@ -13,7 +13,7 @@ use Rattle.church_year.specs.declared.feasts.Place.TheVariants as places
 use Rattle.written_dates.specs.declared.feast_rules.Naming.{Naming}
 use Rattle.written_dates.specs.declared.items.Number.{Number as Numeral}
 use Rattle.written_dates.specs.declared.items.Item.{Item}
-use Rattle.written_dates.specs.declared.items.Item.TheVariants.{Number, Month, Weekday, Relation, Feast, Sundays}
+use Rattle.written_dates.specs.declared.items.Item.TheVariants.{Number, Month, Weekday, DecadeDay, Relation, Feast, Sundays}
 use Rattle.written_dates.specs.declared.meanings.Relation.{Relation as Related}
 use Rattle.written_dates.specs.declared.meanings.Relation.TheVariants.{After, Before, Eve, Morrow, Octave}
 use Rattle.written_dates.specs.declared.rules.InYear.{InYear}
@@ -22,7 +22,9 @@ use Rattle.written_dates.specs.declared.rules.Order.{Order}
 use Rattle.written_dates.specs.declared.rules.Order.TheVariants.{YearFirst, DayFirst, MonthFirst}
 use Rattle.written_dates.specs.declared.rules.Reading.{Reading}
 use Rattle.written_dates.specs.declared.rules.Reading.TheVariants.{Civil}
+use Rattle.written_dates.specs.Tokens.{Piece}
 use Rattle.written_dates.specs.Items.{is_long}
+use Rattle.written_dates.specs.Signs.{has_bar_between, has_mixed_signs, has_two_dashes}
 use Rattle.written_dates.specs.FeastRules.{weekday_first, number_first, relation_first, ending, behind_front, season_after}
 use Rattle.written_dates.specs.FeastRules.{behind_number, behind_weekday, feast_naming, numbered, related, feasted, in_season, named}
 use Rattle.written_dates.specs.Rules.{civil, in_order, is_year_first, in_digits, month_between}
@@ -88,10 +90,11 @@ between_read : (order : Order) (a c : Numeral) (mi : Item) (month : ℕ) (readin
 between_read order a c mi month reading m e =
     between_by (is_long a) (is_long c) (is_year_first order) a c mi month reading m refl refl e
 
-front_by : (la : Bool) (m : ℕ) (a c : Numeral) (mi : Item) (reading : Reading) → IsMonthItem mi m → is_long a ≡ la
-    → cond la None (civil c m a.value) ≡ Some reading → AreRead (mi ∷ Number a ∷ Number c ∷ []) reading
-front_by true m a c mi reading im ea e = absurd (cc)
-front_by false m a c mi reading im ea e = read_as _ c mi a m reading (turned mi (Number a) (Number c)) im ea e
+front_by : (la to : Bool) (m : ℕ) (a c : Numeral) (mi : Item) (reading : Reading) → IsMonthItem mi m → is_long a ≡ la
+    → cond (la || to) None (civil c m a.value) ≡ Some reading → AreRead (mi ∷ Number a ∷ Number c ∷ []) reading
+front_by true to m a c mi reading im ea e = absurd (cc)
+front_by false true m a c mi reading im ea e = absurd (cc)
+front_by false false m a c mi reading im ea e = read_as _ c mi a m reading (turned mi (Number a) (Number c)) im ea e
 
 -- what is left of three numbers: one that is not long is in the middle, and another at an end
 in_order_read : (order : Order) (a b c : Numeral) (reading : Reading) → is_long a ≡ false → is_long b ≡ false
@@ -110,52 +113,62 @@ year_read : (a b c : Numeral) (reading : Reading) → is_long b ≡ false → is
 year_read a b c reading sb sc e =
     read_as _ a (Number b) c b.value reading (IsPermutation-refl (Number a ∷ Number b ∷ Number c ∷ [])) (refl, sb) sc e
 
-three_by : (lb la lc mid yf dash : Bool) (order : Order) (a b c : Numeral) (reading : Reading) → is_long b ≡ lb
+three_by : (lb la lc mid yf dash mixed : Bool) (order : Order) (a b c : Numeral) (reading : Reading) → is_long b ≡ lb
     → is_long a ≡ la → is_long c ≡ lc → is_year_first order ≡ yf
-    → cond (lb || (la && lc)) None (cond mid (month_between order a b.value c) (cond la (in_order YearFirst a b c)
+    → cond (lb || (la && lc) || mixed) None (cond mid (month_between order a b.value c) (cond la (in_order YearFirst a b c)
     (cond lc (cond yf None (in_order order a b c)) (cond dash (in_order YearFirst a b c) (in_order order a b c)))))
     ≡ Some reading
     → AreRead (Number a ∷ Number b ∷ Number c ∷ []) reading
-three_by true la lc mid yf dash order a b c reading eb ea ec ey e = absurd (cc)
-three_by false true true mid yf dash order a b c reading eb ea ec ey e = absurd (cc)
-three_by false true false true yf dash order a b c reading eb ea ec ey e =
+three_by true la lc mid yf dash mixed order a b c reading eb ea ec ey e = absurd (cc)
+three_by false true true mid yf dash mixed order a b c reading eb ea ec ey e = absurd (cc)
+three_by false true false mid yf dash true order a b c reading eb ea ec ey e = absurd (cc)
+three_by false false lc mid yf dash true order a b c reading eb ea ec ey e = absurd (cc)
+three_by false true false true yf dash false order a b c reading eb ea ec ey e =
     between_read order a c (Number b) b.value reading (refl, eb) e
-three_by false true false false yf dash order a b c reading eb ea ec ey e = year_read a b c reading eb ec e
-three_by false false lc true yf dash order a b c reading eb ea ec ey e =
+three_by false true false false yf dash false order a b c reading eb ea ec ey e = year_read a b c reading eb ec e
+three_by false false lc true yf dash false order a b c reading eb ea ec ey e =
     between_read order a c (Number b) b.value reading (refl, eb) e
-three_by false false true false true dash order a b c reading eb ea ec ey e = absurd (cc)
-three_by false false true false false dash order a b c reading eb ea ec ey e =
+three_by false false true false true dash false order a b c reading eb ea ec ey e = absurd (cc)
+three_by false false true false false dash false order a b c reading eb ea ec ey e =
     in_order_read order a b c reading ea eb (inr ey) e
-three_by false false false false yf true order a b c reading eb ea ec ey e = year_read a b c reading eb ec e
-three_by false false false false yf false order a b c reading eb ea ec ey e =
+three_by false false false false yf true false order a b c reading eb ea ec ey e = year_read a b c reading eb ec e
+three_by false false false false yf false false order a b c reading eb ea ec ey e =
     in_order_read order a b c reading ea eb (inl ec) e
 
-three_read : (dashes : Bool) (order : Order) (a b c : Numeral) (reading : Reading)
-    → three_numbers dashes order a b c ≡ Some reading → AreRead (Number a ∷ Number b ∷ Number c ∷ []) reading
-three_read dashes order a b c reading e =
+three_read : (pieces : List Piece) (order : Order) (a b c : Numeral) (reading : Reading)
+    → three_numbers pieces order a b c ≡ Some reading → AreRead (Number a ∷ Number b ∷ Number c ∷ []) reading
+three_read pieces order a b c reading e =
     three_by (is_long b) (is_long a) (is_long c) (is_month_between a b c) (is_year_first order)
-    (dashes && in_digits a && in_digits b && in_digits c) order a b c reading refl refl refl refl e
+    (in_digits a && in_digits b && in_digits c && has_two_dashes pieces) (has_mixed_signs pieces) order a b c reading
+    refl refl refl refl e
 
 -- as the items are, none of them is a weekday
 record ArePlain (xs : List Item) (reading : Reading) : Type 0 where
   read : AreRead xs reading
   plain : without_weekdays xs ≡ xs
 
-plain_read : (dashes : Bool) (order : Order) (xs : List Item) (reading : Reading)
-    → plain_reading dashes order xs ≡ Some reading → ArePlain xs reading
-plain_read dashes order (Number a ∷ Month m ∷ Number c ∷ []) reading e =
+plain_read : (pieces : List Piece) (order : Order) (xs : List Item) (reading : Reading)
+    → plain_reading pieces order xs ≡ Some reading → ArePlain xs reading
+plain_read pieces order (Number a ∷ Month m ∷ Number c ∷ []) reading e =
     record { read = between_read order a c (Month m) m reading refl e; plain = refl }
-plain_read dashes order (Month m ∷ Number a ∷ Number c ∷ []) reading e =
-    record { read = front_by (is_long a) m a c (Month m) reading refl refl e; plain = refl }
-plain_read dashes order (Number a ∷ Number b ∷ Number c ∷ []) reading e =
-    record { read = three_read dashes order a b c reading e; plain = refl }
-plain_read dashes order _ reading e = absurd (cc)
+plain_read pieces order (Month m ∷ Number a ∷ Number c ∷ []) reading e =
+    record {
+      read = front_by (is_long a) (not (is_long c) && has_bar_between pieces) m a c (Month m) reading refl refl e;
+      plain = refl;
+    }
+plain_read pieces order (Number a ∷ Number b ∷ Number c ∷ []) reading e =
+    record { read = three_read pieces order a b c reading e; plain = refl }
+plain_read pieces order _ reading e = absurd (cc)
 
 -- a weekday in front or at the end is no other item
 beside_same : (xs : List Item) → without_weekdays (beside_weekday xs) ≡ without_weekdays xs
 beside_same (Weekday w ∷ rest) = refl
+beside_same (DecadeDay n ∷ rest) = refl
 beside_same (a ∷ b ∷ c ∷ Weekday w ∷ []) =
     sym (filter-append is_no_weekday (a ∷ b ∷ c ∷ []) (Weekday w ∷ [])
+    ∙ append-nil (without_weekdays (a ∷ b ∷ c ∷ [])))
+beside_same (a ∷ b ∷ c ∷ DecadeDay n ∷ []) =
+    sym (filter-append is_no_weekday (a ∷ b ∷ c ∷ []) (DecadeDay n ∷ [])
     ∙ append-nil (without_weekdays (a ∷ b ∷ c ∷ [])))
 beside_same _ = refl
 
@@ -340,10 +353,10 @@ or_uses : (found : List Item) (first second : Option Reading) (reading : Reading
 or_uses found None second reading one other e = other reading e
 or_uses found (Some r) second reading one other e = one reading e
 
-pub civil_uses : (dashes : Bool) (order : Order) (found : List Item) (reading : Reading)
-    → civil_reading dashes order found ≡ Some reading → Uses found reading
-civil_uses dashes order found reading e =
-    or_uses found (plain_reading dashes order (beside_weekday found)) _ reading
-    (λ r h. from_plain found (beside_weekday found) r (beside_same found) (plain_read dashes order (beside_weekday found) r h))
+pub civil_uses : (pieces : List Piece) (order : Order) (found : List Item) (reading : Reading)
+    → civil_reading pieces order found ≡ Some reading → Uses found reading
+civil_uses pieces order found reading e =
+    or_uses found (plain_reading pieces order (beside_weekday found)) _ reading
+    (λ r h. from_plain found (beside_weekday found) r (beside_same found) (plain_read pieces order (beside_weekday found) r h))
     (λ r h. or_uses found (weekday_in_month found) (named_reading (feast_naming found)) r (in_month_uses found)
     (λ q k. named_uses found (feast_naming found) q (feast_named found) k) h) e

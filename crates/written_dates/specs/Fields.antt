@@ -2,7 +2,6 @@
 use Rattle.std.specs.Prelude.{ℕ, ◌+◌, Bool, true, false, not, ◌&&◌, ◌==◌, if◌then◌else◌, List, [], ◌∷◌, ◌++◌, map}
 use Rattle.std.specs.Prelude.{Option, Some, None}
 use Rattle.std.specs.List.{list_any}
-use Rattle.std.specs.Str.{str_eq_ignore_ascii_case}
 use Rattle.written_dates.specs.declared.tokens.Kind.{Kind}
 use Rattle.written_dates.specs.declared.tokens.Kind.TheVariants.{Blank}
 use Rattle.date_texts.specs.declared.calendar.Calendar.{Calendar}
@@ -12,6 +11,7 @@ use Rattle.date_texts.specs.Calendars.{calendar_name}
 use Rattle.written_dates.specs.Calendars.{place}
 use Rattle.written_dates.specs.Tokens.{Piece, tokens}
 use Rattle.written_dates.specs.Signs.{bare}
+use Rattle.written_dates.specs.Words.{same_word}
 
 abbrev pub is_blank : Kind → Bool
 is_blank Blank = true
@@ -46,10 +46,10 @@ entry name = (name.text.now, name.calendar)
 abbrev pub entries : CalendarNames → List (List ℕ × Calendar)
 entries names = map entry names.bare.names.items
 
--- the calendar that the first of the names means which a text is, ASCII letter case aside
+-- the calendar that the first of the names means which are the same as a text
 abbrev pub meant_by : List (List ℕ × Calendar) → List ℕ → Option Calendar
 meant_by [] text = None
-meant_by (e ∷ rest) text = if str_eq_ignore_ascii_case e.0 text then Some e.1 else meant_by rest text
+meant_by (e ∷ rest) text = if same_word e.0 text then Some e.1 else meant_by rest text
 
 -- the calendar that a field means
 abbrev pub calendar_meant : List (List ℕ × Calendar) → List ℕ → Option Calendar
@@ -57,7 +57,7 @@ calendar_meant names field = meant_by names (without_blanks field)
 
 -- one name means two calendars
 abbrev pub is_other : List ℕ × Calendar → List ℕ × Calendar → Bool
-is_other a b = str_eq_ignore_ascii_case a.0 b.0 && not (place a.1 == place b.1)
+is_other a b = same_word a.0 b.0 && not (place a.1 == place b.1)
 
 -- the place of the first name that means another calendar further on, of which the first one has this place
 abbrev pub first_twofold : ℕ → List (List ℕ × Calendar) → Option ℕ

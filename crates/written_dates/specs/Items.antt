@@ -1,5 +1,5 @@
 -- The items of a text: numbers, months, marks, and what names a day by a feast.
-use Rattle.std.specs.Prelude.{ℕ, zero, suc, ◌+◌, ◌-◌, ◌*◌, Bool, ◌&&◌, ◌||◌, ◌==◌, nat_le, nat_lt}
+use Rattle.std.specs.Prelude.{ℕ, zero, suc, ◌+◌, ◌-◌, ◌*◌, Bool, true, false, ◌&&◌, ◌||◌, ◌==◌, nat_le, nat_lt}
 use Rattle.std.specs.Prelude.{if◌then◌else◌, List, [], ◌∷◌, ◌++◌, length, fold, Option, Some, None}
 use Rattle.std.specs.Char.{is_ascii_digit}
 use Rattle.std.specs.List.{list_all}
@@ -23,11 +23,11 @@ spelled digits = fold (λ value digit. 10 * value + (digit - 48)) 0 digits
 unfoldable pub number_of_digits : List ℕ → Option Number
 number_of_digits text =
     if nat_le (length text) 9 && list_all is_ascii_digit text
-    then Some (record { value = spelled text; digits = length text }) else None
+    then Some (record { value = spelled text; digits = length text; named = false }) else None
 
 abbrev pub bare_number : Option ℕ → Option Number
 bare_number None = None
-bare_number (Some n) = Some (record { value = n; digits = 0 })
+bare_number (Some n) = Some (record { value = n; digits = 0; named = false })
 
 abbrev pub number_of_kind : Kind → List ℕ → Option Number
 number_of_kind Digit text = number_of_digits text
@@ -45,9 +45,10 @@ is_long n = nat_le 3 n.digits || ((n.digits == 0) && nat_le 100 n.value)
 abbrev pub meant : Meaning → List Item
 meant meaning.Nothing = []
 meant (meaning.Month m) = item.Month m ∷ []
-meant (meaning.Number n) = item.Number (record { value = n; digits = 0 }) ∷ []
+meant (meaning.Number n) = item.Number (record { value = n; digits = 0; named = true }) ∷ []
 meant (meaning.Mark m) = item.Mark m ∷ []
 meant (meaning.Weekday w) = item.Weekday w ∷ []
+meant (meaning.DecadeDay n) = item.DecadeDay n ∷ []
 meant (meaning.Relation r) = item.Relation r ∷ []
 meant (meaning.Feast f) = item.Feast f ∷ []
 meant (meaning.Sundays s) = item.Sundays s ∷ []

@@ -1,16 +1,20 @@
 -- By which keys names are found. No public contract cites this file.
 use Rattle.std.specs.Prelude.{◌≡◌, ℕ, suc, ◌+◌, ◌*◌, ◌%◌, ◌<◌, ◌==◌, if◌then◌else◌, List, [], ◌∷◌, drop, fold, length}
 use Rattle.std.specs.Prelude.{get_or, Some, slice_get}
-use Rattle.std.specs.Char.{to_ascii_lowercase}
 use Rattle.std.specs.List.{position_or_len}
 use Rattle.written_dates.specs.declared.fields.CalendarName.{CalendarName}
 use Rattle.written_dates.specs.declared.meanings.Name.{Name}
 use Rattle.written_dates.specs.Tokens.{Piece}
 use Rattle.written_dates.specs.Parts.{parts}
+use Rattle.written_dates.specs.Words.{folded}
 
--- a number below 1024 that words have in common which differ in ASCII letter case alone
+-- a number below 16384 for characters
+abbrev pub key_of_chars : List ℕ → ℕ
+key_of_chars cs = fold (λ value c. (31 * value + c) % 16384) 0 cs
+
+-- the key of a word, which words have in common that are the same
 abbrev pub key_of : List ℕ → ℕ
-key_of word = fold (λ value byte. (31 * value + to_ascii_lowercase byte) % 1024) 0 word
+key_of word = key_of_chars (folded word)
 
 abbrev pub first_text : List Piece → List ℕ
 first_text [] = []
@@ -31,14 +35,14 @@ place_from k names from = from + ahead k (drop from names)
 
 -- from this place on: where the names of each key begin, and behind each name where the next one of its key stands
 pub record IsIndexed (names : List Name) (firsts nexts : List ℕ) (from : ℕ) : Type 0 where
-  pub keys : length firsts ≡ 1024
+  pub keys : length firsts ≡ 16384
   pub as_many : length nexts ≡ length names
-  pub first : (k : ℕ) → k < 1024 → get_or firsts k 0 ≡ place_from k names from
+  pub first : (k : ℕ) → k < 16384 → get_or firsts k 0 ≡ place_from k names from
   pub next : (place : ℕ) (name : Name) → from < place + 1 → slice_get names place ≡ Some name
       → get_or nexts place 0 ≡ place_from (key name) names (place + 1)
 
 -- from this place on, the place of the first name of a calendar that has each key, or the number of names
 pub record HasFirsts (names : List CalendarName) (firsts : List ℕ) (from : ℕ) : Type 0 where
-  pub keys : length firsts ≡ 1024
-  pub first : (k : ℕ) → k < 1024
+  pub keys : length firsts ≡ 16384
+  pub first : (k : ℕ) → k < 16384
       → get_or firsts k 0 ≡ from + position_or_len (λ name. key_of name.text.now == k) (drop from names)

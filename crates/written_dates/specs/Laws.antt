@@ -1,7 +1,9 @@
 -- Laws of what is written.
-use Rattle.std.specs.Prelude.{◌≡◌, ◌<◌, ◌≤◌, ℕ, true, false, IsTrue, List, ◌∷◌, length, Some, slice_get}
+use Rattle.std.specs.Prelude.{◌≡◌, ◌<◌, ◌≤◌, ℕ, true, false, IsTrue, List, ◌∷◌, length, Some, slice_get, ◌↔◌, chars}
 use Rattle.std.specs.Char.{is_ascii_digit}
 use Rattle.std.specs.List.{list_all}
+use Rattle.std.specs.Str.{str_to_ascii_lowercase}
+use Rattle.caseless.specs.Caseless.{IsCanonicalMatch}
 use Rattle.written_dates.specs.declared.meanings.Name.{Name}
 use Rattle.written_dates.specs.declared.items.Number.{Number}
 use Rattle.date_texts.specs.declared.calendar.Calendar.{Calendar}
@@ -11,6 +13,7 @@ use Rattle.written_dates.specs.declared.written.Choice.{Choice}
 use Rattle.written_dates.specs.declared.meanings.Meaning.TheVariants.{Nothing}
 use Rattle.written_dates.specs.Tokens.{Piece}
 use Rattle.written_dates.specs.Parts.{parts, stands}
+use Rattle.written_dates.specs.Words.{is_folded, same_word}
 use Rattle.written_dates.specs.Items.{number_of_digits, longest}
 use Rattle.written_dates.specs.Calendars.{form}
 use Rattle.written_dates.specs.Written.{is_turned, joined, short_rule, written}
@@ -52,3 +55,13 @@ FoundStands =
     (text : List Piece) (names : List Name) → 0 < (longest text (0, Nothing) names).0
     → (place : ℕ) × (name : Name) × StandsAt text names place name
     × (longest text (0, Nothing) names ≡ (length (parts name.text.now), name.meaning))
+
+-- words that differ in the case of A to Z alone are the same
+abbrev pub LettersAreAlike : Type 0
+LettersAreAlike = (a b : List ℕ) → str_to_ascii_lowercase a ≡ str_to_ascii_lowercase b → same_word a b ≡ true
+
+-- two words that are folded are the same exactly where they are a canonical caseless match of Unicode
+abbrev pub FoldedWordsMatch : Type 0
+FoldedWordsMatch =
+    (a b : List ℕ) → is_folded a ≡ true → is_folded b ≡ true
+    → (same_word a b ≡ true) ↔ IsCanonicalMatch (chars a) (chars b)

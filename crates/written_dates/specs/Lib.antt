@@ -1,5 +1,7 @@
 pub mod Tokens
 pub mod Roman
+pub mod Words
+pub mod WordViews
 pub mod Parts
 pub mod Items
 pub mod Signs
@@ -7,6 +9,8 @@ pub mod FeastRules
 pub mod Rules
 pub mod Calendars
 pub mod Names
+pub mod Sums
+pub mod ItemViews
 pub mod Keys
 pub mod SignViews
 pub mod Fields

@@ -7,7 +7,7 @@ use Rattle.written_dates.specs.declared.meanings.Mark.{Mark}
 use Rattle.written_dates.specs.declared.meanings.Mark.TheVariants.{Kalends, Nones, Ides}
 use Rattle.written_dates.specs.declared.meanings.Meaning.{Meaning}
 use Rattle.written_dates.specs.declared.meanings.Meaning.TheVariants.{Nothing, Month, Number, Mark as Marked}
-use Rattle.written_dates.specs.declared.meanings.Meaning.TheVariants.{Weekday, Relation as Related, Feast, Sundays}
+use Rattle.written_dates.specs.declared.meanings.Meaning.TheVariants.{Weekday, DecadeDay, Relation as Related, Feast, Sundays}
 use Rattle.written_dates.specs.declared.meanings.Relation.{Relation}
 use Rattle.written_dates.specs.declared.meanings.Relation.TheVariants.{After, Before, Eve, Morrow, Octave}
 use Rattle.church_year.specs.Weekdays.{number_of}
@@ -30,7 +30,7 @@ holds calendar name = get_or name.calendars.held (place calendar) false
 abbrev pub names_in : Calendar → List Name → List Name
 names_in calendar names = filter (holds calendar) names
 
--- the names have the same numbers and words, ASCII letter case aside
+-- the names have the same numbers and words
 abbrev pub same_name : Name → Name → Bool
 same_name a b = stands (parts a.text.now) (parts b.text.now) && stands (parts b.text.now) (parts a.text.now)
 
@@ -57,6 +57,7 @@ same_meaning (Month a) (Month b) = a == b
 same_meaning (Number a) (Number b) = a == b
 same_meaning (Marked a) (Marked b) = same_mark a b
 same_meaning (Weekday a) (Weekday b) = number_of a == number_of b
+same_meaning (DecadeDay a) (DecadeDay b) = a == b
 same_meaning (Related a) (Related b) = number_of_relation a == number_of_relation b
 same_meaning (Feast a) (Feast b) = same_feast a b
 same_meaning (Sundays a) (Sundays b) = number_of_season a == number_of_season b
@@ -66,10 +67,11 @@ same_meaning a b = false
 abbrev pub conflict : Name → Name → Bool
 conflict a b = same_name a b && share_calendar a b && not (same_meaning a.meaning b.meaning)
 
--- months are 1 to 13, and numbers have at most nine digits
+-- months are 1 to 13, numbers have at most nine digits, and a decade has ten days
 abbrev pub is_meaning : Meaning → Bool
 is_meaning (Month m) = nat_le 1 m && nat_le m 13
 is_meaning (Number n) = nat_le n 999999999
+is_meaning (DecadeDay n) = nat_le 1 n && nat_le n 10
 is_meaning meaning = true
 
 abbrev pub is_empty : List Piece → Bool

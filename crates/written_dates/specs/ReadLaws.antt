@@ -14,26 +14,25 @@ use Rattle.written_dates.specs.Calendars.{form}
 use Rattle.written_dates.specs.declared.calendars.Form.TheVariants as forms
 use Rattle.written_dates.specs.declared.items.Number.{Number as Numeral}
 use Rattle.written_dates.specs.declared.items.Item.{Item}
-use Rattle.written_dates.specs.declared.items.Item.TheVariants.{Number, Month, Weekday}
+use Rattle.written_dates.specs.declared.items.Item.TheVariants.{Number, Month, Weekday, DecadeDay}
 use Rattle.written_dates.specs.declared.meanings.Name.{Name}
 use Rattle.written_dates.specs.declared.rules.Reading.{Reading}
 use Rattle.written_dates.specs.declared.rules.InYear.{InYear}
 use Rattle.written_dates.specs.declared.rules.InYear.TheVariants as days
 use Rattle.written_dates.specs.declared.written.Answer.TheVariants.{Stays, OtherWeekday, Date}
 use Rattle.written_dates.specs.declared.written.Choice.{Choice}
-use Rattle.written_dates.specs.Tokens.{kind_of, tokens}
-use Rattle.written_dates.specs.Parts.{parts}
-use Rattle.written_dates.specs.Items.{items, is_long}
-use Rattle.written_dates.specs.Names.{names_in}
-use Rattle.written_dates.specs.Signs.{has_minus, is_between, three_runs, runs_behind_minus}
+use Rattle.written_dates.specs.Tokens.{Piece, kind_of, tokens}
+use Rattle.written_dates.specs.Items.{is_long}
+use Rattle.written_dates.specs.Signs.{has_bar_between, has_minus, has_mixed_signs, is_between, three_runs, runs_behind_minus}
 use Rattle.written_dates.specs.Rules.{plain_reading}
-use Rattle.written_dates.specs.Weekdays.{is_on, IsOn}
+use Rattle.written_dates.specs.Sums.{found_items}
+use Rattle.written_dates.specs.Weekdays.{is_decade_day, is_on, IsOn}
 use Rattle.written_dates.specs.Written.{answer, date_by_rule, date_of, items_answer, short_rule, written}
 
 -- a date is read of a text that has these items, by these names, in this calendar
 pub record IsRead (choice : Choice) (calendar : Calendar) (names : List Name) (text : List ℕ) (found : List Item)
     (year month day : ℕ) : Type 0 where
-  pub has : items (names_in calendar names) 0 (parts text) ≡ Some found
+  pub has : found_items calendar names text ≡ Some found
   pub says : answer choice calendar names text ≡ Date year month day
 
 -- of a text with a weekday only a date is read that is on this weekday, by the calendar's own day numbers
@@ -43,27 +42,35 @@ WeekdaysAgree =
     (weekday : NamedWeekday) → IsRead choice calendar names text found year month day
     → Contains found (Weekday weekday) → IsOn calendar year month day weekday
 
+-- nor is one read that is not the day of a decade which stands in the text
+abbrev pub DecadeDaysAgree : Type 0
+DecadeDaysAgree =
+    (choice : Choice) (calendar : Calendar) (names : List Name) (text : List ℕ) (found : List Item) (year month day n : ℕ)
+    → IsRead choice calendar names text found year month day → Contains found (DecadeDay n)
+    → is_decade_day calendar month day n ≡ true
+
 -- what is found, if it is a date on this weekday
 abbrev pub if_on : Calendar → NamedWeekday → Answer → Answer
 if_on calendar weekday (Date year month day) =
-    if is_on calendar year month day weekday then Date year month day else OtherWeekday
+    if is_on calendar year month day weekday then Date year month day else OtherWeekday year month day
 if_on calendar weekday found = found
 
 -- and it is a test, and no more: where items say a year, a month and a day, the same with a weekday in front of them, or
 -- behind them, say the same, if it is on this weekday
 abbrev pub WeekdaysOnlyTest : Type 0
 WeekdaysOnlyTest =
-    (choice : Choice) (calendar : Calendar) (dashes : Bool) (said : List Item) (reading : Reading) (weekday : NamedWeekday)
-    → form calendar ≡ forms.Civil → plain_reading dashes choice.order said ≡ Some reading
-    → (items_answer choice calendar dashes said ≡ date_of choice calendar (Some reading))
-    × (items_answer choice calendar dashes (Weekday weekday ∷ said)
+    (choice : Choice) (calendar : Calendar) (pieces : List Piece) (said : List Item) (reading : Reading) (weekday : NamedWeekday)
+    → form calendar ≡ forms.Civil → plain_reading pieces choice.order said ≡ Some reading
+    → (items_answer choice calendar pieces said ≡ date_of choice calendar (Some reading))
+    × (items_answer choice calendar pieces (Weekday weekday ∷ said)
     ≡ if_on calendar weekday (date_of choice calendar (Some reading)))
-    × (items_answer choice calendar dashes (said ++ Weekday weekday ∷ [])
+    × (items_answer choice calendar pieces (said ++ Weekday weekday ∷ [])
     ≡ if_on calendar weekday (date_of choice calendar (Some reading)))
 
 -- ---- nothing is left over
 abbrev pub is_no_weekday : Item → Bool
 is_no_weekday (Weekday w) = false
+is_no_weekday (DecadeDay n) = false
 is_no_weekday item = true
 
 abbrev pub without_weekdays : List Item → List Item
@@ -149,6 +156,20 @@ RomanNumbersAreMonths =
     (choice : Choice) (calendar : Calendar) (names : List Name) (text : List ℕ) (year month day : ℕ) (a b c : Numeral)
     → IsRead choice calendar names text (Number a ∷ Number b ∷ Number c ∷ []) year month day
     → 0 < a.digits → b.digits ≡ 0 → 0 < c.digits → month ≡ b.value
+
+-- of three numbers a date is read only where their signs are alike, and dashes and slashes are none or two
+abbrev pub MixedSignsStay : Type 0
+MixedSignsStay =
+    (choice : Choice) (calendar : Calendar) (names : List Name) (text : List ℕ) (year month day : ℕ) (a b c : Numeral)
+    → IsRead choice calendar names text (Number a ∷ Number b ∷ Number c ∷ []) year month day
+    → has_mixed_signs (tokens 0 text) ≡ false
+
+-- and behind a month, with a year that is not long, only where no dash and no slash stands between day and year
+abbrev pub DaysToDaysStay : Type 0
+DaysToDaysStay =
+    (choice : Choice) (calendar : Calendar) (names : List Name) (text : List ℕ) (year month day m : ℕ) (a c : Numeral)
+    → IsRead choice calendar names text (Month m ∷ Number a ∷ Number c ∷ []) year month day
+    → is_long c ≡ false → has_bar_between (tokens 0 text) ≡ false
 
 -- the second Sunday of a month is one of its second seven days, and so on; and where the day of the month of this number
 -- is on the weekday too, it is this day

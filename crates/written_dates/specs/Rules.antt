@@ -5,7 +5,7 @@ use Rattle.written_dates.specs.declared.meanings.Mark.{Mark}
 use Rattle.written_dates.specs.declared.meanings.Mark.TheVariants.{Kalends}
 use Rattle.written_dates.specs.declared.items.Number.{Number as Numeral}
 use Rattle.written_dates.specs.declared.items.Item.{Item}
-use Rattle.written_dates.specs.declared.items.Item.TheVariants.{Number, Month, Mark as Marked, Weekday}
+use Rattle.written_dates.specs.declared.items.Item.TheVariants.{Number, Month, Mark as Marked, Weekday, DecadeDay}
 use Rattle.written_dates.specs.declared.rules.Order.{Order}
 use Rattle.written_dates.specs.declared.rules.Order.TheVariants.{YearFirst, DayFirst, MonthFirst}
 use Rattle.written_dates.specs.declared.rules.Reading.{Reading}
@@ -13,6 +13,8 @@ use Rattle.written_dates.specs.declared.rules.Reading.TheVariants.{Civil, Roman}
 use Rattle.written_dates.specs.declared.rules.InYear.TheVariants.{Day, NumberedWeekday, Feast}
 use Rattle.written_dates.specs.declared.feast_rules.Naming.{Naming}
 use Rattle.written_dates.specs.Items.{is_long}
+use Rattle.written_dates.specs.Signs.{has_two_dashes, has_mixed_signs, has_bar_between}
+use Rattle.written_dates.specs.Tokens.{Piece}
 use Rattle.written_dates.specs.FeastRules.{feast_naming}
 
 -- the number stands in digits, and not as a Roman one or a name
@@ -39,37 +41,41 @@ month_between order a month c =
     else if is_long a || (not (is_long c) && is_year_first order) then civil a month c.value
     else civil c month a.value
 
--- a month by name, a day that is not long, and the year
-abbrev pub month_in_front : ℕ → Numeral → Numeral → Option Reading
-month_in_front month a c = if is_long a then None else civil c month a.value
+-- a month by name, a day that is not long, and the year; none where the year is not long either, and a dash or a slash
+-- stands between
+abbrev pub month_in_front : List Piece → ℕ → Numeral → Numeral → Option Reading
+month_in_front pieces month a c =
+    if is_long a || (not (is_long c) && has_bar_between pieces) then None else civil c month a.value
 
 -- of three numbers only the middle one is Roman or a name: it is the month
 abbrev pub is_month_between : Numeral → Numeral → Numeral → Bool
 is_month_between a b c = in_digits a && not (in_digits b) && in_digits c
 
--- three numbers, of which one at most is long, and not the middle one: where the first is, or none is and they are
--- digits with dashes between them, the year is first; else the order says, which must not be year first where the last
--- is long
-abbrev pub three_numbers : Bool → Order → Numeral → Numeral → Numeral → Option Reading
-three_numbers dashes order a b c =
-    if is_long b || (is_long a && is_long c) then None
+-- three numbers with like signs, of which one at most is long, and not the middle one: where the first is, or none is and
+-- they are digits with dashes between them, the year is first; else the order says, which must not be year first where
+-- the last is long
+abbrev pub three_numbers : List Piece → Order → Numeral → Numeral → Numeral → Option Reading
+three_numbers pieces order a b c =
+    if is_long b || (is_long a && is_long c) || has_mixed_signs pieces then None
     else if is_month_between a b c then month_between order a b.value c
     else if is_long a then in_order YearFirst a b c
     else if is_long c then (if is_year_first order then None else in_order order a b c)
-    else if dashes && in_digits a && in_digits b && in_digits c then in_order YearFirst a b c
+    else if in_digits a && in_digits b && in_digits c && has_two_dashes pieces then in_order YearFirst a b c
     else in_order order a b c
 
--- what three items say as a year, a month and a day
-abbrev pub plain_reading : Bool → Order → List Item → Option Reading
-plain_reading dashes order (Number a ∷ Month m ∷ Number c ∷ []) = month_between order a m c
-plain_reading dashes order (Month m ∷ Number a ∷ Number c ∷ []) = month_in_front m a c
-plain_reading dashes order (Number a ∷ Number b ∷ Number c ∷ []) = three_numbers dashes order a b c
-plain_reading dashes order _ = None
+-- what three items of a text of these tokens say as a year, a month and a day
+abbrev pub plain_reading : List Piece → Order → List Item → Option Reading
+plain_reading pieces order (Number a ∷ Month m ∷ Number c ∷ []) = month_between order a m c
+plain_reading pieces order (Month m ∷ Number a ∷ Number c ∷ []) = month_in_front pieces m a c
+plain_reading pieces order (Number a ∷ Number b ∷ Number c ∷ []) = three_numbers pieces order a b c
+plain_reading pieces order _ = None
 
--- the items behind a weekday, or three items before one
+-- the items behind a weekday or a day of a decade, or three items before one
 abbrev pub beside_weekday : List Item → List Item
 beside_weekday (Weekday w ∷ rest) = rest
+beside_weekday (DecadeDay n ∷ rest) = rest
 beside_weekday (a ∷ b ∷ c ∷ Weekday w ∷ []) = a ∷ b ∷ c ∷ []
+beside_weekday (a ∷ b ∷ c ∷ DecadeDay n ∷ []) = a ∷ b ∷ c ∷ []
 beside_weekday items = items
 
 -- the weekday of a number in a month by name, and the year
@@ -86,11 +92,11 @@ abbrev pub or_reading : Option Reading → Option Reading → Option Reading
 or_reading None other = other
 or_reading (Some reading) other = Some reading
 
--- what items say as a day of a year: by a month and a day, beside a weekday or alone; by a weekday in a month; or by a
--- feast
-abbrev pub civil_reading : Bool → Order → List Item → Option Reading
-civil_reading dashes order items =
-    or_reading (plain_reading dashes order (beside_weekday items))
+-- what items of a text of these tokens say as a day of a year: by a month and a day, beside a weekday or alone; by a
+-- weekday in a month; or by a feast
+abbrev pub civil_reading : List Piece → Order → List Item → Option Reading
+civil_reading pieces order items =
+    or_reading (plain_reading pieces order (beside_weekday items))
     (or_reading (weekday_in_month items) (named_reading (feast_naming items)))
 
 abbrev pub is_kalends : Mark → Bool

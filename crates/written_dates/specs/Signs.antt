@@ -1,6 +1,7 @@
 -- What the signs of a text say, and dates as registers have them.
-use Rattle.std.specs.Prelude.{ℕ, Bool, true, false, ◌&&◌, ◌||◌, ◌==◌, List, [], ◌∷◌, Option, Some, None}
+use Rattle.std.specs.Prelude.{ℕ, Bool, true, false, not, ◌&&◌, ◌||◌, ◌==◌, if◌then◌else◌, List, [], ◌∷◌, Option, Some, None}
 use Rattle.std.specs.List.{list_any, count_by}
+use Rattle.std.specs.Str.{bytes_eq}
 use Rattle.written_dates.specs.declared.tokens.Kind.{Kind}
 use Rattle.written_dates.specs.declared.tokens.Kind.TheVariants.{Blank, Hyphen, Dash, Sign, Digit, Other}
 use Rattle.written_dates.specs.Tokens.{Piece}
@@ -52,6 +53,45 @@ is_digit _ = false
 abbrev pub begins_with_digit : List Piece → Bool
 begins_with_digit [] = false
 begins_with_digit (p ∷ rest) = is_digit p.kind
+
+abbrev pub has_digits : List Piece → Bool
+has_digits tokens = list_any (λ p. is_digit p.kind) tokens
+
+-- the signs before the last digits
+abbrev pub signs_before_digits : List Piece → List Piece
+signs_before_digits [] = []
+signs_before_digits (p ∷ rest) =
+    if is_sign p.kind && has_digits rest then p ∷ signs_before_digits rest else signs_before_digits rest
+
+-- the signs between the first digits and the last
+abbrev pub signs_between : List Piece → List Piece
+signs_between [] = []
+signs_between (p ∷ rest) = if is_digit p.kind then signs_before_digits rest else signs_between rest
+
+-- dashes and slashes (47), by which "to" and "or" are written too
+abbrev pub is_bar : Piece → Bool
+is_bar p = is_dash p.kind || bytes_eq p.text (47 ∷ [])
+
+-- two signs that are not the same, nor both dashes
+abbrev pub is_other_sign : Piece → Piece → Bool
+is_other_sign p q = not (bytes_eq p.text q.text) && not (is_dash p.kind && is_dash q.kind)
+
+-- not all are the same
+abbrev pub differ : List Piece → Bool
+differ [] = false
+differ (p ∷ rest) = list_any (is_other_sign p) rest
+
+-- dashes and slashes are neither none nor two
+abbrev pub odd_bars : List Piece → Bool
+odd_bars tokens = not (count_by is_bar tokens == 0) && not (count_by is_bar tokens == 2)
+
+-- the signs between the first digits and the last differ, or dashes and slashes are neither none nor two
+abbrev pub has_mixed_signs : List Piece → Bool
+has_mixed_signs tokens = differ (signs_between tokens) || odd_bars tokens
+
+-- a dash or a slash stands between the first digits and the last
+abbrev pub has_bar_between : List Piece → Bool
+has_bar_between tokens = list_any is_bar (signs_between tokens)
 
 -- blanks and signs part what stands between them
 abbrev pub is_between : Kind → Bool

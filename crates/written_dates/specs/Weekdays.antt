@@ -1,11 +1,12 @@
 -- The weekdays of dates, by the day numbers of the calendars, and a weekday by its number in a month.
-use Rattle.std.specs.Prelude.{◌≡◌, ℕ, zero, suc, ◌+◌, ◌-◌, ◌*◌, Bool, false, not, ◌&&◌, ◌==◌, nat_le, if◌then◌else◌}
+use Rattle.std.specs.Prelude.{◌≡◌, ℕ, zero, suc, ◌+◌, ◌-◌, ◌*◌, Bool, false, not, ◌&&◌, ◌||◌, ◌==◌, nat_le, if◌then◌else◌}
 use Rattle.std.specs.Prelude.{Option, Some, None, ℤ, pos, neg_ℤ, int_le}
 use Rattle.day_numbers.specs.Days.{weekday_number}
 use Rattle.day_numbers.specs.Rules.{Rules, IsDateOf, day_number_of, days_of_month}
 use Rattle.day_numbers.specs.declared.day.Weekday.{Weekday}
 use Rattle.church_year.specs.Weekdays.{number_of}
 use Rattle.date_texts.specs.declared.calendar.Calendar.{Calendar}
+use Rattle.date_texts.specs.declared.calendar.Calendar.TheVariants.{French, Republican}
 use Rattle.date_texts.specs.Calendars.{Reckoning, by_rules, reckoning}
 
 -- day n is one that dates are read for, and is on a weekday
@@ -55,3 +56,10 @@ numbered_weekday calendar year month weekday n =
     if nat_le 1 n && nat_le n 5
     then if_no_other (is_on calendar year month n weekday) n (first_on calendar year month weekday 7 (7 * n - 6))
     else None
+
+-- in the calendar of the French Republic, the days of a month are three times ten, of which this is the number; the days
+-- behind the twelfth month have none
+abbrev pub is_decade_day : Calendar → ℕ → ℕ → ℕ → Bool
+is_decade_day French month day n = nat_le month 12 && ((day == n) || (day == n + 10) || (day == n + 20))
+is_decade_day Republican month day n = nat_le month 12 && ((day == n) || (day == n + 10) || (day == n + 20))
+is_decade_day calendar month day n = false

@@ -11,7 +11,7 @@ use Rattle.written_dates.specs.declared.meanings.Mark.{Mark}
 use Rattle.written_dates.specs.declared.meanings.Mark.TheVariants.{Kalends, Nones, Ides}
 use Rattle.written_dates.specs.declared.meanings.Name.{Name}
 use Rattle.written_dates.specs.declared.items.Item.{Item}
-use Rattle.written_dates.specs.declared.items.Item.TheVariants.{Weekday}
+use Rattle.written_dates.specs.declared.items.Item.TheVariants.{Weekday, DecadeDay}
 use Rattle.written_dates.specs.declared.items.Number.{Number}
 use Rattle.written_dates.specs.declared.rules.Order.{Order}
 use Rattle.written_dates.specs.declared.rules.Reading.{Reading}
@@ -19,7 +19,7 @@ use Rattle.written_dates.specs.declared.rules.Reading.TheVariants.{Civil, Roman}
 use Rattle.written_dates.specs.declared.rules.InYear.{InYear}
 use Rattle.written_dates.specs.declared.rules.InYear.TheVariants.{Day, NumberedWeekday, Feast}
 use Rattle.written_dates.specs.declared.written.Answer.{Answer}
-use Rattle.written_dates.specs.declared.written.Answer.TheVariants.{Stays, OtherWeekday, Refused, Date, RomanDate}
+use Rattle.written_dates.specs.declared.written.Answer.TheVariants.{Stays, NoSuchYear, OtherWeekday, Refused, Date, RomanDate}
 use Rattle.written_dates.specs.declared.written.Short.{Short}
 use Rattle.written_dates.specs.declared.written.Short.TheVariants.{Refuse, Keep, Add}
 use Rattle.written_dates.specs.declared.written.Choice.{Choice}
@@ -29,13 +29,12 @@ use Rattle.church_year.specs.declared.feasts.Feast.{Feast as Festival}
 use Rattle.church_year.specs.declared.feasts.Place.{Place}
 use Rattle.church_year.specs.FeastDates.{feast_date_in}
 use Rattle.written_dates.specs.Calendars.{form}
-use Rattle.written_dates.specs.Tokens.{tokens}
-use Rattle.written_dates.specs.Parts.{parts}
-use Rattle.written_dates.specs.Items.{items, number_of_digits}
-use Rattle.written_dates.specs.Names.{names_in}
-use Rattle.written_dates.specs.Signs.{◌>>=◌, has_other, has_minus, has_two_dashes, bare, begins_with_dash, three_runs}
+use Rattle.written_dates.specs.Tokens.{Piece, tokens}
+use Rattle.written_dates.specs.Items.{number_of_digits}
+use Rattle.written_dates.specs.Signs.{◌>>=◌, has_other, has_minus, bare, begins_with_dash, three_runs}
 use Rattle.written_dates.specs.Signs.{runs_behind_minus}
-use Rattle.written_dates.specs.Weekdays.{is_on, numbered_weekday}
+use Rattle.written_dates.specs.Sums.{found_items}
+use Rattle.written_dates.specs.Weekdays.{is_decade_day, is_on, numbered_weekday}
 use Rattle.written_dates.specs.Rules.{is_year_first, civil_reading, roman_reading}
 
 -- what is done with a year: years under 100 of at most two digits, and Hebrew ones under 1000 of at most three, are
@@ -103,7 +102,7 @@ date_or_stays year (Some found) = Date year found.0 found.1
 -- the date of a day that is named in this year
 abbrev pub date_in : Calendar → ℕ → InYear → Answer
 date_in calendar year day =
-    if has_year calendar year then date_or_stays year (month_and_day calendar year day) else Stays
+    if has_year calendar year then date_or_stays year (month_and_day calendar year day) else NoSuchYear
 
 -- the same by the rule for the year
 abbrev pub date_by_rule : Short → Calendar → ℕ → InYear → Answer
@@ -118,21 +117,23 @@ date_of choice calendar (Some (Civil year day)) =
     date_by_rule (short_rule choice calendar year) calendar year.value day
 date_of choice calendar (Some (Roman year month mark count)) = RomanDate year month mark count
 
--- a weekday that is named is that of the date
+-- a weekday, or a day of a decade, that is named is that of the date
 abbrev pub agrees : Calendar → ℕ → ℕ → ℕ → Item → Bool
 agrees calendar year month day (Weekday weekday) = is_on calendar year month day weekday
+agrees calendar year month day (DecadeDay n) = is_decade_day calendar month day n
 agrees calendar year month day item = true
 
 -- every weekday among the items has to be that of the date which is found
 abbrev pub if_agreed : Calendar → List Item → Answer → Answer
 if_agreed calendar found (Date year month day) =
-    if list_all (agrees calendar year month day) found then Date year month day else OtherWeekday
+    if list_all (agrees calendar year month day) found then Date year month day else OtherWeekday year month day
 if_agreed calendar found answer = answer
 
 -- what is written for it
 abbrev pub answer_text : List ℕ → Answer → List ℕ
 answer_text text Stays = text
-answer_text text OtherWeekday = text
+answer_text text NoSuchYear = text
+answer_text text (OtherWeekday year month day) = text
 answer_text text Refused = []
 answer_text text (Date year month day) = dated year month day
 answer_text text (RomanDate year month mark count) =
@@ -152,16 +153,16 @@ stood choice calendar kept None = kept
 stood choice calendar kept (Some n) =
     by_rule (short_rule choice calendar n.0) kept n.0.value n.1.value n.2.value
 
--- what items say in a calendar
-abbrev pub reading_by : Form → Choice → Bool → List Item → Option Reading
-reading_by forms.Civil choice dashes found = civil_reading dashes choice.order found
-reading_by forms.Roman choice dashes found = roman_reading choice.charters found
-reading_by forms.Other choice dashes found = None
+-- what items of a text of these tokens say in a calendar
+abbrev pub reading_by : Form → Choice → List Piece → List Item → Option Reading
+reading_by forms.Civil choice pieces found = civil_reading pieces choice.order found
+reading_by forms.Roman choice pieces found = roman_reading choice.charters found
+reading_by forms.Other choice pieces found = None
 
 -- the date that items say
-abbrev pub items_answer : Choice → Calendar → Bool → List Item → Answer
-items_answer choice calendar dashes found =
-    if_agreed calendar found (date_of choice calendar (reading_by (form calendar) choice dashes found))
+abbrev pub items_answer : Choice → Calendar → List Piece → List Item → Answer
+items_answer choice calendar pieces found =
+    if_agreed calendar found (date_of choice calendar (reading_by (form calendar) choice pieces found))
 
 abbrev pub answer_by : Option (List Item) → (List Item → Answer) → Answer
 answer_by None say = Stays
@@ -172,8 +173,7 @@ answer_by (Some found) say = say found
 unfoldable pub answer : Choice → Calendar → List Name → List ℕ → Answer
 answer choice calendar names text =
     if has_other (tokens 0 text) || has_minus (tokens 0 text) || begins_with_dash (bare (tokens 0 text)) then Stays
-    else answer_by (items (names_in calendar names) 0 (parts text))
-    (items_answer choice calendar (has_two_dashes (tokens 0 text)))
+    else answer_by (found_items calendar names text) (items_answer choice calendar (tokens 0 text))
 
 -- where the order is not year first, the last of three runs is long and the first is not, the year is last
 abbrev pub is_turned : Order → List ℕ → List ℕ → Bool

@@ -2,7 +2,6 @@
 
 ghost use Rattle.std.specs.Prelude.{◌≡◌, ℕ, map, Some, None, Err, IfOk};
 ghost use Rattle.std.specs.List.{list_any};
-ghost use Rattle.std.specs.Str.{str_eq_ignore_ascii_case};
 ghost use Rattle.written_dates.specs.Fields.{without_blanks as without_spec, bare_name, entry};
 ghost use Rattle.written_dates.specs.Fields.{entries, calendar_meant, is_other as other_spec, first_twofold};
 ghost use Rattle.written_dates.specs.Fields.{meant_by as meant_spec, written_calendar};
@@ -13,6 +12,7 @@ use crate::keyed_names::KeyedNames;
 use crate::names::key_of_word;
 use crate::signs::{bare, is_blank, may_be_blank};
 use crate::tokens::next_token;
+use crate::words::is_same_word;
 use date_texts::Calendar;
 use std::alloc::{AllocError, Global};
 
@@ -69,18 +69,11 @@ pub fn without_blanks(text: &[u8]) -> &[u8]
     kept
 }
 
-/// Whether two texts are the same, ASCII letter case aside.
-fn is_alike(a: &[u8], b: &[u8]) -> bool
-    ensures { result ≡ str_eq_ignore_ascii_case a.now b.now }
-{
-    a.eq_ignore_ascii_case(b)
-}
-
 /// Whether one name means two calendars.
 fn is_other(a: &CalendarName, b: &CalendarName) -> bool
     ensures { result ≡ other_spec (entry a.now) (entry b.now) }
 {
-    is_alike(a.text, b.text) && place_of(a.calendar) != place_of(b.calendar)
+    is_same_word(a.text, b.text) && place_of(a.calendar) != place_of(b.calendar)
 }
 
 /// Whether one of these names is the same and means another calendar.
@@ -100,7 +93,7 @@ fn meant_by(names: &[CalendarName], text: &[u8]) -> Option<Calendar>
     ensures { result ≡ meant_spec (map entry names.now) text.now }
 {
     'names: for name in names {
-        if is_alike(name.text, text) {
+        if is_same_word(name.text, text) {
             return Some(name.calendar);
         }
     }

@@ -9,6 +9,8 @@ ghost use Rattle.written_dates.specs.Parts.{parts};
 ghost use Rattle.written_dates.specs.Items.{number_of_digits as digits_spec, number_of as number_spec};
 ghost use Rattle.written_dates.specs.Items.{longest as longest_spec, is_long as long_spec, items, before, meant};
 ghost use Rattle.written_dates.specs.Unknown.{first_unknown};
+ghost use Rattle.written_dates.specs.Sums.{adds_up as adds_up_spec, found_items, sum_with as sum_with_spec};
+ghost use Rattle.written_dates.specs.ItemViews.{resumed};
 
 use crate::meanings::{Mark, Meaning, Name, Relation};
 use crate::names::{Names, key_of_word};
@@ -27,6 +29,8 @@ pub(crate) struct Number {
     pub value: u32,
     /// How many digits it has.
     pub digits: usize,
+    /// Whether it stands by name.
+    pub named: bool,
 }
 
 /// A part of a date.
@@ -40,6 +44,8 @@ pub(crate) enum Item {
     Mark(Mark),
     /// A day of the week.
     Weekday(Weekday),
+    /// A day of the decade in the calendar of the French Republic.
+    DecadeDay(u8),
     /// Which day is meant where a feast is named.
     Relation(Relation),
     /// A feast.
@@ -65,6 +71,7 @@ pub(crate) fn number_of_digits(text: &[u8]) -> Option<Number>
     Some(Number {
         value,
         digits: text.len(),
+        named: false,
     })
 }
 
@@ -76,7 +83,11 @@ fn number_of(part: Token) -> Option<Number>
         return number_of_digits(part.text);
     }
     match roman_number(part.text) {
-        Some(value) => Some(Number { value, digits: 0 }),
+        Some(value) => Some(Number {
+            value,
+            digits: 0,
+            named: false,
+        }),
         None => None,
     }
 }
@@ -147,9 +158,14 @@ fn item_of(meaning: Meaning) -> Option<Item>
     match meaning {
         Meaning::Nothing => None,
         Meaning::Month(month) => Some(Item::Month(month)),
-        Meaning::Number(value) => Some(Item::Number(Number { value, digits: 0 })),
+        Meaning::Number(value) => Some(Item::Number(Number {
+            value,
+            digits: 0,
+            named: true,
+        })),
         Meaning::Mark(mark) => Some(Item::Mark(mark)),
         Meaning::Weekday(weekday) => Some(Item::Weekday(weekday)),
+        Meaning::DecadeDay(number) => Some(Item::DecadeDay(number)),
         Meaning::Relation(relation) => Some(Item::Relation(relation)),
         Meaning::Feast(feast) => Some(Item::Feast(feast)),
         Meaning::Sundays(season) => Some(Item::Sundays(season)),
@@ -191,23 +207,82 @@ impl Default for Item {
     }
 }
 
+/// Whether two numbers by name are one number: thousands and one below 1000, or hundreds and one below 100.
+fn adds_up(a: Number, b: Number) -> bool
+    ensures { result ≡ adds_up_spec a b }
+{
+    a.named
+        && b.named
+        && 0 < a.value
+        && a.value < 10_000
+        && 0 < b.value
+        && ((a.value % 1000 == 0 && b.value < 1000) || (a.value % 100 == 0 && b.value < 100))
+}
+
+/// The number that two items are together, if they are one.
+fn sum_with(a: Item, b: Item) -> Option<Item>
+    ensures { result ≡ sum_with_spec a b }
+{
+    match (a, b) {
+        (Item::Number(a), Item::Number(b)) => {
+            if !adds_up(a, b) {
+                return None;
+            }
+            Some(Item::Number(Number {
+                value: a.value + b.value,
+                digits: 0,
+                named: true,
+            }))
+        }
+        _ => None,
+    }
+}
+
+/// Adds an item, and says whether there was room.
+fn try_add(found: &mut ArrayVec<Item, 5>, item: Item) -> bool
+    ensures room { result ≡ true → found.new.items ≡ found.old.items ++ item ∷ [] }
+    ensures full { result ≡ false → 5 ≤ length found.old.items }
+{
+    found.try_push(item).is_ok()
+}
+
+/// Adds an item, or adds its number to that of the last item, and says whether there was room.
+fn push_item(found: &mut ArrayVec<Item, 5>, item: Item) -> bool
+    ensures room { result ≡ true → (rest : List Item)
+        → resumed found.old.items (item ∷ rest) ≡ resumed found.new.items rest }
+    ensures full { result ≡ false → (rest : List Item) → 5 < length (resumed found.old.items (item ∷ rest)) }
+{
+    let Some(last) = found.pop() else {
+        return try_add(found, item);
+    };
+    if let Some(sum) = sum_with(last, item) {
+        return try_add(found, sum);
+    }
+    if !try_add(found, last) {
+        return false;
+    }
+    try_add(found, item)
+}
+
 /// Adds an item, if there is one, and says whether there was room.
 fn add_item(found: &mut ArrayVec<Item, 5>, item: Option<Item>) -> bool
-    ensures room { result ≡ true → found.new.items ≡ found.old.items ++ option_to_list item }
-    ensures full { result ≡ false → 5 < length found.old.items + length (option_to_list item) }
+    ensures room { result ≡ true → (rest : List Item)
+        → resumed found.old.items (option_to_list item ++ rest) ≡ resumed found.new.items rest }
+    ensures full { result ≡ false → (rest : List Item)
+        → 5 < length (resumed found.old.items (option_to_list item ++ rest)) }
 {
-    let Some(item) = item else {
-        return true;
-    };
-    found.try_push(item).is_ok()
+    match item {
+        Some(item) => push_item(found, item),
+        None => true,
+    }
 }
 
 /// The items of a text; nothing where a word is not known, or more than five items stand.
 pub(crate) fn items_of(text: &[u8], names: &Names, calendar: Calendar) -> Option<ArrayVec<Item, 5>>
     ensures some { IfSome result (λ found.
-        items (names_in calendar names.now.listed.now) 0 (parts text.now) ≡ Some found.items) }
+        found_items calendar names.now.listed.now text.now ≡ Some found.items) }
     ensures none { IfNone result ((found : List Item)
-        → items (names_in calendar names.now.listed.now) 0 (parts text.now) ≡ Some found → 5 < length found) }
+        → found_items calendar names.now.listed.now text.now ≡ Some found → 5 < length found) }
 {
     let mut found: ArrayVec<Item, 5> = ArrayVec::new();
     let mut rest = text;

@@ -20,7 +20,7 @@ pub(crate) struct KeyedNames<'a> {
 fn first_places(alloc: Global, names: &[CalendarName]) -> Result<Vec<usize>, AllocError>
     ensures { IfOk result (λ firsts. HasFirsts names.now firsts.items 0) }
 {
-    let mut firsts = vec![in alloc; names.len(); 1024]?;
+    let mut firsts = vec![in alloc; names.len(); 16384]?;
     let mut place = names.len();
     'names: while place > 0 {
         place -= 1;
@@ -47,7 +47,7 @@ impl<'a> KeyedNames<'a> {
 
     /// The names from the first one on that has this key.
     pub fn from_first(&self, key: usize) -> &[CalendarName<'a>]
-        requires { key < 1024 }
+        requires { key < 16384 }
         ensures { result.now
             ≡ drop (position_or_len (λ name. key_of name.text.now == key) self.now.names.items) self.now.names.items }
     {

@@ -1,10 +1,13 @@
 //! Laws of what is written. The functions do nothing: their contracts are the laws.
 
+ghost use Rattle.written_dates.specs.Laws.{FoldedWordsMatch, LettersAreAlike};
 ghost use Rattle.written_dates.specs.Laws.{FoundIsLongest, FoundStands, MinusDatesStay, RegisterDatesStay};
 ghost use Rattle.written_dates.specs.ReadLaws.{WeekdaysAgree, WeekdaysOnlyTest, NumberedWeekdays, NothingIsLeftOver, LongNumbersAreYears};
 ghost use Rattle.written_dates.specs.Stops.{OtherWeekdaysStop};
+ghost use Rattle.written_dates.specs.Sums.{SumsStay};
 ghost use Rattle.written_dates.specs.ReadLaws.{MonthsAreMonths, HyphensAreMinuses, MinusesAreNotRead, MinusesStay, YearsOfTheRepublic};
-ghost use Rattle.written_dates.specs.ReadLaws.{DaysStandBehindMonths, RomanNumbersAreMonths};
+ghost use Rattle.written_dates.specs.ReadLaws.{DaysStandBehindMonths, RomanNumbersAreMonths, DecadeDaysAgree};
+ghost use Rattle.written_dates.specs.ReadLaws.{MixedSignsStay, DaysToDaysStay};
 
 /// Year, month and day as registers have them stay, whatever the names, where the year is not last and is kept, or has a
 /// minus.
@@ -19,13 +22,14 @@ pub fn longest_names()
     ensures stands { FoundStands }
 {}
 
-/// Of a text with a weekday only a date is read that is on it, and beside a date it changes nothing else; the second Sunday
-/// of a month is one of its second seven days; and where another weekday is the reason that nothing is read, the text says
-/// a date that is not on it.
+/// Of a text with a weekday only a date is read that is on it, and beside a date it changes nothing else; so it is with a
+/// day of the decade; the second Sunday of a month is one of its second seven days; and where another weekday is the reason
+/// that nothing is read, the text says a date that is not on it.
 pub fn weekdays_agree()
     ensures agree { WeekdaysAgree }
     ensures test { WeekdaysOnlyTest }
     ensures numbered { NumberedWeekdays }
+    ensures decade { DecadeDaysAgree }
     ensures other { OtherWeekdaysStop }
 {}
 
@@ -46,4 +50,23 @@ pub fn minuses_stay()
     ensures found { HyphensAreMinuses }
     ensures unread { MinusesAreNotRead }
     ensures stays { MinusesStay }
+{}
+
+/// A date in three numbers is read only where its signs are alike, and its dashes and slashes are none or two; and behind a
+/// month, with a year that is not long, only where no dash and no slash stands between the day and the year.
+pub fn mixed_signs_stay()
+    ensures numbers { MixedSignsStay }
+    ensures days { DaysToDaysStay }
+{}
+
+/// Where numbers by name are read as one, the sum of all numbers stays.
+pub fn sums_stay()
+    ensures { SumsStay }
+{}
+
+/// Words that differ in the case of A to Z alone are the same; and two that are UTF-8 and not too long are so exactly where
+/// Unicode's canonical caseless match has them equal.
+pub fn same_words()
+    ensures letters { LettersAreAlike }
+    ensures matching { FoldedWordsMatch }
 {}

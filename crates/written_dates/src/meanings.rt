@@ -46,6 +46,8 @@ pub enum Meaning {
     Mark(Mark),
     /// A day of the week.
     Weekday(Weekday),
+    /// A day of the decade in the calendar of the French Republic, 1 to 10.
+    DecadeDay(u8),
     /// Which day is meant where a feast is named.
     Relation(Relation),
     /// A feast.

@@ -2,9 +2,10 @@
 
 ghost use Rattle.std.specs.Prelude.{◌≡◌, ◌<◌, ◌≤◌, ◌+◌, drop, Some, None, slice_get, OnOk, IfOk, length};
 ghost use Rattle.std.specs.List.{list_any};
+ghost use Rattle.std.specs.Str.{str_to_ascii_lowercase};
 ghost use Rattle.written_dates.specs.declared.meanings.Name.{Name as NameValue};
 ghost use Rattle.written_dates.specs.declared.names.ListFault.{ListFault as ListFaultValue};
-ghost use Rattle.written_dates.specs.Keys.{IsIndexed, ahead, place_from, key, key_of, first_text};
+ghost use Rattle.written_dates.specs.Keys.{IsIndexed, ahead, place_from, key, key_of, key_of_chars, first_text};
 ghost use Rattle.written_dates.specs.Names.{conflict as conflict_spec, same_name as same_name_spec};
 ghost use Rattle.written_dates.specs.Names.{share_calendar as share_spec, same_meaning as same_meaning_spec};
 ghost use Rattle.written_dates.specs.Names.{same_mark as same_mark_spec, is_meaning as is_meaning_spec};
@@ -15,6 +16,7 @@ ghost use Rattle.written_dates.specs.Parts.{parts};
 use crate::meanings::{Mark, Meaning, Name, Relation};
 use crate::parts::{next_part, stands};
 use crate::signs::signs_of;
+use crate::words::folded_word;
 use church_year::{is_same_feast, number_of_season, number_of_weekday};
 use date_texts::Calendar;
 use date_texts::laws::all_calendars;
@@ -27,7 +29,7 @@ pub enum NameFault {
     Character,
     /// It has no number and no word.
     NoWord,
-    /// A month that is not 1 to 13, or a number over 999,999,999.
+    /// A month that is not 1 to 13, a number over 999,999,999, or a day of the decade that is not 1 to 10.
     NoMeaning,
     /// A later name that is the same means another thing in the same calendar.
     TwoMeanings,
@@ -61,22 +63,48 @@ pub struct Names<'a> {
     ghost indexed: { IsIndexed listed.now firsts.items nexts.items 0 },
 }
 
+/// The key of bytes, with A to Z as small letters.
+fn key_of_bytes(bytes: &[u8]) -> usize
+    ensures value { result ≡ key_of_chars (str_to_ascii_lowercase bytes.now) }
+    ensures within { result < 16384 }
+{
+    let mut value: usize = 0;
+    'bytes: for byte in bytes {
+        value = (31 * value + byte.to_ascii_lowercase() as usize) % 16384;
+    }
+    value
+}
+
+/// The key of characters.
+fn key_of_chars(chars: &[char]) -> usize
+    ensures value { result ≡ key_of_chars chars.now }
+    ensures within { result < 16384 }
+{
+    let mut value: usize = 0;
+    'chars: for c in chars {
+        value = (31 * value + *c as usize) % 16384;
+    }
+    value
+}
+
 /// The key of a number or word.
 pub(crate) fn key_of_word(word: &[u8]) -> usize
     ensures value { result ≡ key_of word.now }
-    ensures within { result < 1024 }
+    ensures within { result < 16384 }
 {
-    let mut value: usize = 0;
-    'bytes: for byte in word {
-        value = (31 * value + byte.to_ascii_lowercase() as usize) % 1024;
+    if word.is_ascii() {
+        return key_of_bytes(word);
     }
-    value
+    match folded_word(word) {
+        Some(chars) => key_of_chars(chars.as_slice()),
+        None => key_of_bytes(word),
+    }
 }
 
 /// The key of a name.
 fn key_of_name(name: &Name) -> usize
     ensures value { result ≡ key name.now }
-    ensures within { result < 1024 }
+    ensures within { result < 16384 }
 {
     match next_part(name.text) {
         Some((part, _)) => key_of_word(part.text),
@@ -116,6 +144,7 @@ fn same_meaning(a: Meaning, b: Meaning) -> bool
         (Meaning::Number(a), Meaning::Number(b)) => a == b,
         (Meaning::Mark(a), Meaning::Mark(b)) => same_mark(a, b),
         (Meaning::Weekday(a), Meaning::Weekday(b)) => number_of_weekday(a) == number_of_weekday(b),
+        (Meaning::DecadeDay(a), Meaning::DecadeDay(b)) => a == b,
         (Meaning::Relation(a), Meaning::Relation(b)) => {
             number_of_relation(a) == number_of_relation(b)
         }
@@ -131,11 +160,12 @@ fn is_meaning(meaning: Meaning) -> bool
     match meaning {
         Meaning::Month(month) => 1 <= month && month <= 13,
         Meaning::Number(number) => number <= 999_999_999,
+        Meaning::DecadeDay(number) => 1 <= number && number <= 10,
         _ => true,
     }
 }
 
-/// Whether the names have the same numbers and words, ASCII letter case aside.
+/// Whether the names have the same numbers and words.
 fn same_name(a: &Name, b: &Name) -> bool
     ensures { result ≡ same_name_spec a.now b.now }
 {
@@ -166,7 +196,7 @@ impl<'a> Names<'a> {
     pub fn layered(alloc: Global, listed: &'a [Name<'a>]) -> Result<Names<'a>, AllocError>
         ensures { IfOk result (λ names. names.listed.now ≡ listed.now) }
     {
-        let mut firsts = vec![in alloc; listed.len(); 1024]?;
+        let mut firsts = vec![in alloc; listed.len(); 16384]?;
         let mut nexts = vec![in alloc; 0; listed.len()]?;
         let mut place = listed.len();
         'names: while place > 0 {
@@ -204,7 +234,7 @@ impl<'a> Names<'a> {
 
     /// The place of the first name that has a key, or the number of names.
     pub(crate) fn first_with(&self, key: usize) -> usize
-        requires { key < 1024 }
+        requires { key < 16384 }
         ensures { result ≡ place_from key self.now.listed.now 0 }
     {
         self.firsts[key]

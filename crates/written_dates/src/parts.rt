@@ -6,6 +6,7 @@ ghost use Rattle.written_dates.specs.Parts.{is_part_kind, parts, stands as stand
 ghost use Rattle.written_dates.specs.SignViews.{Stands};
 
 use crate::tokens::{Kind, Token, next_token};
+use crate::words::is_same_word;
 
 /// Whether tokens of this kind are parts.
 fn is_part(kind: Kind) -> bool
@@ -45,7 +46,7 @@ pub(crate) fn stands<'a>(name: &[u8], text: &'a [u8]) -> Option<(usize, &'a [u8]
         let Some((part, after)) = next_part(rest) else {
             return None;
         };
-        if !wanted.text.eq_ignore_ascii_case(part.text) {
+        if !is_same_word(wanted.text, part.text) {
             return None;
         }
         name_rest = name_after;

@@ -1,6 +1,7 @@
 //! What numbers, months and marks say together.
 
 ghost use Rattle.std.specs.Prelude.{◌≡◌};
+ghost use Rattle.written_dates.specs.Tokens.{tokens};
 ghost use Rattle.written_dates.specs.FeastRules.{feast_naming};
 ghost use Rattle.written_dates.specs.Rules.{in_digits as digits_spec, civil as civil_spec, in_order as order_spec};
 ghost use Rattle.written_dates.specs.Rules.{month_between as between_spec, is_month_between as is_between_spec};
@@ -11,6 +12,7 @@ ghost use Rattle.written_dates.specs.Rules.{charter_year as charter_spec, roman_
 
 use crate::feast_rules::naming_of;
 use crate::items::{Item, Number, is_long};
+use crate::joining::{has_bar_between, has_mixed_signs, has_two_dashes};
 use crate::meanings::Mark;
 use church_year::{Feast, Place};
 use day_numbers::Weekday;
@@ -90,10 +92,10 @@ fn month_between(order: Order, a: Number, month: u32, c: Number) -> Option<Readi
     }
 }
 
-fn month_in_front(month: u32, a: Number, c: Number) -> Option<Reading>
-    ensures { result ≡ front_spec month a c }
+fn month_in_front(text: &[u8], month: u32, a: Number, c: Number) -> Option<Reading>
+    ensures { result ≡ front_spec (tokens 0 text.now) month a c }
 {
-    if is_long(a) {
+    if is_long(a) || (!is_long(c) && has_bar_between(text)) {
         None
     } else {
         civil(c, month, a.value)
@@ -107,10 +109,10 @@ fn is_month_between(a: Number, b: Number, c: Number) -> bool
     in_digits(a) && !in_digits(b) && in_digits(c)
 }
 
-fn three_numbers(dashes: bool, order: Order, a: Number, b: Number, c: Number) -> Option<Reading>
-    ensures { result ≡ three_spec dashes order a b c }
+fn three_numbers(text: &[u8], order: Order, a: Number, b: Number, c: Number) -> Option<Reading>
+    ensures { result ≡ three_spec (tokens 0 text.now) order a b c }
 {
-    if is_long(b) || (is_long(a) && is_long(c)) {
+    if is_long(b) || (is_long(a) && is_long(c)) || has_mixed_signs(text) {
         None
     } else if is_month_between(a, b, c) {
         month_between(order, a, b.value, c)
@@ -122,35 +124,35 @@ fn three_numbers(dashes: bool, order: Order, a: Number, b: Number, c: Number) ->
         } else {
             in_order(order, a, b, c)
         }
-    } else if dashes && in_digits(a) && in_digits(b) && in_digits(c) {
+    } else if in_digits(a) && in_digits(b) && in_digits(c) && has_two_dashes(text) {
         in_order(Order::YearFirst, a, b, c)
     } else {
         in_order(order, a, b, c)
     }
 }
 
-/// What three items say as a year, a month and a day.
-fn plain_of(dashes: bool, order: Order, items: &[Item]) -> Option<Reading>
-    ensures { result ≡ plain_reading dashes order items.now }
+/// What three items of a text say as a year, a month and a day.
+fn plain_of(text: &[u8], order: Order, items: &[Item]) -> Option<Reading>
+    ensures { result ≡ plain_reading (tokens 0 text.now) order items.now }
 {
     let [first, second, Item::Number(c)] = items else {
         return None;
     };
     match (first, second) {
         (Item::Number(a), Item::Month(m)) => month_between(order, *a, *m as u32, *c),
-        (Item::Month(m), Item::Number(a)) => month_in_front(*m as u32, *a, *c),
-        (Item::Number(a), Item::Number(b)) => three_numbers(dashes, order, *a, *b, *c),
+        (Item::Month(m), Item::Number(a)) => month_in_front(text, *m as u32, *a, *c),
+        (Item::Number(a), Item::Number(b)) => three_numbers(text, order, *a, *b, *c),
         _ => None,
     }
 }
 
-/// The items behind a weekday, or three items before one.
-fn beside_weekday(items: &[Item]) -> &[Item]
+/// The items behind a weekday or a day of a decade, or three items before one.
+pub(crate) fn beside_weekday(items: &[Item]) -> &[Item]
     ensures { result.now ≡ beside_spec items.now }
 {
     match items {
-        [Item::Weekday(_), ..] => &items[1..],
-        [_, _, _, Item::Weekday(_)] => &items[..3],
+        [Item::Weekday(_) | Item::DecadeDay(_), ..] => &items[1..],
+        [_, _, _, Item::Weekday(_) | Item::DecadeDay(_)] => &items[..3],
         _ => items,
     }
 }
@@ -188,11 +190,11 @@ fn named_of(items: &[Item]) -> Option<Reading>
     }
 }
 
-/// What items say as a day of a year.
-pub(crate) fn civil_of(dashes: bool, order: Order, items: &[Item]) -> Option<Reading>
-    ensures { result ≡ civil_reading dashes order items.now }
+/// What items of a text say as a day of a year.
+pub(crate) fn civil_of(text: &[u8], order: Order, items: &[Item]) -> Option<Reading>
+    ensures { result ≡ civil_reading (tokens 0 text.now) order items.now }
 {
-    match plain_of(dashes, order, beside_weekday(items)) {
+    match plain_of(text, order, beside_weekday(items)) {
         Some(reading) => Some(reading),
         None => match weekday_in_month(items) {
             Some(reading) => Some(reading),

@@ -4,7 +4,7 @@ ghost use Rattle.std.specs.Prelude.{◌≡◌, ◌&&◌, ◌≤◌, ◌<◌, ◌
 ghost use Rattle.std.specs.List.{count_by};
 ghost use Rattle.written_dates.specs.Tokens.{tokens};
 ghost use Rattle.written_dates.specs.Signs.{is_sign as sign_spec, is_dash as dash_spec, is_other as other_spec};
-ghost use Rattle.written_dates.specs.Signs.{has_two_dashes, bare as bare_spec, begins_with_dash as begins_spec};
+ghost use Rattle.written_dates.specs.Signs.{bare as bare_spec, begins_with_dash as begins_spec};
 ghost use Rattle.written_dates.specs.Signs.{is_digit as digit_spec, begins_with_digit as begins_digit_spec};
 ghost use Rattle.written_dates.specs.Signs.{is_between as between_spec, has_other, has_minus};
 ghost use Rattle.written_dates.specs.Signs.{digits_first as digits_spec, behind_hyphen as hyphen_spec};
@@ -17,7 +17,7 @@ ghost use Rattle.written_dates.specs.Names.{is_empty};
 
 use crate::tokens::{Kind, byte_at, next_token, run_end};
 
-fn is_sign(kind: Kind) -> bool
+pub(crate) fn is_sign(kind: Kind) -> bool
     ensures { result ≡ sign_spec kind }
 {
     match kind {
@@ -26,7 +26,7 @@ fn is_sign(kind: Kind) -> bool
     }
 }
 
-fn is_dash(kind: Kind) -> bool
+pub(crate) fn is_dash(kind: Kind) -> bool
     ensures { result ≡ dash_spec kind }
 {
     match kind {
@@ -60,7 +60,7 @@ pub(crate) fn may_be_blank(byte: u8) -> bool
     byte == b' ' || byte == b'\t' || byte == b'\n' || byte == b'\r' || byte >= 128
 }
 
-fn is_digit(kind: Kind) -> bool
+pub(crate) fn is_digit(kind: Kind) -> bool
     ensures { result ≡ digit_spec kind }
 {
     match kind {
@@ -96,27 +96,22 @@ fn is_minus(before: Kind, kind: Kind, after: &[u8]) -> bool
     is_between(before) && is_dash(kind) && begins_with_digit(after)
 }
 
-/// Whether a character stands in a text that no date has, whether a minus may, and whether two dashes are its only signs.
-pub(crate) fn signs_of(text: &[u8]) -> (bool, bool, bool)
+/// Whether a character stands in a text that no date has, and whether a minus may.
+pub(crate) fn signs_of(text: &[u8]) -> (bool, bool)
     ensures other { result.0 ≡ has_other (tokens 0 text.now) }
     ensures minus { result.1 ≡ has_minus (tokens 0 text.now) }
-    ensures dashes { result.2 ≡ has_two_dashes (tokens 0 text.now) }
 {
     let mut other = false;
     let mut minus = false;
-    let mut dashes: usize = 0;
-    let mut signs: usize = 0;
     let mut before = Kind::Blank;
     let mut rest = text;
     'tokens: while let Some((token, after)) = next_token(rest) {
         other |= is_other(token.kind);
         minus |= is_minus(before, token.kind, after);
-        dashes += is_dash(token.kind) as usize;
-        signs += is_sign(token.kind) as usize;
         before = token.kind;
         rest = after;
     }
-    (other, minus, signs == 2 && dashes == 2)
+    (other, minus)
 }
 
 /// The text from the first token on that is no blank.

@@ -1,9 +1,14 @@
 //! Why a date as people write it is not read.
 
 ghost use Rattle.std.specs.Prelude.{◌≡◌};
-ghost use Rattle.written_dates.specs.Stops.{stop as stop_spec, stop_by as by_spec};
+ghost use Rattle.written_dates.specs.Stops.{stop as stop_spec, stop_by as by_spec, beside_by};
+ghost use Rattle.written_dates.specs.Stops.{missing as missing_spec, missing_in as missing_in_spec};
+ghost use Rattle.written_dates.specs.Sums.{found_items};
+ghost use Rattle.written_dates.specs.Written.{answer};
 
+use crate::items::{Item, is_long, items_of};
 use crate::names::Names;
+use crate::rules::beside_weekday;
 use crate::signs::{begins_with_dash, signs_of};
 use crate::written::{Answer, Choice, answer_of};
 use date_texts::Calendar;
@@ -15,20 +20,54 @@ pub enum Stop {
     Character,
     /// A dash is in front, or before a digit behind a blank or a sign: it may be a minus.
     Minus,
-    /// Its words and numbers are no date, or one that its calendar or its year does not have.
-    NoDate,
-    /// A weekday stands in it that is not that of the date.
+    /// A weekday, or a day of the decade, stands in it that is not that of the date.
     OtherWeekday,
     /// Its year is short, and such years are refused.
     ShortYear,
+    /// It has a year, alone or with a month, and no day.
+    NoDay,
+    /// It has a month and a day, and no year.
+    NoYear,
+    /// Its year is over 99, which the French Republic did not have.
+    NoSuchYear,
+    /// Its words and numbers are no date otherwise, or one that its calendar or its year does not have.
+    NoDate,
 }
 
-fn stop_by(answer: Answer) -> Option<Stop>
-    ensures { result ≡ by_spec answer }
+/// What is missing in items that say no date.
+fn missing(items: &[Item]) -> Stop
+    ensures { result ≡ missing_spec items.now }
+{
+    match items {
+        [Item::Month(_), Item::Number(n)] | [Item::Number(n), Item::Month(_)] => {
+            if is_long(*n) {
+                Stop::NoDay
+            } else {
+                Stop::NoYear
+            }
+        }
+        [Item::Number(n)] if is_long(*n) => Stop::NoDay,
+        _ => Stop::NoDate,
+    }
+}
+
+/// What is missing in a text that says no date.
+fn missing_in(text: &[u8], names: &Names, calendar: Calendar) -> Stop
+    ensures { result ≡ missing_in_spec (found_items calendar names.now.listed.now text.now) }
+{
+    match items_of(text, names, calendar) {
+        Some(found) => missing(beside_weekday(found.as_slice())),
+        None => Stop::NoDate,
+    }
+}
+
+fn stop_by(missing: Stop, answer: Answer) -> Option<Stop>
+    ensures { result ≡ by_spec missing answer }
 {
     match answer {
-        Answer::Stays => Some(Stop::NoDate),
-        Answer::OtherWeekday => Some(Stop::OtherWeekday),
+        Answer::Stays => Some(missing),
+        Answer::NoSuchYear => Some(Stop::NoSuchYear),
+        Answer::OtherWeekday(_, _, _) => Some(Stop::OtherWeekday),
         Answer::Refused => Some(Stop::ShortYear),
         _ => None,
     }
@@ -39,12 +78,28 @@ fn stop_by(answer: Answer) -> Option<Stop>
 pub fn stop_of(text: &[u8], calendar: Calendar, names: &Names, choice: &Choice) -> Option<Stop>
     ensures { result ≡ stop_spec choice.now calendar names.now.listed.now text.now }
 {
-    let (other, minus, _) = signs_of(text);
+    let (other, minus) = signs_of(text);
     if other {
         return Some(Stop::Character);
     }
     if minus || begins_with_dash(text) {
         return Some(Stop::Minus);
     }
-    stop_by(answer_of(choice, calendar, names, text))
+    let missing = missing_in(text, names, calendar);
+    stop_by(missing, answer_of(choice, calendar, names, text))
+}
+
+/// The year, the month and the day that a text says beside a weekday which is not theirs. The calendar may not have them.
+pub fn date_beside_weekday(
+    text: &[u8],
+    calendar: Calendar,
+    names: &Names,
+    choice: &Choice,
+) -> Option<(u64, u32, u32)>
+    ensures { result ≡ beside_by (answer choice.now calendar names.now.listed.now text.now) }
+{
+    match answer_of(choice, calendar, names, text) {
+        Answer::OtherWeekday(year, month, day) => Some((year, month, day)),
+        _ => None,
+    }
 }

@@ -77,7 +77,7 @@ pub fn unknown_word<'a>(text: &'a [u8], names: &Names, calendar: Calendar) -> Op
     if !has_letter(text) {
         return None;
     }
-    let (other, minus, _) = signs_of(text);
+    let (other, minus) = signs_of(text);
     if is_never_read(form_of(calendar)) || other || minus || begins_with_dash(text) {
         return None;
     }

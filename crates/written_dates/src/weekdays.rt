@@ -2,7 +2,7 @@
 
 ghost use Rattle.std.specs.Prelude.{◌≡◌, ◌≤◌};
 ghost use Rattle.written_dates.specs.Weekdays.{is_on as on_spec, first_on as first_spec};
-ghost use Rattle.written_dates.specs.Weekdays.{numbered_weekday as numbered_spec};
+ghost use Rattle.written_dates.specs.Weekdays.{numbered_weekday as numbered_spec, is_decade_day as decade_spec};
 ghost use Rattle.std.specs.Bool.{Decides};
 ghost use Rattle.day_numbers.specs.Days.{IsDayNumber, weekday_number};
 ghost use Rattle.church_year.specs.Weekdays.{number_of};
@@ -79,4 +79,17 @@ pub(crate) fn numbered_weekday(
         return None;
     }
     Some(day)
+}
+
+/// Whether a day of a month of the French Republic is this day of its decade.
+pub(crate) fn is_decade_day(calendar: Calendar, month: u32, day: u32, number: u8) -> bool
+    ensures { result ≡ decade_spec calendar month day number }
+{
+    let number = number as u32;
+    match calendar {
+        Calendar::French | Calendar::Republican => {
+            month <= 12 && (day == number || day == number + 10 || day == number + 20)
+        }
+        _ => false,
+    }
 }

@@ -23,7 +23,7 @@ use crate::meanings::Mark;
 use crate::names::Names;
 use crate::rules::{InYear, Order, Reading, civil_of, is_year_first, roman_of};
 use crate::signs::{begins_with_dash, runs_behind_minus, signs_of, three_runs};
-use crate::weekdays::{is_on, numbered_weekday};
+use crate::weekdays::{is_decade_day, is_on, numbered_weekday};
 use church_year::{Church, Feast, Place, feast_date};
 use date_texts::Calendar;
 use itoa::Buffer;
@@ -58,8 +58,10 @@ pub struct Choice {
 pub(crate) enum Answer {
     /// No date: the text stays.
     Stays,
-    /// A date that is not on a weekday which stands in the text too: the text stays.
-    OtherWeekday,
+    /// A year that the French Republic did not have: the text stays.
+    NoSuchYear,
+    /// A year, a month and a day that are not on a weekday which stands in the text too: the text stays.
+    OtherWeekday(u64, u32, u32),
     /// A date whose year is short, where these are refused.
     Refused,
     /// A year, a month and a day.
@@ -236,7 +238,7 @@ fn date_in(calendar: Calendar, year: u64, day: InYear) -> Answer
     ensures { result ≡ date_in_spec calendar year day }
 {
     if !has_year(calendar, year) {
-        return Answer::Stays;
+        return Answer::NoSuchYear;
     }
     match month_and_day(calendar, year, day) {
         Some((month, day)) => Answer::Date(year, month, day),
@@ -261,12 +263,13 @@ fn date_of(choice: &Choice, calendar: Calendar, reading: Option<Reading>) -> Ans
     }
 }
 
-/// Whether a weekday that is named is that of a date.
+/// Whether a weekday, or a day of a decade, that is named is that of a date.
 fn agrees(calendar: Calendar, year: u64, month: u32, day: u32, item: Item) -> bool
     ensures { result ≡ agrees_spec calendar year month day item }
 {
     match item {
         Item::Weekday(weekday) => is_on(calendar, year, month, day, weekday),
+        Item::DecadeDay(number) => is_decade_day(calendar, month, day, number),
         _ => true,
     }
 }
@@ -289,29 +292,29 @@ fn if_agreed(calendar: Calendar, items: &[Item], answer: Answer) -> Answer
             if all_agree(calendar, year, month, day, items) {
                 Answer::Date(year, month, day)
             } else {
-                Answer::OtherWeekday
+                Answer::OtherWeekday(year, month, day)
             }
         }
         _ => answer,
     }
 }
 
-/// What items say in a calendar.
-fn reading_of(choice: &Choice, calendar: Calendar, dashes: bool, items: &[Item]) -> Option<Reading>
-    ensures { result ≡ reading_by (form_spec calendar) choice.now dashes items.now }
+/// What items of a text say in a calendar.
+fn reading_of(choice: &Choice, calendar: Calendar, text: &[u8], items: &[Item]) -> Option<Reading>
+    ensures { result ≡ reading_by (form_spec calendar) choice.now (tokens 0 text.now) items.now }
 {
     match form_of(calendar) {
-        Form::Civil => civil_of(dashes, choice.order, items),
+        Form::Civil => civil_of(text, choice.order, items),
         Form::Roman => roman_of(choice.charters, items),
         Form::Other => None,
     }
 }
 
-/// The date that items say.
-fn items_answer(choice: &Choice, calendar: Calendar, dashes: bool, items: &[Item]) -> Answer
-    ensures { result ≡ items_answer_spec choice.now calendar dashes items.now }
+/// The date that items of a text say.
+fn items_answer(choice: &Choice, calendar: Calendar, text: &[u8], items: &[Item]) -> Answer
+    ensures { result ≡ items_answer_spec choice.now calendar (tokens 0 text.now) items.now }
 {
-    let reading = reading_of(choice, calendar, dashes, items);
+    let reading = reading_of(choice, calendar, text, items);
     if_agreed(calendar, items, date_of(choice, calendar, reading))
 }
 
@@ -320,13 +323,13 @@ fn items_answer(choice: &Choice, calendar: Calendar, dashes: bool, items: &[Item
 pub(crate) fn answer_of(choice: &Choice, calendar: Calendar, names: &Names, text: &[u8]) -> Answer
     ensures { result ≡ answer_spec choice.now calendar names.now.listed.now text.now }
 {
-    let (other, minus, dashes) = signs_of(text);
+    let (other, minus) = signs_of(text);
     if other || minus || begins_with_dash(text) {
         return Answer::Stays;
     }
     match items_of(text, names, calendar) {
         None => Answer::Stays,
-        Some(found) => items_answer(choice, calendar, dashes, found.as_slice()),
+        Some(found) => items_answer(choice, calendar, text, found.as_slice()),
     }
 }
 
@@ -335,7 +338,7 @@ fn push_answer(out: &mut Vec<u8>, text: &[u8], answer: Answer) -> Result<(), All
     ensures { OnOk result (out.new.items ≡ out.old.items ++ answer_text text.now answer) }
 {
     match answer {
-        Answer::Stays | Answer::OtherWeekday => {
+        Answer::Stays | Answer::NoSuchYear | Answer::OtherWeekday(_, _, _) => {
             out.extend_from_slice(text)?;
             Ok(())
         }

@@ -6,7 +6,7 @@ use day_numbers::Weekday;
 use std::alloc::{AllocError, Global};
 use written_dates::{
     Calendars, Choice, ListFault, Mark, Meaning, Name, NameFault, Names, NamesError, Order,
-    Relation, Short, Stop, roman_number, stop_of, write_date,
+    Relation, Short, Stop, date_beside_weekday, roman_number, stop_of, write_date,
 };
 
 /// Names: a text, what it means, and the calendars in which it does, none for all.
@@ -25,7 +25,7 @@ Nov|month 11|gregorian julian roman
 Martii|month 3|gregorian julian roman
 vendémiaire|month 1|french
 Ventôse|month 6|french
-jours complémentaires|month 13|french
+jours complémentaires|month 13|french republican
 Nisan|month 1|hebrew
 Menachem Aw|month 5|hebrew
 Aw|month 5|hebrew
@@ -54,6 +54,17 @@ Mittwoch|weekday 3|
 Donnerstag|weekday 4|
 Freitag|weekday 5|
 Samstag|weekday 6|
+primidi|decade 1|french republican
+quintidi|decade 5|french republican
+décadi|decade 10|french republican
+IIII|4|french republican
+mil|1000|
+huit cent|800|
+vingt trois|23|
+eighteen hundred|1800|
+six|6|
+trois|3|
+vingt|20|
 Dom|weekday 0|gregorian julian
 feria secunda|weekday 1|gregorian julian
 Ostern|easter 0|gregorian julian
@@ -138,6 +149,9 @@ fn meaning_of(text: &str) -> Meaning {
             let day = (number_of(day) & 0xFF) as u8;
             return Meaning::Feast(Feast::Day(Anchor::Fixed(month, day), 0));
         }
+    }
+    if let Some(number) = text.strip_prefix("decade ") {
+        return Meaning::DecadeDay((number_of(number) & 0xFF) as u8);
     }
     if let Some(number) = text.strip_prefix("weekday ") {
         return Meaning::Weekday(weekday_of(number_of(number)));
@@ -720,14 +734,82 @@ fn wrong_by_list<'a>(alloc: Global, list: &str, lines: &'a str) -> Option<&'a st
     }
 }
 
+/// Signs between numbers, days of decades, and numbers in words.
+const JOINED: &str = "\
+#gregorian day refuse refuse day-of-mark
+5-6.1806|=
+5.6-1806|=
+5/6.1806|=
+5/6-1806|=
+1806/5-12|=
+1806, 12.5.|=
+5.6,1806|=
+5-6 1806|=
+5 6/1806|=
+12 5 1806|1806-5-12
+12.5 1806|1806-5-12
+12 5.1806|1806-5-12
+12. 5. 1806.|1806-5-12
+12/5/1806|1806-5-12
+12-5-1806|1806-5-12
+12 – 5 – 1806|1806-5-12
+12–5-1806|1806-5-12
+12–5.1806|=
+1806/5/12|1806-5-12
+Montag, 12.5.1806|1806-5-12
+12.5.1806, Montag|1806-5-12
+Mo., 12/5/1806|1806-5-12
+XII-V.1806|=
+12-Mai-1806|1806-5-12
+12-Mai 1806|1806-5-12
+12. Mai, 1806|1806-5-12
+Mai 12/1806|1806-5-12
+May 12, 1806|1806-5-12
+le vingt-trois mai mil huit cent six|1806-5-23
+le vingt-trois mai mil huit cent vingt-trois|1823-5-23
+Montag, le 12 mai mil huit cent six|1806-5-12
+May 12, eighteen hundred six|1806-5-12
+12 May eighteen hundred|1800-5-12
+12 May eighteen hundred 6|=
+12 May 1800 six|=
+12 May MDCCC six|=
+vingt trois mai vingt trois|
+vingt et un mai 1806|=
+vingt trois six mai 1806|=
+#gregorian day 1800 refuse day-of-mark
+Mai 10/11|=
+Mai 10-11|=
+Mai 10 – 11|=
+Mai 10, 11|1811-5-10
+Mai 10 11|1811-5-10
+12-5-06|1812-5-6
+12/5/06|1806-5-12
+12.5-06|=
+#republican day refuse refuse day-of-mark
+décadi 20 Brumaire an VIII|8-2-20
+primidi 21 Brumaire an VIII|8-2-21
+20 Brumaire an VIII, décadi|8-2-20
+quintidi, 25.2.8|8-2-25
+primidi 20 Brumaire an VIII|=
+2 décadi Brumaire an VIII|=
+quintidi 5 jours complémentaires an VII|=
+5 jours complémentaires an VII|7-13-5
+18 Brumaire an IIII|4-2-18
+18 Brumaire 1799|=
+#french day refuse refuse day-of-mark
+décadi 20 ventôse an 6|6-6-20
+primidi 20 ventôse an 6|=
+";
+
 /// Lists of names, and dates by them. In the second the first of two names holds.
-static LISTED: [(&str, &str); 3] = [
+static LISTED: [(&str, &str); 4] = [
     (NAMES, DATES),
     (
         "Mai|month 4|gregorian\nMai|month 5|\nmai|month 6|",
         "#gregorian day refuse refuse day-of-mark\n12 Mai 1806|1806-4-12\n\
         #julian day refuse refuse day-of-mark\n12 Mai 1806|1806-5-12",
     ),
+    (NAMES, JOINED),
     (
         "5th mo|month 7|julian\n1st mo|month 3|julian\nmo|weekday 1|julian\nth||\nof||",
         "#julian month refuse refuse day-of-mark\n12th of 5th mo. 1701|1701-7-12\n\
@@ -756,6 +838,15 @@ Sonntag, 31. April 1801|OtherWeekday
 - 12. Mai 1806|Minus
 12. Mai 1806?|Character
 12. Mai 18o6|NoDate
+Mai 1806|NoDay
+1806|NoDay
+im Mai 1806|NoDay
+1806 Mai|NoDay
+Montag, Mai 1806|NoDay
+12. Mai|NoYear
+Mai 12|NoYear
+12|NoDate
+5-6.1806|NoDate
 Jan 1710/11|NoDate
 12. Mai 06|ShortYear
 Montag 12.5.06|ShortYear
@@ -769,6 +860,9 @@ fn name_of_stop(stop: Option<Stop>) -> &'static str {
         Some(Stop::Character) => "Character",
         Some(Stop::Minus) => "Minus",
         Some(Stop::NoDate) => "NoDate",
+        Some(Stop::NoDay) => "NoDay",
+        Some(Stop::NoYear) => "NoYear",
+        Some(Stop::NoSuchYear) => "NoSuchYear",
         Some(Stop::OtherWeekday) => "OtherWeekday",
         Some(Stop::ShortYear) => "ShortYear",
     }
@@ -805,6 +899,36 @@ fn wrong_stop(alloc: Global) -> Option<&'static str> {
     None
 }
 
+/// What is said in a calendar of the French Republic, or of a weekday.
+fn other_stops(alloc: Global) -> bool {
+    let Ok(listed) = names_in(alloc, NAMES, '\n') else {
+        return false;
+    };
+    let Ok(names) = Names::layered(alloc, listed.as_slice()) else {
+        return false;
+    };
+    let choice = Choice {
+        order: Order::DayFirst,
+        short_years: Short::Refuse,
+        short_hebrew_years: Short::Refuse,
+        charters: false,
+    };
+    let sunday = "Sonntag, 12. Mai 1806".as_bytes();
+    let monday = "Montag, 12. Mai 1806".as_bytes();
+    let stop = |text: &str| stop_of(text.as_bytes(), Calendar::French, &names, &choice);
+    let beside = |text: &[u8]| date_beside_weekday(text, Calendar::Gregorian, &names, &choice);
+    stop("18 Brumaire 1799") == Some(Stop::NoSuchYear)
+        && stop("primidi 20 ventôse an 6") == Some(Stop::OtherWeekday)
+        && stop("décadi 20 ventôse an 6").is_none()
+        && beside(sunday) == Some((1806, 5, 12))
+        && beside(monday).is_none()
+}
+
+#[test]
+fn dates_are_stopped_otherwise(rt: HostRuntime) {
+    assert!(rt; other_stops(rt.alloc()));
+}
+
 #[test]
 fn dates_are_stopped(rt: HostRuntime) {
     let wrong = wrong_stop(rt.alloc());
@@ -830,6 +954,10 @@ Mai|month 13|=sound
 Mai|month 14|=0 NoMeaning
 cc|999999999|=sound
 cc|1000000000|=0 NoMeaning
+décadi|decade 10|=sound
+décadi|decade 11|=0 NoMeaning
+décadi|decade 0|=0 NoMeaning
+décadi|decade 10|french;décadi|decade 1|french=0 TwoMeanings
 Kal|K|;kal|N|=0 TwoMeanings
 Kal|K|;kal|K|=sound
 =sound

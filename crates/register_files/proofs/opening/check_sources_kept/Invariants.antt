@@ -1,9 +1,10 @@
 use Rattle.register_files.proofs.Common.{◌++◌, codes, map}
+use Rattle.register_files.specs.Openings.{IsNoSource}
 use Rattle.register_files.proofs.MatchLemmas.{HoldBefore}
 use Rattle.register_files.proofs.opening.check_sources_kept.Given as goal
 
--- the output of each file so far does not go to the file itself
+-- the output of each file so far goes to none of the files
 abbrev pub invariant-files : goal.invariant-files
 invariant-files g l =
-    HoldBefore (λ file. g.P.FileStore.are_apart l.store file (file ++ codes ".out.csv")) (map (λ f. f.now) l.files)
-    l.file-index
+    HoldBefore (λ file. IsNoSource (g.P.FileStore.are_apart l.store) (map (λ f. f.now) l.files)
+    (file ++ codes ".out.csv")) (map (λ f. f.now) l.files) l.file-index

@@ -1,4 +1,4 @@
-use Rattle.std.proofs.Common.{◌≡◌, ◌-◌, rules, Some, slice_get, get_or, arith}
+use Rattle.std.proofs.Common.{◌≡◌, ◌-◌, Some, slice_get, get_or, arith}
 use Rattle.std.proofs.lemmas.Option.{slice_get-get_or}
 use Rattle.written_dates.proofs.FieldLemmas.{no_name}
 use Rattle.written_dates.proofs.KeyedLemmas.{keyed_more, nothing_keyed}
@@ -7,7 +7,8 @@ use Rattle.written_dates.proofs.keyed_names.first_places.Goals as goal
 pub names-init : goal.names-init
 names-init c = record {
   within = omega arith;
-  firsts = nothing_keyed c.args.names.now c.in_ok-firsts.firsts.items (search rules);
+  firsts = nothing_keyed c.args.names.now c.in_ok-firsts.firsts.items
+      (c.in_ok-firsts.ensures.items_if_clones_equal (λ y same. same));
 }
 
 pub names-preserved : goal.names-preserved

@@ -8,7 +8,7 @@ pub names-init : goal.names-init
 names-init c = record {
   within = omega arith;
   indexed = nothing_indexed c.args.listed.now c.in_ok-firsts.firsts.items c.in_ok-nexts.nexts.items
-      (search rules) (search rules);
+      (c.in_ok-firsts.ensures.items_if_clones_equal (λ y same. same)) (search rules);
 }
 
 pub names-preserved : goal.names-preserved

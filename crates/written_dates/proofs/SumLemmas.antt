@@ -1,0 +1,150 @@
+-- Items are added from the left, and numbers that add up become one.
+use Rattle.std.proofs.Common.{◌≡◌, ℕ, ◌+◌, ◌<◌, ◌≤◌, Bool, true, false, cond, List, [], ◌∷◌, ◌++◌, length, refl, sym, ap, ◌∙◌, arith}
+use Rattle.std.proofs.Common.{Option, Some, None, append_assoc, append-nil, length-append}
+use Rattle.std.specs.Prelude.{option_map}
+use Rattle.std.proofs.lemmas.Bool.{true≢false}
+use Rattle.written_dates.specs.declared.items.Number.{Number as Numeral}
+use Rattle.written_dates.specs.declared.items.Item.{Item}
+use Rattle.written_dates.specs.declared.items.Item.TheVariants.{Number}
+use Rattle.written_dates.specs.declared.meanings.Name.{Name}
+use Rattle.written_dates.specs.Tokens.{Piece}
+use Rattle.written_dates.specs.Items.{before, items}
+use Rattle.written_dates.specs.ItemViews.{resumed}
+use Rattle.written_dates.specs.Sums.{SumsStay, adds_up, sum_or, sum_with, summed, summed_from, total, value_of}
+
+-- ---- the last item may still grow
+last_resumed : (xs : List Item) (last : Item) (rest : List Item)
+    → resumed (xs ++ last ∷ []) rest ≡ xs ++ summed_from last rest
+unfolding resumed
+last_resumed [] last rest = refl
+last_resumed (x ∷ []) last rest = refl
+last_resumed (x ∷ y ∷ more) last rest = ap (λ (zs : List Item). x ∷ zs) (last_resumed (y ∷ more) last rest)
+
+pub first_resumed : (item : Item) (rest : List Item) → resumed [] (item ∷ rest) ≡ resumed (item ∷ []) rest
+unfolding resumed
+first_resumed item rest = refl
+
+grown : (last item : Item) (o : Option Item) (rest : List Item) → sum_with last item ≡ o
+    → summed_from last (item ∷ rest) ≡ sum_or o last item (λ z. summed_from z rest)
+unfolding summed_from
+grown last item o rest e = rw e refl
+
+pub sum_resumed : (old new found : List Item) (last item sum : Item) (rest : List Item)
+    → old ≡ new ++ last ∷ [] → found ≡ new ++ sum ∷ [] → sum_with last item ≡ Some sum
+    → resumed old (item ∷ rest) ≡ resumed found rest
+sum_resumed old new found last item sum rest was is e =
+    rw (was, is)
+    (last_resumed new last (item ∷ rest) ∙ ap (λ (zs : List Item). new ++ zs) (grown last item (Some sum) rest e)
+    ∙ sym (last_resumed new sum rest))
+
+apart : (new : List Item) (last item : Item) (rest : List Item) → sum_with last item ≡ None
+    → resumed (new ++ last ∷ []) (item ∷ rest) ≡ (new ++ last ∷ []) ++ summed_from item rest
+apart new last item rest e =
+    last_resumed new last (item ∷ rest) ∙ ap (λ (zs : List Item). new ++ zs) (grown last item None rest e)
+    ∙ sym (append_assoc new (last ∷ []) (summed_from item rest))
+
+pub item_resumed : (old new found : List Item) (last item : Item) (rest : List Item)
+    → old ≡ new ++ last ∷ [] → found ≡ old ++ item ∷ [] → sum_with last item ≡ None
+    → resumed old (item ∷ rest) ≡ resumed found rest
+item_resumed old new found last item rest was is e =
+    rw (is, was) (apart new last item rest e ∙ sym (last_resumed (new ++ last ∷ []) item rest))
+
+some_by : (x y : Item) (o : Option Item) (next : Item → List Item) → ((z : Item) → 0 < length (next z))
+    → 0 < length (sum_or o x y next)
+some_by x y None next h = omega arith
+some_by x y (Some z) next h = h z
+
+some_summed : (x : Item) (rest : List Item) → 0 < length (summed_from x rest)
+unfolding summed_from
+some_summed x [] = omega arith
+some_summed x (y ∷ rest) = some_by x y (sum_with x y) (λ z. summed_from z rest) (λ z. some_summed z rest)
+
+pub none_first : (old new found : List Item) (item : Item) (rest : List Item) → old ≡ new ++ []
+    → (0 < length old → false ≡ true) → found ≡ new ++ item ∷ [] → resumed old (item ∷ rest) ≡ resumed found rest
+none_first [] new found item rest was none is =
+    let empty : new ≡ [] = sym (was ∙ append-nil new) in rw (is, empty) (first_resumed item rest)
+none_first (x ∷ xs) new found item rest was none is = absurd (true≢false (sym (none (omega arith))))
+
+-- with five items there is no room
+pub full_sum : (old new : List Item) (last item sum : Item) (rest : List Item) → old ≡ new ++ last ∷ []
+    → sum_with last item ≡ Some sum → 5 ≤ length new → 5 < length (resumed old (item ∷ rest))
+full_sum old new last item sum rest was e five =
+    let is = sum_resumed old new (new ++ sum ∷ []) last item sum rest was refl e in
+    omega (
+      arith,
+      ap length (is ∙ last_resumed new sum rest),
+      length-append new (summed_from sum rest),
+      some_summed sum rest,
+    )
+
+pub full_apart : (old new : List Item) (last item : Item) (rest : List Item) → old ≡ new ++ last ∷ []
+    → sum_with last item ≡ None → 4 ≤ length new → 5 < length (resumed old (item ∷ rest))
+full_apart old new last item rest was e four =
+    let is : resumed old (item ∷ rest) ≡ old ++ summed_from item rest = rw was (apart new last item rest e) in
+    omega (
+      arith,
+      ap length is,
+      length-append old (summed_from item rest),
+      some_summed item rest,
+      ap length was,
+      length-append new (last ∷ []),
+    )
+
+-- ---- the items of a text
+pub end_resumed : (xs : List Item) → resumed xs [] ≡ xs
+unfolding resumed summed_from
+end_resumed [] = refl
+end_resumed (x ∷ []) = refl
+end_resumed (x ∷ y ∷ more) = ap (λ (zs : List Item). x ∷ zs) (end_resumed (y ∷ more))
+
+pub none_resumed : (o : Option (List Item)) → option_map summed o ≡ option_map (resumed []) o
+unfolding resumed
+none_resumed None = refl
+none_resumed (Some xs) = refl
+
+pub more_resumed : (old found front : List Item) (rest : Option (List Item))
+    → ((ys : List Item) → resumed old (front ++ ys) ≡ resumed found ys)
+    → option_map (resumed old) (before front rest) ≡ option_map (resumed found) rest
+more_resumed old found front None h = refl
+more_resumed old found front (Some ys) h = ap Some (h ys)
+
+pub full_items : (old front all : List Item) (rest : Option (List Item))
+    → ((ys : List Item) → 5 < length (resumed old (front ++ ys)))
+    → option_map (resumed old) (before front rest) ≡ Some all → 5 < length all
+full_items old front all None h e = absurd (cc)
+full_items old front all (Some ys) h e =
+    let same : resumed old (front ++ ys) ≡ all = cc in omega (arith, h ys, ap length same)
+
+pub all_items : (found : List Item) (names : List Name) (whole : Option (List Item)) (rest : List Piece)
+    → whole ≡ option_map (resumed found) (items names 0 rest) → rest ≡ [] → whole ≡ Some found
+unfolding items
+all_items found names whole rest e h =
+    let none : items names 0 rest ≡ Some [] = rw h refl in rw none at e ∙ ap Some (end_resumed found)
+
+pub no_items : (found all : List Item) (whole rest : Option (List Item)) → whole ≡ option_map (resumed found) rest
+    → rest ≡ None → whole ≡ Some all → ⊥
+no_items found all whole (Some zs) e h f = cc
+no_items found all whole None e h f = cc
+
+-- ---- the sum of all numbers stays
+summed_if : (b : Bool) (a c : Numeral) (rest : List Item)
+    → ((z : Item) → total (summed_from z rest) ≡ value_of z + total rest)
+    → total (sum_or (cond b (Some (Number (record { value = a.value + c.value; digits = 0; named = true }))) None)
+    (Number a) (Number c) (λ z. summed_from z rest)) ≡ a.value + (c.value + total rest)
+summed_if true a c rest h =
+    h (Number (record { value = a.value + c.value; digits = 0; named = true })) ∙ omega arith
+summed_if false a c rest h = ap (λ n. a.value + n) (h (Number c))
+
+summed_more : (x y : Item) (rest : List Item) → ((z : Item) → total (summed_from z rest) ≡ value_of z + total rest)
+    → total (sum_or (sum_with x y) x y (λ z. summed_from z rest)) ≡ value_of x + (value_of y + total rest)
+summed_more (Number a) (Number c) rest h = summed_if (adds_up a c) a c rest h
+summed_more x y rest h = ap (λ n. value_of x + n) (h y)
+
+total_from : (x : Item) (rest : List Item) → total (summed_from x rest) ≡ value_of x + total rest
+unfolding summed_from
+total_from x [] = refl
+total_from x (y ∷ rest) = summed_more x y rest (λ z. total_from z rest)
+
+pub sums_stay : SumsStay
+sums_stay [] = refl
+sums_stay (x ∷ rest) = total_from x rest

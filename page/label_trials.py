@@ -60,7 +60,7 @@ class LabelTrials:
     def given(self, name, text, calendar="Julian"):
         self.anew()
         self.give(self.file(name, text))
-        wait_for("the columns", lambda: self.page.run("return document.querySelector('#sheet-date-0') !== null"))
+        wait_for("the columns", lambda: self.page.run("return !document.querySelector('#sheet-end').hidden"))
         self.page.run("document.querySelector('#sheet-fold').open = true")
         self.option("#sheet-date-0", "^D$")
         self.option("#sheet-calendar-0", f"^{calendar}")

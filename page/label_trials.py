@@ -259,12 +259,13 @@ class LabelTrials:
 
     def try_print(self):
         """What is printed is no wider than the paper, and has tables alone."""
-        if not hasattr(self.page, "cdp"):
-            return
         self.open()
         head, row = ",".join(f"Spalte mit Namen {i}" for i in range(14)), ",".join(["ein Wort und noch eines"] * 13)
-        self.sheet(self.file("wide.csv", f"D,{head}\n1700-1-1,{row},x\n"), "utf-8", 44, -1, "julian", 0)
+        self.sheet(self.file("wide.csv", f"D,{head}\n1700-1-1,{row},x\n1700-2-30,{row},y\n"), "utf-8", 44, -1, "julian", 0)
         self.convert_sheet()
+        self.check("the reason beside a wide table is in sight, below its row", [True, True], self.reasons("#sheet-results", 150)[0])
+        if not hasattr(self.page, "cdp"):
+            return
         self.page.cdp("Emulation.setEmulatedMedia", media="print")
         self.page.width(700)
         wide = self.page.run("return [document.documentElement.scrollWidth, document.querySelector('#sheet-results table').getBoundingClientRect().right]")

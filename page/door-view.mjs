@@ -13,7 +13,8 @@ function entryRow({ number, name, is, as, choices, canOpen, isOpen }) {
   const line = element('li'), what = line.appendChild(element('span', name, { className: 'entry-name' }));
   if (choices.length === 0) {
     what.append(': ', ...element('span', is).childNodes);
-    const remove = element('button', WORDS.takeOff, { type: 'button', className: 'second small', id: `remove-entry-${number}` });
+    const own = { type: 'button', className: 'second small', id: `remove-entry-${number}` };
+    const remove = element('button', WORDS.takeOff, own);
     remove.setAttribute('aria-label', textOf([WORDS.takeOff, ': ', name]));
     line.append(remove);
   } else {

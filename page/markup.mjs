@@ -25,7 +25,8 @@ function attributesOf(text) {
 /**
  * Tells `take` each element that begins, with its name and its attributes, each that ends, and each text between them.
  * @param {string} text
- * @param {{ begins(name: string, attributes: Record<string, string>): void, ends(name: string): void, text(text: string): void }} take
+ * @param {{ begins(name: string, attributes: Record<string, string>): void, ends(name: string): void,
+ *   text(text: string): void }} take
  */
 export function readMarkup(text, take) {
   for (const [, data, isEnd, name, attributes, isEmpty, between] of text.matchAll(PIECE)) {

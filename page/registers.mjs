@@ -52,8 +52,8 @@ export const emptied = ({ atOnce, isEarly, runs }) => ({ ...initial(1), atOnce, 
 
 /** The run that is shown: none with other columns than those of now, and none of which nothing was converted. */
 export function shownRun({ choice, run }) {
-  const isShown = run !== null && run.columns.join() === choice.columns.join() && run.jobs.some(({ status }) => status !== 'new');
-  return isShown ? run : null;
+  const hasBegun = run !== null && run.jobs.some(({ status }) => status !== 'new');
+  return hasBegun && run.columns.join() === choice.columns.join() ? run : null;
 }
 
 export const isRunning = ({ run }) => run !== null && run.jobs.some((job) => ['waits', 'runs'].includes(job.status));
@@ -80,7 +80,8 @@ export function chosen(state, change) {
 // The run with the jobs of these files: new ones for those that have none.
 function runWith(run, { files, left }) {
   const all = [...run.jobs, ...run.aside], free = 1 + Math.max(-1, ...all.map(({ number }) => number));
-  const jobs = files.map((file, i) => jobOf(all, file) || newJob(file, free + i)), isNow = (job) => jobs.some(isNumber(job));
+  const jobs = files.map((file, i) => jobOf(all, file) || newJob(file, free + i));
+  const isNow = (job) => jobs.some(isNumber(job));
   const aside = all.filter((job) => !isNow(job) && left.some(({ file }) => file === job.file));
   const opened = jobs.some(({ number }) => number === run.opened) ? run.opened : null;
   return { ...run, jobs, aside, opened, archive: null };
@@ -119,7 +120,7 @@ function scheduled(state, now) {
 
 // The conversion goes on with what did not end yet, or else with what broke off.
 function continued(state, run, now) {
-  const isNext = run.jobs.some(({ status }) => status !== 'ended') ? ({ status }) => status !== 'ended' : (job) => !isWhole(job);
+  const isLeft = ({ status }) => status !== 'ended', isNext = run.jobs.some(isLeft) ? isLeft : (job) => !isWhole(job);
   const jobs = run.jobs.map((job) => (isNext(job) ? waitingJob(job.file, job.number, job.tries + 1) : job));
   return scheduled({ ...state, run: { ...run, begun: now, jobs, archive: null }, notice: '' }, now);
 }

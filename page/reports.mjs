@@ -34,8 +34,11 @@ function adviceOfDates(state, counts) {
 }
 
 // The same of dates; of several columns, each with its name before the reason.
-const dateCountRows = (state, counts, names) => counts.flatMap((ofColumn, k) => countRows(ofColumn, adviceOfDates(state, counts))
-  .map(([count, reason, advice]) => [count, names.length === 1 ? reason : [names[k], ' ', reason], advice]));
+function dateCountRows(state, counts, names) {
+  const advices = adviceOfDates(state, counts), named = (reason, k) => (names.length === 1 ? reason : [names[k], ' ', reason]);
+  return counts.flatMap((ofColumn, k) =>
+    countRows(ofColumn, advices).map(([count, reason, advice]) => [count, named(reason, k), advice]));
+}
 
 // What a spreadsheet may do with fields of a table.
 const cautionOf = ({ formulas: { count, example } }) => (count === 0 ? '' : WORDS.formulas(count, shortened(example)));
@@ -95,7 +98,8 @@ function isWords({ kind, delimiter, sealed, firstLine, isWorkbook }) {
 }
 
 // What a file can be taken for, with what it is where it looks so.
-const asChoices = ({ look }) => choicesOf({ look }).map((kind) => [kind, kind === look.kind ? isWords(look) : WORDS.isKind[kind]]);
+const asChoices = ({ look }) =>
+  choicesOf({ look }).map((kind) => [kind, kind === look.kind ? isWords(look) : WORDS.isKind[kind]]);
 
 // What cannot be taken stands first, and registers last: they may be many.
 const ranks = (it) => (it.look.kind === 'register' ? 2 : Number(canBeOther(it) || it.look.kind === 'choices'));
@@ -279,8 +283,10 @@ export function registerPicture(job) {
 }
 
 /** What was given beside registers, and is none, each with the reason. */
-export const leftRows = (left) => left.map((it) =>
-  ({ name: it.file.name, why: WORDS.leftOut(it.as === it.look.kind || it.as === 'nothing' ? isWords(it.look) : WORDS.isKind[it.as]) }));
+export const leftRows = (left) => left.map(({ file, as, look }) => {
+  const isAsItLooks = as === look.kind || as === 'nothing';
+  return { name: file.name, why: WORDS.leftOut(isAsItLooks ? isWords(look) : WORDS.isKind[as]) };
+});
 
 // Those that broke off stand first, and then those that were stopped, and that are not converted yet.
 const KINDS = ['broken', 'stopped', 'new'];
@@ -348,10 +354,11 @@ export function sheetSummary(state) {
   const first = sheet.beginning(state), { source, picks, columns } = state;
   if (source.file === null) return '';
   if (first === null) return [{ own: source.file.name }];
-  const form = first.pages ? [WORDS.pageNamed(first.pages[first.page])] : [first.widest > 1 && WORDS.delimiters[source.delimiter],
-    encodingOf(state)];
+  const form = first.pages ? [WORDS.pageNamed(first.pages[first.page])]
+    : [first.widest > 1 && WORDS.delimiters[source.delimiter], encodingOf(state)];
   const how = first.isOfTree ? [WORDS.aTree] : [...form, source.above > 0 && WORDS.titleLines(source.above)].filter(Boolean);
-  const dates = sheet.missing(state) ? [WORDS.chooseDates.replace(/\.$/, '')] : datesInWords(state, dateNames(state), first.heading);
+  const dates = sheet.missing(state) ? [WORDS.chooseDates.replace(/\.$/, '')]
+    : datesInWords(state, dateNames(state), first.heading);
   const parts = [...how, ...dates, WORDS.orders[picks.order], WORDS.behindThem(columns)];
   return [{ own: source.file.name }, ': ', ...parts.flatMap((it, i) => (i === 0 ? [it] : [', ', it]))];
 }
@@ -367,7 +374,8 @@ export function sheetOrders(state) {
   const reply = sheet.shownOrders(state), names = ['year', 'day', 'month'], chosen = names.indexOf(state.picks.order);
   if (!reply || !reply.answer || sheet.shownRun(state) !== null) return [];
   const { orders } = reply.answer, isDecided = orders.some(({ decides }) => decides);
-  const isOffered = ({ more, decides }, i) => i !== chosen && (isDecided ? decides && (more || !orders[chosen].decides) : more > 0);
+  const isNeeded = ({ more, decides }) => (isDecided ? decides && (more || !orders[chosen].decides) : more > 0);
+  const isOffered = (it, i) => i !== chosen && isNeeded(it);
   return names.flatMap((order, i) => (isOffered(orders[i], i)
     ? [{ order, words: orderWords(order, orders[i]), button: WORDS.takeOrder[order] }] : []));
 }
@@ -508,7 +516,8 @@ export function sheetReport(state) {
   if (run === null || run.status !== 'ended') return null;
   const title = run.source.file.name, { answer } = run.reply;
   if (!answer || answer.ending !== 0) return { title, ...brokenSheet(run.reply, encodingOf(state)) };
-  const { rows, refused, empty, blank, counts } = answer, names = dateNames(state), { first, table } = sortedAnswer(run) || answer;
+  const { rows, refused, empty, blank, counts } = answer, names = dateNames(state);
+  const { first, table } = sortedAnswer(run) || answer;
   const stem = stemOf(title), name = `${stem}${WORDS.sheetSuffix}`;
   const ofEach = names.map((it, k) => [it, refused[k], empty[k]]), said = rows - blank;
   const words = names.length === 1 ? WORDS.whole(said, refused[0], empty[0]) : WORDS.wholeSheet(said, ofEach);

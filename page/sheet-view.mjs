@@ -147,7 +147,8 @@ function takeSource(step) {
   onCheck('sheet-delimiter', (value) => step(sourceChosen, { delimiter: Number(value) }));
   byId('sheet-above').addEventListener('change', ({ target }) => {
     const isNumberOfLines = /^\s*\d{1,3}\s*$/.test(target.value);
-    const { source: { above } } = isNumberOfLines ? step(sourceChosen, { above: Number(target.value) }) : step(wronglyTyped, 'above');
+    const { source: { above } } =
+      isNumberOfLines ? step(sourceChosen, { above: Number(target.value) }) : step(wronglyTyped, 'above');
     // What is typed wrongly does not stay beside what was read with another number.
     target.value = above === null ? '' : String(above);
   });
@@ -239,7 +240,8 @@ function ordersView(step) {
     const had = box.contains(document.activeElement);
     box.replaceChildren(...orders.map(({ order, words, button }) => {
       const line = element('p', words, { className: 'order' });
-      const take = line.appendChild(element('button', button, { type: 'button', className: 'second small', id: `sheet-order-${order}` }));
+      const own = { type: 'button', className: 'second small', id: `sheet-order-${order}` };
+      const take = line.appendChild(element('button', button, own));
       take.addEventListener('click', () => step(picked, { order }));
       return line;
     }));
@@ -313,7 +315,8 @@ function resultView(step) {
 function scrolledTo() {
   let seen = null;
   return (state) => {
-    const { source: { file }, begins } = state, isKnown = begins !== null && (shownPreview(state) !== null || missing(state));
+    const { source: { file }, begins } = state;
+    const isKnown = begins !== null && (shownPreview(state) !== null || missing(state));
     if (file === null || file === seen || !isKnown) return;
     seen = file;
     if (byId('sheet-fold').open || byId('sheet-start').getBoundingClientRect().bottom <= innerHeight) return;

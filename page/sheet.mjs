@@ -42,7 +42,8 @@ const NOTHING = { encoding: null, delimiter: null, above: null };
  */
 export function initial(processors) {
   return {
-    source: { file: null, isTree: null, hasFileDates: false, page: null, encoding: 'utf-8', delimiter: 44, above: 0 }, proposed: NOTHING, kept: null, fit: null,
+    source: { file: null, isTree: null, hasFileDates: false, page: null, encoding: 'utf-8', delimiter: 44, above: 0 },
+    proposed: NOTHING, kept: null, fit: null,
     reading: 0, begins: null, picks: noPicks(), columns: ['weekday', 'gregorian'], unknown: null, orders: null, listed: [],
     preview: null, run: null, runs: 0, worker: 0, notice: '',
     isEarly: isEarlyBy(processors), given: null, held: {}, readings: 0,
@@ -123,7 +124,8 @@ function heldWith({ held, ...state }) {
  */
 export function fileChosen(state, given) {
   if (isRunning(state)) return { ...state, notice: 'stopFirst' };
-  const held = heldWith(state), { file, as, proposed, number } = given || { file: null, as: 'sheet', proposed: null, number: null };
+  const none = { file: null, as: 'sheet', proposed: null, number: null };
+  const held = heldWith(state), { file, as, proposed, number } = given || none;
   const own = given && held[keyOf({ number, as })];
   const next = { ...state, held, given: given && number !== undefined ? { number, as } : null };
   if (own && isSameFile(own.source.file, file)) return { ...next, ...own, worker: state.worker + 1, notice: '' };
@@ -142,7 +144,8 @@ export function fileChosen(state, given) {
  */
 export function choicesChosen(state, file) {
   if (isRunning(state)) return { ...state, notice: 'stopFirst' };
-  const { file: ownFile, isTree, hasFileDates, page } = state.source, own = { file: ownFile, isTree, hasFileDates, page, ...NOTHING };
+  const { file: ownFile, isTree, hasFileDates, page } = state.source;
+  const own = { file: ownFile, isTree, hasFileDates, page, ...NOTHING };
   return chosenAnew(state, own, { file, choices: null, isFilled: false });
 }
 
@@ -409,7 +412,9 @@ export function tasks(state) {
     wanted.push(task(previewKey(state), 'preview', { ...wordsOf(state), dates: dates.length, columns }));
   }
   if (shownUnknown(state) === null) wanted.push(task(unknownKey(state), 'unknownNames', wordsOf(state)));
-  else if (shownOrders(state) === null && shownRun(state) === null) wanted.push(task(ordersKey(state), 'orders', ordersWords(state)));
+  else if (shownOrders(state) === null && shownRun(state) === null) {
+    wanted.push(task(ordersKey(state), 'orders', ordersWords(state)));
+  }
   return wanted.length ? wanted : gatherTasks(state);
 }
 

@@ -32,7 +32,9 @@ function passedOn(before, state) {
     return { ...state, door: door.followed(state.door, files) };
   }
   let { registers: many, sheet: own } = state;
-  if (!isSame(was.registers, is.registers) || !isSame(was.left, is.left)) many = registers.chosen(many, { files: is.registers, left: is.left });
+  if (!isSame(was.registers, is.registers) || !isSame(was.left, is.left)) {
+    many = registers.chosen(many, { files: is.registers, left: is.left });
+  }
   if (was.sheet !== is.sheet) own = sheet.fileChosen(own, is.sheet);
   if (was.choices !== is.choices && is.choices !== null) own = sheet.choicesChosen(own, is.choices.file);
   return { ...state, registers: many, sheet: own };

@@ -27,7 +27,8 @@ export const kindOfBook = (files) => (files.has(XLSX) ? 'xlsx' : files.has(XLSB)
 const two = (number) => String(number).padStart(2, '0');
 
 function dayAndTime(time, hasDay, hasTime) {
-  const at = new Date(time), day = `${String(at.getUTCFullYear()).padStart(4, '0')}-${two(at.getUTCMonth() + 1)}-${two(at.getUTCDate())}`;
+  const at = new Date(time), year = String(at.getUTCFullYear()).padStart(4, '0');
+  const day = `${year}-${two(at.getUTCMonth() + 1)}-${two(at.getUTCDate())}`;
   const clock = [at.getUTCHours(), at.getUTCMinutes(), at.getUTCSeconds()].map(two).join(':');
   if (!hasDay) return clock;
   return hasTime && clock !== '00:00:00' ? `${day} ${clock}` : day;

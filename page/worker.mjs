@@ -237,7 +237,8 @@ async function picture({ compiled, text, delimiter, sealed }) {
   const module = await instantiate(compiled), own = await partOf(module, text);
   const entries = module.registerDays(own, delimiter, sealed);
   if (entries.ending === 1) throw new NoMemory();
-  return timelineOf(module, own, delimiter, { ...entries, empty: emptyAmong(module, own, delimiter, DATE_AT, 1, entries.days) });
+  const empty = emptyAmong(module, own, delimiter, DATE_AT, 1, entries.days);
+  return timelineOf(module, own, delimiter, { ...entries, empty });
 }
 
 // Which of these days are those of records without a date, which stands in this column; or null where each has a day.
@@ -351,7 +352,8 @@ async function readSheet({ compiled, number, file, encoding: chosen, ...source }
   const isOfTree = source.isTree ?? isTree(beginning);
   if (isOfTree && !read.isAscii && isAnsel(beginning)) throw new OtherKind('ansel');
   if (isOfTree && !read.isAscii && chosen === null && isIbmPc(beginning)) throw new OtherKind('ibmpc');
-  const text = isOfTree ? datesOfTree(module, own, source.hasFileDates) : own, front = isOfTree ? frontOf(module, text) : beginning;
+  const text = isOfTree ? datesOfTree(module, own, source.hasFileDates) : own;
+  const front = isOfTree ? frontOf(module, text) : beginning;
   const delimiter = isOfTree ? COMMA : delimiterOf(front, source);
   const { bytesAt } = read, how = { number, file, bytesAt, module, text, front, encoding, delimiter, isOfTree };
   sheet = { ...how, counted: null };
@@ -363,7 +365,8 @@ async function readSheet({ compiled, number, file, encoding: chosen, ...source }
 function datesOfTree(module, tree, hasFileDates) {
   const dates = module.treeDates(tree);
   if (hasFileDates) return dates;
-  const place = module.pick(dates, COMMA, range(MOST_COLUMNS), 1).fields.indexOf('event'), guess = Math.ceil(dates.length / 8) + 64;
+  const place = module.pick(dates, COMMA, range(MOST_COLUMNS), 1).fields.indexOf('event');
+  const guess = Math.ceil(dates.length / 8) + 64;
   const indices = module.pickAll(dates, COMMA, [0, place], { fields: guess, bytes: guess }, ownDates);
   const own = module.sheetRecords(dates, COMMA, indices);
   module.free(dates);
@@ -524,7 +527,8 @@ function refusedDates(module, table, delimiter, { above, dates, places, own }, w
     // The last record may be cut.
     if (front.length < table.length) rows.pop();
     const found = rows.flatMap((row, i) => rowsOf(row, 3).flatMap(([date, calendar, refusal], k) =>
-      (refusal === '' || isOfEmpty(refusal, date) ? [] : [{ number: i + 1, place: k, calendar, date, refusal: Number(refusal) }])));
+      (refusal === '' || isOfEmpty(refusal, date) ? []
+        : [{ number: i + 1, place: k, calendar, date, refusal: Number(refusal) }])));
     if (found.length || front.length === table.length || most >= LOOKED_AT) return found.slice(0, REFUSED_SHOWN);
   }
 }

@@ -41,6 +41,44 @@ REGISTER = "id,calendar,date\n7,gregorian,1806-5-12\n8,gregorian,1 Meyo 1700\n"
 UNKNOWN = "name,means,in,count\nMeyo,?,gregorian,1\n"
 COLUMNS = "--date Date --calendar Calendar"
 
+# A date for each reason why dates stay, and a Roman one that is converted: 25 February 1944 in the Julian calendar, which is
+# 9 March in the Gregorian one, a Thursday. 12 May 1806 was a Monday.
+STAYING = """\
+d,c
+12 Mai 1806,
+Mai 1806,gregorian
+1806,gregorian
+12 Mai,gregorian
+12 Mai 1806 (,gregorian
+15.3.-144,gregorian
+-3 Mai 1806,gregorian
+"Sonntag, 12. Mai 1806",gregorian
+18.2.1799,french
+12 Mai Mai 1806,gregorian
+1944-3-K6B,roman
+,gregorian
+"""
+STAYED = """\
+d,c,weekday,gregorian,refusal
+12 Mai 1806,,,,4
+Mai 1806,gregorian,,,5
+1806,gregorian,,,5
+12 Mai,gregorian,,,5
+12 Mai 1806 (,gregorian,,,5
+15.3.-144,gregorian,,,5
+-3 Mai 1806,gregorian,,,5
+"Sonntag, 12. Mai 1806",gregorian,,,5
+18.2.1799,french,,,5
+12 Mai Mai 1806,gregorian,,,5
+1944-3-K6B,roman,Thursday,1944-03-09,
+,gregorian,,,5
+"""
+REASONS = [f"standard input: {line}" for line in (
+    "1 date has no calendar", "2 dates have no day", "1 date has no year", "1 date has a character that no date has",
+    "2 dates have a minus in front of a number", "1 date names another weekday",
+    "1 date has a year that the French Republic did not have", "1 date is no date of its calendar")]
+STAYING_COLUMNS = "--date d --calendar c --order day --names weekdays.csv"
+
 TWO_DATES = "title\n a ;b\n1001-1-1;1001-1-1\nx;1001-1-1\n"
 TWO_CONVERTED = """\
 title
@@ -52,7 +90,7 @@ TWO_COLUMNS = "--skip 1 --date a --date b --all julian --all gregorian --delimit
 
 FILES = {
     "a.csv": SHEET, "c.csv": SHEET, "own.csv": SHEET, "two.csv": TWO_DATES, "empty.csv": "",
-    "names.csv": "name,means,in\nMeyo,month 5,\n",
+    "names.csv": "name,means,in\nMeyo,month 5,\n", "weekdays.csv": "name,means,in\nSonntag,weekday 0,\n",
     "own.csv.unknown.csv": "name,means,in\nMeyo,month 5,\n",
     "bad.csv": "name,means,in\nMeyo,month 5,\nJuni,six,\n",
 }
@@ -86,6 +124,9 @@ STREAMS = [
      lines("standard input: 1 date has a short year and is left empty: see --short-years")),
     # The names that are not known.
     (f"{COLUMNS} --unknown", SHEET, 0, UNKNOWN, ""),
+    # Why dates stay.
+    (STAYING_COLUMNS, STAYING, 0, STAYED, lines(*REASONS)),
+    (f"{STAYING_COLUMNS} --unknown", STAYING, 0, "name,means,in,count\n", lines(*REASONS)),
     # Sheets that break off.
     ("--date Datum --calendar Calendar", SHEET, 1, "",
      lines("standard input: no column Datum: the columns are No, Calendar, Date")),

@@ -14,6 +14,15 @@ export const NO_DAY = 2 ** 32 - 1;
 export const NO_CALENDAR = 255;
 // Of three numbers the day stands first.
 const DAY_FIRST = 1;
+// The columns of dates that a sheet can have.
+const MOST_DATES = 8;
+/** Why dates stay as they are written, in the order of the module's counts, from number 1 on. */
+export const REASONS = ['noCalendar', 'character', 'minus', 'otherWeekday', 'noDay', 'noYear', 'noSuchYear', 'noDate'];
+
+// How many dates were stopped by names, left empty for a short year, and stay for each reason.
+function unreadOf([stopped, short, ...counts]) {
+  return { stopped, short, reasons: Object.fromEntries(REASONS.map((reason, i) => [reason, counts[i]])) };
+}
 
 /** Memory ran out: what the module answers by an ending 1, and what the heap of this script throws. */
 export class NoMemory extends Error {}
@@ -317,6 +326,27 @@ export class Module {
     }
   }
 
+  /**
+   * Why a date is not read: the number of what stops it, which is 0 for nothing, 1 to 8 for a reason of `REASONS`, and 9 for a
+   * name that is not known; and what is to blame, which is that name, or the date beside another weekday.
+   */
+  dateStop(text, calendar, names) {
+    const [typed, list] = [text, names].map((it) => this.put(new TextEncoder().encode(it)));
+    let buffer = this.malloc(typed.length + 64);
+    for (;;) {
+      const [ending, length, stop] = this.call('date_stop', 3, [typed, calendar, DAY_FIRST, list, buffer]);
+      if (ending === 1) throw new NoMemory();
+      if (ending !== 0) throw new Error(`date_stop: ${ending}`);
+      if (length <= buffer.length) {
+        const blamed = new TextDecoder().decode(this.bytes({ ...buffer, length }));
+        this.free(buffer, list, typed);
+        return { stop, blamed };
+      }
+      this.free(buffer);
+      buffer = this.malloc(length);
+    }
+  }
+
   // Numbers of 32 bits, as a part.
   putNumbers(numbers) {
     const part = this.malloc(4 * numbers.length);
@@ -347,9 +377,9 @@ export class Module {
   convertSheet(text, choice, columns, names, guess) {
     const list = this.put(new TextEncoder().encode(names)), asked = this.put(Uint8Array.from(columns));
     const numbers = this.putNumbers(choice);
-    const { ending, others: [rows, ...refused], text: table } = this.makeFrom('sheet_convert', 9,
+    const { ending, others: [rows, ...counts], text: table } = this.makeFrom('sheet_convert', 19,
       [text, numbers, asked, list], [numbers, asked, list], guess);
-    return { ending, rows, refused, table };
+    return { ending, rows, refused: counts.slice(0, MOST_DATES), table, ...unreadOf(counts.slice(MOST_DATES)) };
   }
 
   /**
@@ -369,9 +399,12 @@ export class Module {
    */
   unknownNames(text, choice, names, most) {
     const list = this.put(new TextEncoder().encode(names)), numbers = this.putNumbers(choice);
-    const { ending, others: [more, short, kept], text: found } = this.makeFrom('sheet_unknown', 3,
+    const { ending, others: [more, ...counts], text: found } = this.makeFrom('sheet_unknown', 11,
       [text, numbers, list, BigInt(most)], [numbers, list], PAGE);
-    return { ending, list: found, more, short, kept };
+    const { stopped, short, reasons } = unreadOf(counts);
+    // Dates stay as they are written for a name that is not known, or for another reason.
+    const kept = Object.values(reasons).reduce((sum, count) => sum + count, stopped);
+    return { ending, list: found, more, short, kept, stopped, reasons };
   }
 
   // So many numbers of 32 bits that stand in a part, copied out.

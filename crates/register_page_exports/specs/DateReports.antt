@@ -1,9 +1,18 @@
--- What is written for one date.
-use Rattle.std.specs.Prelude.{◌≡◌, ℕ, zero, suc, false, List, Some, map}
+-- What is written for one date, and why it is not read.
+use Rattle.std.specs.Prelude.{◌≡◌, ◌≢◌, ◌⊎◌, ◌≤◌, ◌++◌, length, ℕ, zero, suc, false, List, [], ◌∷◌, Option, None, Some, map}
+use mathlib.Core.Logic.{inl, inr}
+use Rattle.std.specs.Fmt.{decimal}
 use Rattle.date_texts.specs.declared.calendar.Calendar.{Calendar}
-use Rattle.register_sheets.specs.NameLists.{name_seen, names_in_dates}
+use Rattle.date_texts.specs.Calendars.{all_calendars}
+use Rattle.register_records.specs.Entries.{text_records}
+use Rattle.register_sheets.specs.NameLists.{IsFaultOf, name_seen, names_in_dates}
+use Rattle.register_sheets.specs.declared.name_lists.NameListFault.{NameListFault}
+use Rattle.register_sheets.specs.declared.name_lists.NameListFault.TheVariants as fault
 use Rattle.register_sheets.specs.declared.name_lists.NameLine.{NameLine}
-use Rattle.written_dates.specs.Written.{written}
+use Rattle.register_sheets.specs.DateStops.{DateStop, IsStopIn, reason_number}
+use Rattle.register_sheets.specs.declared.reasons.Reason.TheVariants as reasons
+use Rattle.written_dates.specs.Stops.{beside_by}
+use Rattle.written_dates.specs.Written.{answer, written}
 use Rattle.written_dates.specs.declared.meanings.Name.{Name}
 use Rattle.written_dates.specs.declared.rules.Order.{Order}
 use Rattle.written_dates.specs.declared.rules.Order.TheVariants.{YearFirst, DayFirst, MonthFirst}
@@ -27,3 +36,38 @@ pub record IsWritten (list : List NameLine) (choice : Choice) (calendar : Calend
   pub names : List Name
   pub listed : map name_seen names ≡ names_in_dates list
   pub is_written : date ≡ written choice (Some calendar) names text
+
+-- why nothing is said of a date: memory ran out, the text is no list of names, or there is no such calendar
+abbrev pub IsEnding : ℕ → List ℕ → ℕ → Type 0
+IsEnding calendar names ending =
+    (ending ≡ 1)
+    ⊎ ((ending ≡ 2) × (why : NameListFault) × (why ≢ fault.OutOfMemory) × IsFaultOf (text_records 44 names) why)
+    ⊎ ((ending ≡ 3) × (length all_calendars ≤ calendar))
+
+-- the number of what stops a date: 0 for nothing, 1 to 8 for a reason, and 9 for a name that is not known
+abbrev pub stop_number : Option DateStop → ℕ
+stop_number None = 0
+stop_number (Some (inr reason)) = reason_number reason
+stop_number (Some (inl name)) = 9
+
+-- a date as three numbers
+abbrev pub plain_date : Option (ℕ × ℕ × ℕ) → List ℕ
+plain_date None = []
+plain_date (Some date) = decimal date.0 ++ (45 ∷ (decimal date.1 ++ (45 ∷ decimal date.2)))
+
+-- the name that stops a text, or the date that it says beside another weekday
+abbrev pub blamed : Choice → Calendar → List Name → List ℕ → Option DateStop → List ℕ
+blamed choice calendar names text (Some (inl name)) = name.0
+blamed choice calendar names text (Some (inr reasons.OtherWeekday)) =
+    plain_date (beside_by (answer choice calendar names text))
+blamed choice calendar names text stop = []
+
+-- this number is that of what stops a text of a calendar, by the names of a list, and this is to blame
+pub record IsStopped (list : List NameLine) (choice : Choice) (calendar : Calendar) (text : List ℕ) (number : ℕ)
+    (blame : List ℕ) : Type 0 where
+  pub names : List Name
+  pub listed : map name_seen names ≡ names_in_dates list
+  pub stop : Option DateStop
+  pub is_stop : IsStopIn choice calendar names text (written choice (Some calendar) names text) stop
+  pub number_is : number ≡ stop_number stop
+  pub blame_is : blame ≡ blamed choice calendar names text stop

@@ -5,12 +5,13 @@ use Rattle.register_sheets.specs.AskedOfSheets.{IsChoice, IsListedChoice, SheetA
 use Rattle.register_sheets.specs.Converted.{IsWholeSheet, below}
 use Rattle.register_sheets.specs.NameLists.{IsFaultOf, IsListOf}
 use Rattle.register_sheets.specs.Registers.{IsRegister}
-use Rattle.register_sheets.specs.UnknownNames.{IsUnknown, NameCount, list_text}
+use Rattle.register_sheets.specs.UnknownNames.{AreUnreadIn, IsUnknown, NameCount, list_text}
 use Rattle.register_sheets.specs.declared.choices.DateColumn.{DateColumn}
 use Rattle.register_sheets.specs.declared.choices.SheetChoice.{SheetChoice}
 use Rattle.register_sheets.specs.declared.name_lists.NameLine.{NameLine}
 use Rattle.register_sheets.specs.declared.name_lists.NameListFault.{NameListFault}
 use Rattle.register_sheets.specs.declared.name_lists.NameListFault.TheVariants as fault
+use Rattle.register_sheets.specs.declared.unread_dates.UnreadDates.{UnreadDates}
 use Rattle.register_page_exports.specs.SheetChoices.{asked_by}
 use Rattle.register_page_exports.specs.declared.sheet_tables.SheetEnding.{SheetEnding}
 use Rattle.register_page_exports.specs.declared.sheet_tables.SheetEnding.TheVariants as ending
@@ -36,11 +37,13 @@ abbrev pub IsChoiceAt : ℕ → SheetChoice → Type 0
 IsChoiceAt place choice = IsChoice choice × (place < length choice.dates.now)
 
 -- the sheet that comes back for what is asked
-pub record IsAskedSheet (numbers columns names sheet : List ℕ) (count : ℕ) (refused bytes : List ℕ) : Type 0 where
+pub record IsAskedSheet (numbers columns names sheet : List ℕ) (count : ℕ) (refused : List ℕ) (unread : UnreadDates)
+    (bytes : List ℕ) : Type 0 where
   pub choice : SheetChoice
   pub asked : IsAsked numbers columns names sheet choice
   pub is_choice : IsChoice choice
   pub whole : IsWholeSheet choice (text_records choice.delimiter sheet) count refused bytes
+  pub all_unread : AreUnreadIn choice (text_records choice.delimiter sheet) unread
 
 -- the register of a column of dates for what is asked
 pub record IsAskedRegister (numbers names sheet : List ℕ) (place : ℕ) (bytes : List ℕ) : Type 0 where
@@ -52,14 +55,15 @@ pub record IsAskedRegister (numbers names sheet : List ℕ) (place : ℕ) (bytes
   pub at_place : slice_get choice.dates.now place ≡ Some column
   pub whole : IsRegister choice column (text_records choice.delimiter sheet) count bytes
 
--- the list of the first names that are not known for what is asked, at most so many, with the counts of what else is not
-pub record IsAskedUnknown (numbers names sheet : List ℕ) (most : ℕ) (bytes : List ℕ) (more short kept : ℕ)
+-- the list of the first names that are not known for what is asked, at most so many, how many dates others stopped, and
+-- how many dates were not read
+pub record IsAskedUnknown (numbers names sheet : List ℕ) (most : ℕ) (bytes : List ℕ) (more : ℕ) (unread : UnreadDates)
     : Type 0 where
   pub choice : SheetChoice
   pub found : List NameCount
   pub asked : IsAsked numbers [] names sheet choice
   pub is_choice : IsChoice choice
-  pub unknown : IsUnknown choice (text_records choice.delimiter sheet) most found more short kept
+  pub unknown : IsUnknown choice (text_records choice.delimiter sheet) most found more unread
   pub written : bytes ≡ list_text found
 
 -- why nothing comes of a sheet by a choice that Is asked and must be one that P holds of

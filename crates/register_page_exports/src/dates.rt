@@ -1,20 +1,25 @@
 //! Dates as people write them, for a page.
 
-ghost use Rattle.std.specs.Prelude.{◌≡◌, ◌≢◌, ◌⊎◌, ◌≤◌, ℕ, List, IfOk, Some, length, slice_get};
+ghost use Rattle.std.specs.Prelude.{◌≡◌, ◌≢◌, ℕ, List, IfOk, Some, slice_get};
 ghost use Rattle.date_texts.specs.Calendars.{all_calendars};
 ghost use Rattle.date_texts.specs.declared.calendar.Calendar.{Calendar as CalendarValue};
 ghost use Rattle.register_records.specs.Entries.{text_records};
-ghost use Rattle.register_sheets.specs.NameLists.{IsFaultOf, IsListOf};
+ghost use Rattle.register_sheets.specs.NameLists.{IsListOf};
+ghost use Rattle.register_sheets.specs.UnknownViews.{if_stop};
 ghost use Rattle.register_sheets.specs.declared.name_lists.NameLine.{NameLine};
-ghost use Rattle.register_page_exports.specs.DateReports.{IsWritten, choice_by};
+ghost use Rattle.register_page_exports.specs.DateReports.{IsEnding, IsStopped, IsWritten, choice_by};
+ghost use Rattle.register_page_exports.specs.DateReports.{blamed as blamed_spec, plain_date as plain_spec};
+ghost use Rattle.register_page_exports.specs.DateReports.{stop_number as number_spec};
 ghost use Rattle.register_page_exports.specs.SheetReports.{PutsText};
 
 use crate::sheets::{TextReport, put_text};
 use date_texts::Calendar;
 use date_texts::laws::all_calendars;
-use register_sheets::{NameList, NameListFault};
+use itoa::Buffer;
+use register_page::copy_if_fits;
+use register_sheets::{DateStop, NameList, NameListFault, Reason, stop_in};
 use std::alloc::{AllocError, Global};
-use written_dates::{Choice, Names, Order, Short, write_date};
+use written_dates::{Choice, Names, Order, Short, date_beside_weekday, write_date};
 
 /// The calendar of a number, from 0.
 fn calendar_at(number: u8) -> Option<Calendar>
@@ -76,9 +81,7 @@ pub extern "C" fn date_write(
         × IsWritten list (choice_by order) found text.now date
         × PutsText date buffer.old buffer.new report.new.length }
     ensures none { report.new.ending ≢ 0 → (report.new.length ≡ 0) × (buffer.new ≡ buffer.old) }
-    ensures why { report.new.ending ≢ 0 → (report.new.ending ≡ 1)
-        ⊎ ((report.new.ending ≡ 2) × (fault : NameListFault) × IsFaultOf (text_records 44 names.now) fault)
-        ⊎ ((report.new.ending ≡ 3) × (length all_calendars ≤ calendar)) }
+    ensures why { report.new.ending ≢ 0 → IsEnding calendar names.now report.new.ending }
 {
     *report = TextReport {
         ending: 1,
@@ -98,5 +101,142 @@ pub extern "C" fn date_write(
     };
     if let Ok(date) = written(alloc, text, calendar, order, &list) {
         *report = put_text(date.as_slice(), buffer);
+    }
+}
+
+/// The number of what stops a date.
+fn stop_number(stop: Option<DateStop<'_>>) -> usize
+    ensures { result ≡ number_spec (if_stop stop.entry) }
+{
+    match stop {
+        None => 0,
+        Some(DateStop::Reason(reason)) => reason.number(),
+        Some(DateStop::Name(_)) => 9,
+    }
+}
+
+/// A date as three numbers, or nothing.
+fn plain_date(alloc: Global, date: Option<(u64, u32, u32)>) -> Result<Vec<u8>, AllocError>
+    ensures { IfOk result (λ text. text.items ≡ plain_spec date) }
+{
+    let mut text = Vec::new(alloc);
+    if let Some((year, month, day)) = date {
+        text.extend_from_slice(Buffer::new().format(year).as_bytes())?;
+        text.push(b'-')?;
+        text.extend_from_slice(Buffer::new().format(month).as_bytes())?;
+        text.push(b'-')?;
+        text.extend_from_slice(Buffer::new().format(day).as_bytes())?;
+    }
+    Ok(text)
+}
+
+/// The name that stops a text, or the date that it says beside another weekday.
+fn blamed(
+    alloc: Global,
+    text: &[u8],
+    calendar: Calendar,
+    names: &Names,
+    choice: &Choice,
+    stop: Option<DateStop<'_>>,
+) -> Result<Vec<u8>, AllocError>
+    ensures { IfOk result (λ blame. blame.items
+        ≡ blamed_spec choice.now calendar names.now.listed.now text.now (if_stop stop.entry)) }
+{
+    match stop {
+        Some(DateStop::Name(stop)) => stop.name.to_vec(alloc),
+        Some(DateStop::Reason(Reason::OtherWeekday)) => {
+            plain_date(alloc, date_beside_weekday(text, calendar, names, choice))
+        }
+        _ => Ok(Vec::new(alloc)),
+    }
+}
+
+/// What stops a text: its number, and what is to blame.
+#[derive(Drop)]
+struct StopFound {
+    number: usize,
+    blame: Vec<u8>,
+}
+
+/// What stops a text by the names of a list.
+fn stop_found(
+    alloc: Global,
+    text: &[u8],
+    calendar: Calendar,
+    order: u8,
+    list: &NameList,
+) -> Result<StopFound, AllocError>
+    ensures { IfOk result (λ stop. IsStopped list.now.lines.items (choice_by order) calendar text.now stop.number
+        stop.blame.items) }
+{
+    let names = list.names(alloc)?;
+    let names = Names::layered(alloc, names.as_slice())?;
+    let choice = choice_by(order);
+    let mut date = Vec::new(alloc);
+    write_date(&mut date, text, Some(calendar), &names, &choice)?;
+    let stop = stop_in(text, date.as_slice(), calendar, &names, &choice);
+    let blame = blamed(alloc, text, calendar, &names, &choice, stop)?;
+    Ok(StopFound {
+        number: stop_number(stop),
+        blame,
+    })
+}
+
+/// Why a date is not read. A number that says nothing is 0.
+#[repr(C)]
+#[derive(Clone, Copy)]
+pub struct StopReport {
+    /// As of [`date_write`].
+    pub ending: usize,
+    /// How many bytes are to blame. Where they are more than the room, that is as it was.
+    pub length: usize,
+    /// What stops the date. 0: nothing. 1 to 8: the reason with this number. 9: a name that is not known.
+    pub stop: usize,
+}
+
+/// Says why a date, as people write it, is not read, and puts what is to blame to the front of `buffer`: the name that is
+/// not known, or, where it names another weekday, the date that its other words say, as `1806-5-12`. The arguments and the
+/// endings are those of [`date_write`].
+#[unsafe(no_mangle)]
+pub extern "C" fn date_stop(
+    alloc: Global,
+    text: &[u8],
+    calendar: u8,
+    order: u8,
+    names: &[u8],
+    buffer: &mut [u8],
+    report: &mut StopReport,
+)
+    ensures stop { report.new.ending ≡ 0 → (found : CalendarValue) × (list : List NameLine) × (blame : List ℕ)
+        × (slice_get all_calendars calendar ≡ Some found) × IsListOf (text_records 44 names.now) list
+        × IsStopped list (choice_by order) found text.now report.new.stop blame
+        × PutsText blame buffer.old buffer.new report.new.length }
+    ensures none { report.new.ending ≢ 0
+        → (report.new.length ≡ 0) × (report.new.stop ≡ 0) × (buffer.new ≡ buffer.old) }
+    ensures why { report.new.ending ≢ 0 → IsEnding calendar names.now report.new.ending }
+{
+    *report = StopReport {
+        ending: 1,
+        length: 0,
+        stop: 0,
+    };
+    let Some(calendar) = calendar_at(calendar) else {
+        report.ending = 3;
+        return;
+    };
+    let list = match NameList::read(alloc, names) {
+        Ok(list) => list,
+        Err(NameListFault::OutOfMemory) => return,
+        Err(_) => {
+            report.ending = 2;
+            return;
+        }
+    };
+    if let Ok(stop) = stop_found(alloc, text, calendar, order, &list) {
+        *report = StopReport {
+            ending: 0,
+            length: copy_if_fits(stop.blame.as_slice(), buffer),
+            stop: stop.number,
+        };
     }
 }

@@ -7,7 +7,7 @@ ghost use Rattle.register_sheets.specs.AskedOfSheets.{IsChoice, IsChoiceBy, aske
 ghost use Rattle.register_sheets.specs.Converted.{IsWholeSheet};
 ghost use Rattle.register_sheets.specs.NameLists.{IsListOf};
 ghost use Rattle.register_sheets.specs.Registers.{IsRegister};
-ghost use Rattle.register_sheets.specs.UnknownNames.{IsUnknown, list_text, name_seen};
+ghost use Rattle.register_sheets.specs.UnknownNames.{AreUnreadIn, IsUnknown, list_text, name_seen};
 ghost use Rattle.register_sheets.specs.declared.asked_of_sheets.AskedByNames.{AskedByNames as AskedByNamesValue};
 ghost use Rattle.register_sheets.specs.declared.choices.DateColumn.{DateColumn as DateColumnValue};
 ghost use Rattle.register_sheets.specs.declared.choices.SheetChoice.{SheetChoice as SheetChoiceValue};
@@ -23,7 +23,7 @@ use register_page::{bytes_for, copy_if_fits};
 use register_records::PlainOutput;
 use register_sheets::{
     AskedByNames, AskedOfSheet, MAX_DATES, NameList, NameListFault, SheetCause, SheetEnd,
-    SheetSetup, Unknown, convert_sheet, unknown_names, write_register,
+    SheetSetup, Unknown, UnreadDates, convert_sheet, unknown_names, write_register,
 };
 use std::alloc::{AllocError, Global};
 
@@ -119,12 +119,14 @@ fn setup_of<'a>(known: &'a AskedByNames<'a>) -> Result<SheetSetup<'a>, SheetEndi
     }
 }
 
-/// A sheet that came back, and how many records it has, and how many were refused for each column of dates.
+/// A sheet that came back, how many records it has, how many were refused for each column of dates, and how many dates
+/// were not read.
 #[derive(Drop)]
 struct SheetMade {
     text: Vec<u8>,
     rows: u32,
     refused: [u32; MAX_DATES],
+    unread: UnreadDates,
 }
 
 /// The sheet that comes back by what is known.
@@ -135,7 +137,8 @@ fn converted_by(
     expected: usize,
 ) -> Result<SheetMade, SheetEnding>
     ensures whole { IfOk result (λ made. (choice : SheetChoiceValue) × IsChoiceBy known.now choice × IsChoice choice
-        × IsWholeSheet choice (text_records choice.delimiter sheet.now) made.rows made.refused made.text.items) }
+        × IsWholeSheet choice (text_records choice.delimiter sheet.now) made.rows made.refused made.text.items
+        × AreUnreadIn choice (text_records choice.delimiter sheet.now) made.unread) }
     ensures ends { IfErr result (EndsBy (IsChoiceBy known.now) IsChoice sheet.now) }
 {
     let setup = setup_of(known)?;
@@ -143,10 +146,15 @@ fn converted_by(
     let end = convert_sheet(alloc, sheet, &setup, &mut output);
     let text = output.into_inner();
     match end {
-        SheetEnd::Whole { rows, refused, .. } => Ok(SheetMade {
+        SheetEnd::Whole {
+            rows,
+            refused,
+            unread,
+        } => Ok(SheetMade {
             text,
             rows,
             refused,
+            unread,
         }),
         SheetEnd::Broken { cause } => Err(ending_of(cause)),
     }
@@ -186,8 +194,8 @@ fn unknown_by(
     most: usize,
 ) -> Result<(Unknown, Vec<u8>), SheetEnding>
     ensures whole { IfOk result (λ r. (choice : SheetChoiceValue) × IsChoiceBy known.now choice × IsChoice choice
-        × IsUnknown choice (text_records choice.delimiter sheet.now) most (map name_seen r.0.names.items) r.0.more r.0.short
-        r.0.kept × (r.1.items ≡ list_text (map name_seen r.0.names.items))) }
+        × IsUnknown choice (text_records choice.delimiter sheet.now) most (map name_seen r.0.names.items) r.0.more
+        r.0.unread × (r.1.items ≡ list_text (map name_seen r.0.names.items))) }
     ensures ends { IfErr result (EndsBy (IsChoiceBy known.now) IsChoice sheet.now) }
 {
     let setup = setup_of(known)?;
@@ -239,7 +247,7 @@ fn converted(
     expected: usize,
 ) -> Result<SheetMade, SheetEnding>
     ensures whole { IfOk result (λ made.
-        IsAskedSheet choice.now columns.now names.now sheet.now made.rows made.refused made.text.items) }
+        IsAskedSheet choice.now columns.now names.now sheet.now made.rows made.refused made.unread made.text.items) }
     ensures ends { IfErr result (EndsFor IsChoice choice.now columns.now names.now sheet.now) }
 {
     made_by(alloc, sheet, choice, columns, names, |known| {
@@ -273,7 +281,7 @@ fn unknown_found(
     most: usize,
 ) -> Result<(Unknown, Vec<u8>), SheetEnding>
     ensures whole { IfOk result (λ r.
-        IsAskedUnknown choice.now names.now sheet.now most r.1.items r.0.more r.0.short r.0.kept) }
+        IsAskedUnknown choice.now names.now sheet.now most r.1.items r.0.more r.0.unread) }
     ensures ends { IfErr result (EndsFor IsChoice choice.now [] names.now sheet.now) }
 {
     made_by(alloc, sheet, choice, &[], names, |known| {
@@ -293,6 +301,8 @@ pub struct SheetReport {
     /// How many records stand below the names, and how many of them were refused for each column of dates.
     pub rows: usize,
     pub refused: [usize; MAX_DATES],
+    /// How many dates were not read.
+    pub unread: UnreadDates,
 }
 
 /// What is not known in a sheet. A number that says nothing is 0.
@@ -305,10 +315,8 @@ pub struct UnknownReport {
     pub length: usize,
     /// How many dates other names stopped than those of the list.
     pub more: usize,
-    /// How many dates are left empty, as their year is short.
-    pub short: usize,
-    /// How many dates stay as they are written although they are in no register's form.
-    pub kept: usize,
+    /// How many dates were not read.
+    pub unread: UnreadDates,
 }
 
 /// The same numbers as words.
@@ -334,7 +342,7 @@ pub extern "C" fn sheet_convert(
     report: &mut SheetReport,
 )
     ensures whole { report.new.ending ≡ 0 → (text : List ℕ)
-        × IsAskedSheet choice.now columns.now names.now sheet.now report.new.rows report.new.refused text
+        × IsAskedSheet choice.now columns.now names.now sheet.now report.new.rows report.new.refused report.new.unread text
         × PutsText text room.old room.new report.new.length }
     ensures none { report.new.ending ≢ 0 → (report.new.length ≡ 0) × (report.new.rows ≡ 0) × (room.new ≡ room.old) }
     ensures why { report.new.ending ≢ 0
@@ -346,12 +354,14 @@ pub extern "C" fn sheet_convert(
             length: copy_if_fits(made.text.as_slice(), room),
             rows: made.rows as usize,
             refused: words_of(made.refused),
+            unread: made.unread,
         },
         Err(ending) => SheetReport {
             ending: ending.number(),
             length: 0,
             rows: 0,
             refused: [0; MAX_DATES],
+            unread: UnreadDates::none(),
         },
     };
 }
@@ -395,7 +405,7 @@ pub extern "C" fn sheet_unknown(
     report: &mut UnknownReport,
 )
     ensures whole { report.new.ending ≡ 0 → (text : List ℕ)
-        × IsAskedUnknown choice.now names.now sheet.now most text report.new.more report.new.short report.new.kept
+        × IsAskedUnknown choice.now names.now sheet.now most text report.new.more report.new.unread
         × PutsText text room.old room.new report.new.length }
     ensures none { report.new.ending ≢ 0 → (report.new.length ≡ 0) × (room.new ≡ room.old) }
     ensures why { report.new.ending ≢ 0
@@ -406,15 +416,13 @@ pub extern "C" fn sheet_unknown(
             ending: 0,
             length: copy_if_fits(text.as_slice(), room),
             more: unknown.more as usize,
-            short: unknown.short as usize,
-            kept: unknown.kept as usize,
+            unread: unknown.unread,
         },
         Err(ending) => UnknownReport {
             ending: ending.number(),
             length: 0,
             more: 0,
-            short: 0,
-            kept: 0,
+            unread: UnreadDates::none(),
         },
     };
 }

@@ -1,6 +1,7 @@
 -- What is not known is counted date by date.
-use Rattle.std.proofs.Common.{◌≡◌, ◌≤◌, ◌<◌, ◌+◌, ◌*◌, ◌^◌, ◌∙◌, ◌++◌, ◌↔◌, ℕ, zero, suc, Bool, true, List, [], ◌∷◌}
+use Rattle.std.proofs.Common.{◌≡◌, ◌≤◌, ◌<◌, ◌+◌, ◌*◌, ◌^◌, ◌∙◌, ◌++◌, ℕ, zero, suc, List, [], ◌∷◌}
 use Rattle.std.proofs.Common.{Option, None, Some}
+use Rattle.std.proofs.Common.{inl, inr}
 use Rattle.std.proofs.Common.{ap, append-nil, append_assoc, arith, cond, get_or, length, map, refl, subst, sym, take}
 use Rattle.std.specs.Prelude.{Err, IfErr, IfOk, Ok, OnOk, Result, if◌then◌else◌, option_to_list}
 use Rattle.std.specs.List.{AllZip}
@@ -10,19 +11,20 @@ use Rattle.std.proofs.lemmas.List.Concat.{flat_map-append}
 use Rattle.std.proofs.lemmas.List.Sums.{count_by-le-length, sum_by_push}
 use Rattle.register_records.specs.Entries.{Fields}
 use Rattle.register_records.specs.Lines.{line_text}
+use Rattle.register_sheets.specs.DateStops.{DateStop, IsStopOf, NameStop, SheetDate, is_for, name_in}
 use Rattle.register_sheets.specs.FoundViews.{unknown_of}
+use Rattle.register_sheets.specs.RowViews.{CountsMore, NoneUnread}
 use Rattle.register_sheets.specs.Sheets.{records_text}
-use Rattle.register_sheets.specs.UnknownNames.{AreNames, HasCount, IsFound, IsKept, NameCount, NameStop, SheetDate}
-use Rattle.register_sheets.specs.UnknownNames.{all_dates, counted, dates_of, firsts, is_alike, is_other, is_short}
-use Rattle.register_sheets.specs.UnknownNames.{list_head, name_record, name_seen}
-use Rattle.register_sheets.specs.UnknownNames.{stop_of, stops_in}
-use Rattle.register_sheets.specs.UnknownViews.{HasNames, HasRoom}
+use Rattle.register_sheets.specs.UnknownNames.{AreNames, IsFound, NameCount, all_dates, counted, dates_of, firsts}
+use Rattle.register_sheets.specs.UnknownNames.{is_alike, is_other, is_short, list_head, name_record, name_seen, names_in}
+use Rattle.register_sheets.specs.UnknownViews.{CountsDate, HasNames, HasPlace, HasRoom}
 use Rattle.register_sheets.specs.declared.choices.DateColumn.{DateColumn}
 use Rattle.register_sheets.specs.declared.choices.SheetChoice.{SheetChoice}
 use Rattle.register_sheets.specs.declared.sheet_ends.SheetCause.{SheetCause}
 use Rattle.register_sheets.specs.declared.stopped_dates.Unknown.{Unknown}
 use Rattle.register_sheets.specs.declared.stopped_names.StoppedNames.{StoppedNames}
 use Rattle.register_sheets.specs.declared.stopped_names.UnknownName.{UnknownName}
+use Rattle.register_sheets.specs.declared.unread_dates.UnreadDates.{UnreadDates}
 
 -- no count is above the number of stops
 low_at : (stops : List NameStop) (items : List UnknownName) (names : List NameStop)
@@ -45,72 +47,104 @@ has_room most stops names are few =
       others = omega (arith, are.more_are, count_by-le-length (is_other (take most (firsts stops))) stops, few);
     }
 
--- a date has one stop at most
-stop_few : (stop : Option NameStop) → length (option_to_list stop) ≤ 1
-stop_few None = omega arith
-stop_few (Some stop) = omega arith
+-- of each date there is what stopped it
+pub zip_length : {A B : Type 0} (P : A → B → Type 0) (xs : List A) (ys : List B) → AllZip P xs ys → length ys ≡ length xs
+zip_length P [] [] zip = refl
+zip_length P [] (y ∷ ys) zip = absurd zip
+zip_length P (x ∷ xs) [] zip = absurd zip
+zip_length P (x ∷ xs) (y ∷ ys) zip = omega (arith, zip_length P xs ys zip.1)
 
-pub stops_few : (choice : SheetChoice) (dates : List SheetDate) → length (stops_in choice dates) ≤ length dates
-stops_few choice [] = omega arith
-stops_few choice (d ∷ dates) =
-    omega (
-      arith,
-      length-append (option_to_list (stop_of choice d)) (stops_in choice dates),
-      stop_few (stop_of choice d),
-      stops_few choice dates,
-    )
+pub zip_both : {A B : Type 0} (P : A → B → Type 0) (xs : List A) (ys : List B) (us : List A) (vs : List B)
+    → AllZip P xs ys → AllZip P us vs → AllZip P (xs ++ us) (ys ++ vs)
+zip_both P [] [] us vs zip more = more
+zip_both P [] (y ∷ ys) us vs zip more = absurd zip
+zip_both P (x ∷ xs) [] us vs zip more = absurd zip
+zip_both P (x ∷ xs) (y ∷ ys) us vs zip more = (zip.0, zip_both P xs ys us vs zip.1 more)
 
-pub stops_more : (choice : SheetChoice) (dates : List SheetDate) (d : SheetDate)
-    → stops_in choice (dates ++ d ∷ []) ≡ stops_in choice dates ++ option_to_list (stop_of choice d)
-stops_more choice dates d =
-    flat_map-append (λ date. option_to_list (stop_of choice date)) dates (d ∷ [])
-    ∙ ap (λ (xs : List NameStop). stops_in choice dates ++ xs) (append-nil (option_to_list (stop_of choice d)))
+-- a date was stopped by one name at most
+name_few : (stop : Option DateStop) → length (option_to_list (name_in stop)) ≤ 1
+name_few None = omega arith
+name_few (Some (inl name)) = omega arith
+name_few (Some (inr reason)) = omega arith
 
--- one more is counted where it is such
-told_more : {A : Type 0} (P : A → Type 0) (xs : List A) (marks : List Bool) (x : A) (mark : Bool)
-    → AllZip (λ y m. (m ≡ true) ↔ P y) xs marks → ((mark ≡ true) ↔ P x)
-    → AllZip (λ y m. (m ≡ true) ↔ P y) (xs ++ x ∷ []) (marks ++ mark ∷ [])
-told_more P [] [] x mark told is = (is, tt)
-told_more P [] (m ∷ marks) x mark told is = absurd told
-told_more P (y ∷ xs) [] x mark told is = absurd told
-told_more P (y ∷ xs) (m ∷ marks) x mark told is = (told.0, told_more P xs marks x mark told.1 is)
+pub names_few : (stops : List (Option DateStop)) → length (names_in stops) ≤ length stops
+names_few [] = omega arith
+names_few (stop ∷ stops) =
+    omega (arith, length-append (option_to_list (name_in stop)) (names_in stops), name_few stop, names_few stops)
 
-pub count_more : {A : Type 0} (P : A → Type 0) (xs : List A) (x : A) (mark : Bool) (old new : ℕ) → HasCount P xs old
-    → ((mark ≡ true) ↔ P x) → new ≡ old + (if mark then 1 else 0) → HasCount P (xs ++ x ∷ []) new
-count_more P xs x mark old new has is e =
+pub names_both : (a b : List (Option DateStop)) → names_in (a ++ b) ≡ names_in a ++ names_in b
+names_both a b = flat_map-append (λ stop. option_to_list (name_in stop)) a b
+
+names_one : (stop : Option DateStop) → names_in (stop ∷ []) ≡ option_to_list (name_in stop)
+names_one stop = append-nil (option_to_list (name_in stop))
+
+-- one date is counted
+pub date_counted : (choice : SheetChoice) (d : SheetDate) (stop : Option DateStop) (old new : UnreadDates)
+    → IsStopOf choice d stop → CountsDate stop (is_short choice d) old new → CountsMore choice (d ∷ []) old new
+date_counted choice d stop old new is counts =
     record {
-      marks = has.marks ++ mark ∷ [];
-      told = told_more P xs has.marks x mark has.told is;
-      counted_are = e ∙ ap (λ (n : ℕ). n + (if mark then 1 else 0)) has.counted_are
-          ∙ sym (sum_by_push (λ (m : Bool). cond m 1 0) has.marks mark);
+      stops = stop ∷ [];
+      are_stops = (is, tt);
+      stopped = omega (arith, counts.stopped, ap length (names_one stop));
+      short = omega (arith, counts.short);
+      reasons = λ reason. omega (arith, counts.reasons reason);
     }
 
 -- one more date
-pub found_more : (choice : SheetChoice) (dates : List SheetDate) (d : SheetDate) (most : ℕ)
-    (old new : List NameCount) (more more_now short short_now kept kept_now : ℕ)
-    → IsFound choice dates most old more short kept
-    → AreNames most (stops_in choice dates ++ option_to_list (stop_of choice d)) new more_now
-    → short_now ≡ short + (if is_short choice d then 1 else 0)
-    → (mark : Bool) → ((mark ≡ true) ↔ IsKept choice d) → kept_now ≡ kept + (if mark then 1 else 0)
-    → IsFound choice (dates ++ d ∷ []) most new more_now short_now kept_now
-found_more choice dates d most old new more more_now short short_now kept kept_now found names shorter mark is keeps =
+pub found_more : (choice : SheetChoice) (dates : List SheetDate) (d : SheetDate) (most : ℕ) (old new : List NameCount)
+    (more more_now : ℕ) (unread unread_now : UnreadDates) (stop : Option DateStop)
+    → (found : IsFound choice dates most old more unread) → IsStopOf choice d stop
+    → AreNames most (names_in found.stops ++ option_to_list (name_in stop)) new more_now
+    → CountsDate stop (is_short choice d) unread unread_now → IsFound choice (dates ++ d ∷ []) most new more_now unread_now
+found_more choice dates d most old new more more_now unread unread_now stop found is names counts =
+    let stops = found.stops in
+    let all : names_in (stops ++ stop ∷ []) ≡ names_in stops ++ option_to_list (name_in stop)
+    = names_both stops (stop ∷ []) ∙ ap (λ (xs : List NameStop). names_in stops ++ xs) (names_one stop) in
     record {
-      stopped = subst (λ (stops : List NameStop). AreNames most stops new more_now) (sym (stops_more choice dates d)) names;
-      short_are = shorter ∙ ap (λ (n : ℕ). n + (if is_short choice d then 1 else 0)) found.short_are
-          ∙ sym (sum_by_push (λ date. cond (is_short choice date) 1 0) dates d);
-      kept_are = count_more (IsKept choice) dates d mark kept kept_now found.kept_are is keeps;
+      stops = stops ++ stop ∷ [];
+      are_stops = zip_both (IsStopOf choice) dates stops (d ∷ []) (stop ∷ []) found.are_stops (is, tt);
+      named = subst (λ (xs : List NameStop). AreNames most xs new more_now) (sym all) names;
+      counts = record {
+        stopped_are = omega (
+          arith,
+          counts.stopped,
+          found.counts.stopped_are,
+          ap length all,
+          length-append (names_in stops) (option_to_list (name_in stop)),
+        );
+        short_are = counts.short ∙ ap (λ (n : ℕ). n + (if is_short choice d then 1 else 0)) found.counts.short_are
+            ∙ sym (sum_by_push (λ date. cond (is_short choice date) 1 0) dates d);
+        reasons_are = λ reason.
+            counts.reasons reason
+            ∙ ap (λ (n : ℕ). n + (if is_for reason stop then 1 else 0)) (found.counts.reasons_are reason)
+            ∙ sym (sum_by_push (λ (s : Option DateStop). cond (is_for reason s) 1 0) stops stop);
+      };
+    }
+
+-- one more of each can be counted
+pub found_place : (choice : SheetChoice) (dates : List SheetDate) (most : ℕ) (names : List NameCount) (more : ℕ)
+    (unread : UnreadDates) → IsFound choice dates most names more unread → length dates + 1 < 2 ^ 32 → HasPlace 1 unread
+found_place choice dates most names more unread found few =
+    let all = zip_length (IsStopOf choice) dates found.stops found.are_stops in
+    record {
+      stopped = omega (arith, found.counts.stopped_are, names_few found.stops, all, few);
+      short = omega (arith, found.counts.short_are, count_by-le-length (is_short choice) dates, few);
+      reasons = λ reason.
+          omega (arith, found.counts.reasons_are reason, count_by-le-length (is_for reason) found.stops, all, few);
     }
 
 -- no date yet
-pub none_found : (choice : SheetChoice) (most : ℕ) → IsFound choice [] most [] 0 0 0
-none_found choice most =
+pub none_found : (choice : SheetChoice) (most : ℕ) (unread : UnreadDates) → NoneUnread unread
+    → IsFound choice [] most [] 0 unread
+none_found choice most unread none =
     record {
-      stopped = record {
+      stops = [];
+      are_stops = tt;
+      named = record {
         names_are = ap (map (counted [])) (sym (take-nil most));
         more_are = refl;
       };
-      short_are = refl;
-      kept_are = record { marks = []; told = tt; counted_are = refl };
+      counts = record { stopped_are = none.stopped; short_are = none.short; reasons_are = none.reasons };
     }
 
 -- how many dates these are
@@ -124,25 +158,6 @@ dates_few choice (x ∷ records) few =
       length-append (dates_of choice x) (all_dates choice records),
       length-map choice.dates.now f,
       dates_few choice records few,
-    )
-
--- no more are counted than there are
-told_length : {A : Type 0} (P : A → Type 0) (xs : List A) (marks : List Bool)
-    → AllZip (λ x m. (m ≡ true) ↔ P x) xs marks → length marks ≡ length xs
-told_length P [] [] told = refl
-told_length P [] (m ∷ marks) told = absurd told
-told_length P (x ∷ xs) [] told = absurd told
-told_length P (x ∷ xs) (m ∷ marks) told = omega (arith, told_length P xs marks told.1)
-
-pub kept_few : (choice : SheetChoice) (dates : List SheetDate) (most : ℕ) (names : List NameCount)
-    (more short kept : ℕ) → IsFound choice dates most names more short kept → length dates + 1 < 2 ^ 32 → kept < 2 ^ 32
-kept_few choice dates most names more short kept found few =
-    omega (
-      arith,
-      found.kept_are.counted_are,
-      count_by-le-length (λ (m : Bool). m) found.kept_are.marks,
-      told_length (IsKept choice) dates found.kept_are.marks found.kept_are.told,
-      few,
     )
 
 -- one more column of a record

@@ -1,12 +1,13 @@
 -- Which file serves which public clause:
 --   LineLemmas: that lines are the text of their fields, for `write`. ListLemmas: what is left of a list of fields.
 --   SheetLemmas: `pick`, and that records come one after the other.
---   NameListLemmas: `NameList::read`. HeadingLemmas: `headings`. RegisterLemmas: `write_register`. StopLemmas:
+--   MeaningLemmas, NameListLemmas: `NameList::read`. HeadingLemmas: `headings`. RegisterLemmas: `write_register`. StopLemmas:
 --     `unknown_names`.
 --   The others, and ConvertLemmas above them: `convert_sheet`.
 pub mod ListLemmas
 pub mod LineLemmas
 pub mod SheetLemmas
+pub mod MeaningLemmas
 pub mod NameListLemmas
 pub mod SendingLemmas
 pub mod NameLemmas

@@ -1,6 +1,7 @@
 -- What a clause sees of what is not known so far. No public contract cites this file.
 use Rattle.std.specs.Prelude.{◌^◌, ◌<◌, ◌+◌, ℕ, Err, List, Ok, Result, length, map}
-use Rattle.register_sheets.specs.UnknownNames.{IsFound, SheetDate, name_seen}
+use Rattle.register_sheets.specs.DateStops.{SheetDate}
+use Rattle.register_sheets.specs.UnknownNames.{IsFound, name_seen}
 use Rattle.register_sheets.specs.declared.choices.SheetChoice.{SheetChoice}
 use Rattle.register_sheets.specs.declared.sheet_ends.SheetCause.{SheetCause}
 use Rattle.register_sheets.specs.declared.stopped_dates.Found.{Found}
@@ -9,7 +10,7 @@ use Rattle.register_sheets.specs.declared.stopped_dates.Unknown.{Unknown}
 -- this is what is not known in the dates
 abbrev pub HasFound : SheetChoice → List SheetDate → ℕ → Found → Type 0
 HasFound choice dates most found =
-    IsFound choice dates most (map name_seen found.names.listed.items) found.names.more found.dates.short found.dates.kept
+    IsFound choice dates most (map name_seen found.names.listed.items) found.names.more found.unread
 
 -- so many dates more can be counted
 pub record HasSpace (choice : SheetChoice) (most count : ℕ) (found : Found) : Type 0 where

@@ -1,6 +1,7 @@
 pub mod Sheets
 pub mod Reading
 pub mod LineViews
+pub mod NameMeanings
 pub mod NameLists
 pub mod Choices
 pub mod ChoiceViews
@@ -13,6 +14,7 @@ pub mod Headings
 pub mod AskedOfSheets
 pub mod HeadingViews
 pub mod Registers
+pub mod DateStops
 pub mod UnknownNames
 pub mod UnknownViews
 pub mod FoundViews

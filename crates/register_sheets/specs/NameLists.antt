@@ -1,7 +1,6 @@
 -- Lists of names: a CSV text with the columns `name`, `means` and `in`, by a form of this project.
-use Rattle.std.specs.Prelude.{◌≡◌, ◌≢◌, ◌≤◌, ◌+◌, ◌==◌, ◌++◌, ℕ, Bool, true, List, [], ◌∷◌, ⊤, All, Any, codes}
+use Rattle.std.specs.Prelude.{◌≡◌, ◌≢◌, ◌+◌, ◌==◌, ◌++◌, ℕ, Bool, true, List, [], ◌∷◌, ⊤, All, Any, codes}
 use Rattle.std.specs.Prelude.{get_or, length, map}
-use Rattle.std.specs.Fmt.{decimal}
 use Rattle.std.specs.Prelude.{IsUtf8}
 use Rattle.std.specs.List.{flat_map, list_any, slice_split}
 use Rattle.std.specs.Str.{bytes_eq, str_to_ascii_lowercase}
@@ -12,32 +11,15 @@ use Rattle.date_texts.specs.declared.calendar.Calendar.{Calendar}
 use Rattle.register_records.specs.Entries.{Fields}
 use Rattle.written_dates.specs.declared.fields.CalendarName.{CalendarName}
 use Rattle.written_dates.specs.declared.meanings.Calendars.{Calendars}
-use Rattle.written_dates.specs.declared.meanings.Mark.{Mark}
-use Rattle.written_dates.specs.declared.meanings.Mark.TheVariants.{Kalends, Nones, Ides}
 use Rattle.written_dates.specs.declared.meanings.Meaning.{Meaning}
-use Rattle.written_dates.specs.declared.meanings.Meaning.TheVariants as meaning
 use Rattle.written_dates.specs.declared.meanings.Name.{Name}
+use Rattle.register_sheets.specs.NameMeanings.{Says}
 use Rattle.register_sheets.specs.Sheets.{chosen}
 use Rattle.register_sheets.specs.declared.name_meanings.Means.{Means}
 use Rattle.register_sheets.specs.declared.name_meanings.Means.TheVariants as means
 use Rattle.register_sheets.specs.declared.name_lists.NameLine.{NameLine}
 use Rattle.register_sheets.specs.declared.name_lists.NameListFault.{NameListFault}
 use Rattle.register_sheets.specs.declared.name_lists.NameListFault.TheVariants as fault
-
-abbrev pub mark_name : Mark → List ℕ
-mark_name Kalends = codes "K"
-mark_name Nones = codes "N"
-mark_name Ides = codes "I"
-
--- the field `means` says this of a name
-abbrev pub Says : List ℕ → Means → Type 0
-Says field (means.InDates meaning.Nothing) = field ≡ []
-Says field (means.InDates (meaning.Month month)) =
-    (1 ≤ month) × (month ≤ 13) × (field ≡ codes "month " ++ decimal month)
-Says field (means.InDates (meaning.Number number)) = (number ≤ 999_999_999) × (field ≡ decimal number)
-Says field (means.InDates (meaning.Mark mark)) = field ≡ mark_name mark
-Says field (means.Calendar calendar) = IsNamed field (calendar_name calendar)
-Says field means.Open = field ≡ codes "?"
 
 -- the names in a field: what stands between its spaces (32)
 abbrev pub names_in : List ℕ → List (List ℕ)

@@ -1,11 +1,14 @@
 -- What a clause sees of `SheetRows`. No public contract cites this file.
-use Rattle.std.specs.Prelude.{◌≡◌, ◌+◌, ◌<◌, ◌^◌, ℕ, List, get_or, length, map, option_to_list, slice_get, count_by, take}
+use Rattle.std.specs.Prelude.{◌≡◌, ◌+◌, ℕ, List, Option, get_or, length, map, option_to_list, slice_get, count_by, take}
+use Rattle.std.specs.List.{AllZip}
 use Rattle.register_records.specs.Outcomes.{TableRow}
 use Rattle.register_records.specs.Views.{row_seen}
 use Rattle.register_records.specs.Entries.{Fields}
 use Rattle.register_sheets.specs.Converted.{AreRowsOfRecord, is_refused}
-use Rattle.register_sheets.specs.UnknownNames.{SheetDate, dates_of, is_short, stops_in}
+use Rattle.register_sheets.specs.DateStops.{DateStop, IsStopOf, SheetDate, count_of, is_for}
+use Rattle.register_sheets.specs.UnknownNames.{dates_of, is_short, names_in}
 use Rattle.register_sheets.specs.declared.choices.SheetChoice.{SheetChoice}
+use Rattle.register_sheets.specs.declared.reasons.Reason.{Reason}
 use Rattle.register_sheets.specs.declared.sheet_rows.SheetRows.{SheetRows}
 use Rattle.register_sheets.specs.declared.unread_dates.UnreadDates.{UnreadDates}
 
@@ -20,18 +23,18 @@ CountsRefused rows old new =
 
 -- these dates are counted
 pub record CountsMore (choice : SheetChoice) (dates : List SheetDate) (old new : UnreadDates) : Type 0 where
-  pub stopped : new.stopped ≡ old.stopped + length (stops_in choice dates)
+  pub stops : List (Option DateStop)
+  pub are_stops : AllZip (IsStopOf choice) dates stops
+  pub stopped : new.stopped ≡ old.stopped + length (names_in stops)
   pub short : new.short ≡ old.short + count_by (is_short choice) dates
-
--- so many dates more can be counted
-pub record HasPlace (count : ℕ) (unread : UnreadDates) : Type 0 where
-  pub stopped : unread.stopped + count < 2 ^ 64
-  pub short : unread.short + count < 2 ^ 64
+  pub reasons : (reason : Reason)
+      → count_of new.reasons reason ≡ count_of old.reasons reason + count_by (is_for reason) stops
 
 -- no date is counted yet
 pub record NoneUnread (unread : UnreadDates) : Type 0 where
   pub stopped : unread.stopped ≡ 0
   pub short : unread.short ≡ 0
+  pub reasons : (reason : Reason) → count_of unread.reasons reason ≡ 0
 
 -- these are the rows of the record with this number now, and its dates and the refused ones of them are counted
 pub record TakesRecord (choice : SheetChoice) (number : ℕ) (fields : Fields) (old new : SheetRows) : Type 0 where

@@ -13,7 +13,8 @@ ghost use Rattle.register_sheets.specs.Converted.{sheet_width};
 ghost use Rattle.register_sheets.specs.Choices.{column_limit};
 ghost use Rattle.register_sheets.specs.LineViews.{GainsFields};
 ghost use Rattle.register_sheets.specs.Reading.{IsReading, left_of};
-ghost use Rattle.register_sheets.specs.RowViews.{HasPlace, NoneUnread, TakesRecord, rows_seen};
+ghost use Rattle.register_sheets.specs.RowViews.{NoneUnread, TakesRecord, rows_seen};
+ghost use Rattle.register_sheets.specs.UnknownViews.{HasPlace};
 ghost use Rattle.register_sheets.specs.Sending.{CountsAll, Ends, HasBody, HasFront, HasMade, end_of, top_records};
 ghost use Rattle.register_sheets.specs.Sheets.{filled, widest};
 ghost use Rattle.register_sheets.specs.UnknownNames.{AreUnread, AreUnreadIn, all_dates};
@@ -210,7 +211,7 @@ fn write_body<W: Output>(
         → HasMade sender.old.delimiter begun (W.contents output.new) sender.new.lines
         (head ++ body_records width setup.now.choice.columns.now (left_of records.old) made) [])) }
     ensures unread { IfOk result (λ r. r.1 ≡ false → AreUnread setup.now.choice
-        (all_dates setup.now.choice (left_of records.old)) rows.new.unread.stopped rows.new.unread.short) }
+        (all_dates setup.now.choice (left_of records.old)) rows.new.unread) }
     ensures part { IfErr result (λ c. c ≡ SheetCause.NoMemory → (made : List (List TableRow))
         × HasBody setup.now.choice (left_of records.old) made
         × ((begun : Option (List ℕ)) (head : List Fields)
@@ -284,8 +285,7 @@ fn write_sheet<W: Output>(
         (IsWholeSheet setup.now.choice (left_of records.old) r.0 rows.new.refused)) }
     ensures full { IfOk result (λ r. r.1 ≡ true → Gains (W.contents output.old) (W.contents output.new)
         (IsFullSheet setup.now.choice (left_of records.old))) }
-    ensures unread { IfOk result (λ r. r.1 ≡ false → AreUnreadIn setup.now.choice (left_of records.old)
-        rows.new.unread.stopped rows.new.unread.short) }
+    ensures unread { IfOk result (λ r. r.1 ≡ false → AreUnreadIn setup.now.choice (left_of records.old) rows.new.unread) }
     ensures flushed { OnOk result (W.is_flushed output.new ≡ true) }
     ensures part { IfErr result (λ c. c ≡ SheetCause.NoMemory → Gains (W.contents output.old) (W.contents output.new)
         (ArePartOfSheet setup.now.choice (left_of records.old))) }
@@ -331,9 +331,9 @@ pub fn convert_sheet<W: Output>(
     // The output has gained the sheet with the columns asked, and nothing else.
     ensures whole { IfWhole result (λ rows refused unread. Gains (W.contents output.old) (W.contents output.new)
         (IsWholeSheet setup.now.choice (text_records setup.now.choice.delimiter sheet.now) rows refused)) }
-    // So many of its dates were stopped by a name that is not known, and left empty for their short year.
+    // So many of its dates were not read.
     ensures unread { IfWhole result (λ rows refused unread. AreUnreadIn setup.now.choice
-        (text_records setup.now.choice.delimiter sheet.now) unread.stopped unread.short) }
+        (text_records setup.now.choice.delimiter sheet.now) unread) }
     ensures flushed { IfWhole result (λ rows refused unread. W.is_flushed output.new ≡ true) }
 
     // Where memory ran out, it has gained the first records of that sheet, or nothing.

@@ -93,9 +93,11 @@ fn line_of(alloc: Global, record: &ByteRecord, number: usize) -> Result<NameLine
 
 impl NameList {
     /// Reads a list: CSV with commas, of which the first record is the header `name,means,in`, with any columns behind
-    /// these. `means` is `month 1` to `month 13`, a number up to 999999999, the mark `K`, `N` or `I`, a calendar, nothing,
-    /// or `?`, by which a name stays open. `in` has the calendars in which the name means this, with a space between
-    /// two; all where it is empty.
+    /// these. `means` is `month 1` to `month 13`, a number up to 999999999, the mark `K`, `N` or `I`, `weekday 0` for Sunday
+    /// to `weekday 6`, `decade 1` to `decade 10`, `after`, `before`, `eve`, `morrow`, `octave`, a feast as `easter -28`,
+    /// `feast 9-29`, `feast 3-1 -5` or `sunday advent 3`, Sundays as `sundays lent`, a calendar, nothing, or `?`, by which a
+    /// name stays open. `in` has the calendars in which the name means this, with a space between two; all where it is
+    /// empty.
     ///
     /// # Errors
     ///

@@ -1,13 +1,18 @@
 //! What the second field of a list says.
 
-ghost use Rattle.std.specs.Prelude.{◌≡◌, ◌↔◌, ℕ, None, true, IfSome};
+ghost use Rattle.std.specs.Prelude.{◌≡◌, ◌<◌, ◌^◌, ◌↔◌, ◌++◌, ℕ, None, IfSome, codes, true};
 ghost use Rattle.std.specs.Fmt.{decimal};
-ghost use Rattle.register_sheets.specs.NameLists.{Says, mark_name};
+ghost use Rattle.register_sheets.specs.NameMeanings.{IsNumberIn, IsWordAndNumber, Says};
+ghost use Rattle.register_sheets.specs.NameMeanings.{SaysMeaning, mark_name, relation_name, season_name, weekday_name};
 ghost use Rattle.register_sheets.specs.declared.name_meanings.Means.{Means as MeansValue};
+ghost use Rattle.written_dates.specs.declared.meanings.Meaning.{Meaning as MeaningValue};
 
+use crate::feast_names::{feast_said, season_said};
+use church_year::Season;
 use date_texts::{Calendar, calendar_named};
+use day_numbers::Weekday;
 use itoa::Buffer;
-use written_dates::{Mark, Meaning};
+use written_dates::{Mark, Meaning, Relation};
 
 /// The largest number that a name can mean.
 const MAX_NUMBER: u32 = 999_999_999;
@@ -30,31 +35,43 @@ fn is_decimal(text: &str, number: u32) -> bool
     Buffer::new().format(number) == text
 }
 
-/// The month that `month 1` to `month 13` say.
-fn month_said(field: &str) -> Option<u8>
-    ensures some { IfSome result (λ month. Says field.now (MeansValue.InDates (Meaning.Month month))) }
-    ensures none { result ≡ None → (month : ℕ) → ¬ Says field.now (MeansValue.InDates (Meaning.Month month)) }
+/// The number that a text in decimal says.
+fn number_of(text: &str) -> Option<u32>
+    ensures some { IfSome result (λ number. text.now ≡ decimal number) }
+    ensures none { result ≡ None → (number : ℕ) → number < 2 ^ 32 → ¬ (text.now ≡ decimal number) }
 {
-    let number = field.strip_prefix("month ")?;
-    let mut month = 1;
-    'months: while month <= 13 {
-        if is_decimal(number, month as u32) {
-            return Some(month);
-        }
-        month += 1;
-    }
-    None
-}
-
-/// The number that a field in decimal says.
-fn number_said(field: &str) -> Option<u32>
-    ensures some { IfSome result (λ number. Says field.now (MeansValue.InDates (Meaning.Number number))) }
-    ensures none { result ≡ None → (number : ℕ) → ¬ Says field.now (MeansValue.InDates (Meaning.Number number)) }
-{
-    match field.parse::<u32>() {
-        Ok(number) if number <= MAX_NUMBER && is_decimal(field, number) => Some(number),
+    match text.parse::<u32>() {
+        Ok(number) if is_decimal(text, number) => Some(number),
         _ => None,
     }
+}
+
+/// The number within these bounds that a text in decimal says.
+pub(crate) fn number_said(text: &str, least: u32, most: u32) -> Option<u32>
+    ensures some { IfSome result (IsNumberIn least most text.now) }
+    ensures none { result ≡ None → (number : ℕ) → ¬ IsNumberIn least most text.now number }
+{
+    let number = number_of(text)?;
+    if number < least || number > most {
+        return None;
+    }
+    Some(number)
+}
+
+/// The month that `month 1` to `month 13` say.
+fn month_said(field: &str) -> Option<u8>
+    ensures some { IfSome result (IsWordAndNumber (codes "month") 1 13 field.now) }
+    ensures none { result ≡ None → (month : ℕ) → ¬ IsWordAndNumber (codes "month") 1 13 field.now month }
+{
+    Some(number_said(field.strip_prefix("month ")?, 1, 13)? as u8)
+}
+
+/// The day of the decade that `decade 1` to `decade 10` say.
+fn decade_day_said(field: &str) -> Option<u8>
+    ensures some { IfSome result (IsWordAndNumber (codes "decade") 1 10 field.now) }
+    ensures none { result ≡ None → (day : ℕ) → ¬ IsWordAndNumber (codes "decade") 1 10 field.now day }
+{
+    Some(number_said(field.strip_prefix("decade ")?, 1, 10)? as u8)
 }
 
 /// The mark that `K`, `N` or `I` says.
@@ -70,21 +87,81 @@ fn mark_said(field: &str) -> Option<Mark>
     }
 }
 
+/// The day of the week that `weekday 0`, for Sunday, to `weekday 6` say.
+fn weekday_said(field: &str) -> Option<Weekday>
+    ensures some { IfSome result (λ weekday. field.now ≡ weekday_name weekday) }
+    ensures none { result ≡ None → (weekday : Weekday) → ¬ (field.now ≡ weekday_name weekday) }
+{
+    match field {
+        "weekday 0" => Some(Weekday::Sunday),
+        "weekday 1" => Some(Weekday::Monday),
+        "weekday 2" => Some(Weekday::Tuesday),
+        "weekday 3" => Some(Weekday::Wednesday),
+        "weekday 4" => Some(Weekday::Thursday),
+        "weekday 5" => Some(Weekday::Friday),
+        "weekday 6" => Some(Weekday::Saturday),
+        _ => None,
+    }
+}
+
+/// How a day stands to a feast.
+fn relation_said(field: &str) -> Option<Relation>
+    ensures some { IfSome result (λ relation. field.now ≡ relation_name relation) }
+    ensures none { result ≡ None → (relation : Relation) → ¬ (field.now ≡ relation_name relation) }
+{
+    match field {
+        "after" => Some(Relation::After),
+        "before" => Some(Relation::Before),
+        "eve" => Some(Relation::Eve),
+        "morrow" => Some(Relation::Morrow),
+        "octave" => Some(Relation::Octave),
+        _ => None,
+    }
+}
+
+/// The season whose Sundays `sundays advent` and the like say.
+fn sundays_said(field: &str) -> Option<Season>
+    ensures some { IfSome result (λ season. field.now ≡ codes "sundays " ++ season_name season) }
+    ensures none { result ≡ None → (season : Season) → ¬ (field.now ≡ codes "sundays " ++ season_name season) }
+{
+    season_said(field.strip_prefix("sundays ")?)
+}
+
+/// What a field says of a name in dates.
+fn meaning_said(field: &str) -> Option<Meaning>
+    ensures some { IfSome result (SaysMeaning field.now) }
+    ensures none { result ≡ None → (meaning : MeaningValue) → ¬ SaysMeaning field.now meaning }
+{
+    if field.is_empty() {
+        Some(Meaning::Nothing)
+    } else if let Some(month) = month_said(field) {
+        Some(Meaning::Month(month))
+    } else if let Some(number) = number_said(field, 0, MAX_NUMBER) {
+        Some(Meaning::Number(number))
+    } else if let Some(mark) = mark_said(field) {
+        Some(Meaning::Mark(mark))
+    } else if let Some(weekday) = weekday_said(field) {
+        Some(Meaning::Weekday(weekday))
+    } else if let Some(day) = decade_day_said(field) {
+        Some(Meaning::DecadeDay(day))
+    } else if let Some(relation) = relation_said(field) {
+        Some(Meaning::Relation(relation))
+    } else if let Some(season) = sundays_said(field) {
+        Some(Meaning::Sundays(season))
+    } else {
+        Some(Meaning::Feast(feast_said(field)?))
+    }
+}
+
 /// What a field says; `None` exactly where it says nothing.
 pub(crate) fn means_said(field: &str) -> Option<Means>
     ensures some { IfSome result (λ means. Says field.now means) }
     ensures none { result ≡ None → (means : MeansValue) → ¬ Says field.now means }
 {
-    if field.is_empty() {
-        Some(Means::InDates(Meaning::Nothing))
-    } else if field == "?" {
+    if field == "?" {
         Some(Means::Open)
-    } else if let Some(month) = month_said(field) {
-        Some(Means::InDates(Meaning::Month(month)))
-    } else if let Some(number) = number_said(field) {
-        Some(Means::InDates(Meaning::Number(number)))
-    } else if let Some(mark) = mark_said(field) {
-        Some(Means::InDates(Meaning::Mark(mark)))
+    } else if let Some(meaning) = meaning_said(field) {
+        Some(Means::InDates(meaning))
     } else {
         Some(Means::Calendar(calendar_named(field)?))
     }

@@ -7,11 +7,14 @@ ghost use Rattle.register_records.specs.Outcomes.{IsRowOf};
 ghost use Rattle.register_records.specs.Views.{row_seen};
 ghost use Rattle.register_sheets.specs.Choices.{asked_targets, register_entry};
 ghost use Rattle.register_sheets.specs.Converted.{is_refused};
-ghost use Rattle.register_sheets.specs.RowViews.{CountsMore, HasPlace};
+ghost use Rattle.register_sheets.specs.RowViews.{CountsMore};
+ghost use Rattle.register_sheets.specs.UnknownViews.{HasPlace};
 
 use crate::choices::{DateColumn, SheetSetup};
+use crate::reading::field_at;
 use crate::register_fields::{calendar_of, id_of, put_date};
-use crate::unread_dates::UnreadDates;
+use crate::stops::stop_by;
+use crate::unread_dates::{UnreadDates, is_emptied};
 use csv::ByteRecord;
 use itoa::Buffer;
 use register_records::{Entry, Row};
@@ -41,7 +44,9 @@ pub(crate) fn renew_row(
     let id = id_of(choice.id, buffer.format(number).as_bytes(), record);
     let (calendar, called) = calendar_of(choice.calendars, column.calendar, record);
     put_date(date, choice, column, called, record)?;
-    unread.count(choice, column, called, record, date.as_slice());
+    let stop = stop_by(choice, column, called, record, date.as_slice());
+    let field = field_at(record, column.date as usize);
+    unread.add(stop, is_emptied(field, date.as_slice()));
     let Some(entry) = Entry::of_fields(number, id, calendar, date.as_slice()) else {
         unreachable!()
     };

@@ -33,7 +33,8 @@ impl SheetRows {
     ghost use Rattle.register_sheets.specs.Choices.{column_limit};
     ghost use Rattle.register_sheets.specs.Converted.{AreRowsOfRecord, asked_fields};
     ghost use Rattle.register_sheets.specs.LineViews.{GainsFields};
-    ghost use Rattle.register_sheets.specs.RowViews.{CountsMore, CountsRefused, HasPlace, NoneUnread, rows_seen};
+    ghost use Rattle.register_sheets.specs.RowViews.{CountsMore, CountsRefused, NoneUnread, rows_seen};
+    ghost use Rattle.register_sheets.specs.UnknownViews.{HasPlace};
     ghost use Rattle.register_sheets.specs.UnknownNames.{dates_of};
 
     /// The rows of no record yet, so many.
@@ -50,10 +51,7 @@ impl SheetRows {
             count,
             date: Vec::new(alloc),
             refused,
-            unread: UnreadDates {
-                stopped: 0,
-                short: 0,
-            },
+            unread: UnreadDates::none(),
         }
     }
 

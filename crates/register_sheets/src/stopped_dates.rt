@@ -1,7 +1,6 @@
 //! The names in a sheet that are not known.
 
-ghost use Rattle.std.specs.Prelude.{◌≡◌, ◌≢◌, ◌≤◌, ◌<◌, ◌+◌, ◌++◌, ◌⊎◌, ◌∷◌, ◌^◌, ◌↔◌, [], Bool, IfErr, IfOk, List, OnOk, Some};
-ghost use Rattle.std.specs.Prelude.{false, if◌then◌else◌, length, map, true};
+ghost use Rattle.std.specs.Prelude.{◌≡◌, ◌≢◌, ◌≤◌, ◌<◌, ◌++◌, ◌⊎◌, ◌∷◌, [], IfErr, IfOk, List, OnOk, length, map};
 ghost use Rattle.csv.specs.Records.{fields_of};
 ghost use Rattle.register_records.specs.Entries.{record_limit, text_records};
 ghost use Rattle.register_sheets.specs.Choices.{date_limit};
@@ -9,8 +8,9 @@ ghost use Rattle.register_sheets.specs.Converted.{below};
 ghost use Rattle.register_sheets.specs.FoundViews.{HasFound, HasSpace, unknown_of};
 ghost use Rattle.register_sheets.specs.LineViews.{GainsFields};
 ghost use Rattle.register_sheets.specs.Reading.{IsReading, left_of};
-ghost use Rattle.register_sheets.specs.UnknownNames.{IsNoDate, IsUnknown, SheetDate, StaysWritten, all_dates, dates_of};
-ghost use Rattle.register_sheets.specs.UnknownNames.{is_emptied, list_head, list_text, name_record, name_seen};
+ghost use Rattle.register_sheets.specs.DateStops.{SheetDate};
+ghost use Rattle.register_sheets.specs.UnknownNames.{IsUnknown, all_dates, dates_of, list_head, list_text, name_record};
+ghost use Rattle.register_sheets.specs.UnknownNames.{name_seen};
 
 use crate::choices::{DateColumn, SheetChoice, SheetSetup};
 use crate::lines::SheetLines;
@@ -18,14 +18,12 @@ use crate::reading::{field_at, pass_names, read_next, records_of};
 use crate::register_fields::{calendar_of, put_date};
 use crate::sheet_ends::SheetCause;
 use crate::stopped_names::{StoppedNames, UnknownName};
-use crate::stops::stop_of;
-use crate::unread_dates::is_emptied;
+use crate::stops::stop_by;
+use crate::unread_dates::{UnreadDates, is_emptied};
 use csv::{ByteRecord, Reader};
-use date_texts::{Calendar, read_date};
 use itoa::Buffer;
 use register_records::MAX_RECORDS;
 use std::alloc::{AllocError, Global};
-use std::str;
 
 /// What is not known in a sheet.
 #[derive(Drop)]
@@ -34,69 +32,15 @@ pub struct Unknown {
     pub names: Vec<UnknownName>,
     /// How many dates were stopped by other names.
     pub more: u64,
-    /// How many dates are left empty, as their year is short.
-    pub short: u64,
-    /// How many dates stay as they are written although they are in no register's form.
-    pub kept: u64,
-}
-
-/// How many dates were left otherwise than as a register's.
-#[derive(Clone, Copy)]
-struct DateCounts {
-    short: u64,
-    kept: u64,
+    /// How many dates were not read.
+    pub unread: UnreadDates,
 }
 
 /// What is not known in the dates so far.
 #[derive(Drop)]
 struct Found {
     names: StoppedNames,
-    dates: DateCounts,
-}
-
-/// Whether a text is no date as registers have it.
-fn is_no_date(calendar: Calendar, text: &[u8]) -> bool
-    ensures { (result ≡ true) ↔ IsNoDate calendar text.now }
-{
-    match str::from_utf8(text) {
-        Ok(text) => read_date(calendar, text).is_err(),
-        Err(_) => true,
-    }
-}
-
-/// Whether a field that is not empty stays as it is.
-fn stays(field: &[u8], date: &[u8]) -> bool
-    ensures { (result ≡ true) ↔ ((field.now ≢ []) × (date.now ≡ field.now)) }
-{
-    !field.is_empty() && date == field
-}
-
-/// Whether a field of a known calendar, for which this date is written, stays as it is although it is no date.
-fn stays_written(called: Option<Calendar>, field: &[u8], date: &[u8]) -> bool
-    ensures { (result ≡ true) ↔ StaysWritten called field.now date.now }
-{
-    match called {
-        Some(calendar) => stays(field, date) && is_no_date(calendar, field),
-        None => false,
-    }
-}
-
-impl DateCounts {
-    /// Counts one more date: this is written for a field whose calendar is the one called.
-    fn add(&mut self, called: Option<Calendar>, field: &[u8], date: &[u8])
-        requires short { self.old.short < 2 ^ 32 }
-        requires kept { self.old.kept < 2 ^ 32 }
-        ensures short { self.new.short ≡ self.old.short + (if is_emptied field.now date.now then 1 else 0) }
-        ensures kept { (mark : Bool) × ((mark ≡ true) ↔ StaysWritten called field.now date.now)
-            × (self.new.kept ≡ self.old.kept + (if mark then 1 else 0)) }
-    {
-        if is_emptied(field, date) {
-            self.short += 1;
-        }
-        if stays_written(called, field, date) {
-            self.kept += 1;
-        }
-    }
+    unread: UnreadDates,
 }
 
 impl Found {
@@ -116,10 +60,10 @@ impl Found {
     {
         let (_, called) = calendar_of(choice.calendars, column.calendar, record);
         put_date(date, choice, column, called, record)?;
-        let stop = stop_of(choice, column, called, record);
+        let stop = stop_by(choice, column, called, record, date.as_slice());
         self.names.add(alloc, stop, most)?;
         let field = field_at(record, column.date as usize);
-        self.dates.add(called, field, date.as_slice());
+        self.unread.add(stop, is_emptied(field, date.as_slice()));
         Ok(())
     }
 
@@ -186,7 +130,7 @@ impl Found {
         requires few { length choice.now.dates.now ≤ date_limit }
         requires none { HasFound choice.now [] most self.old }
         ensures found { OnOk result (IsUnknown choice.now (left_of records.old) most
-            (map name_seen self.new.names.listed.items) self.new.names.more self.new.dates.short self.new.dates.kept) }
+            (map name_seen self.new.names.listed.items) self.new.names.more self.new.unread) }
         ensures no_names { IfErr result (λ c. c ≡ SheetCause.NoNames
             → length (left_of records.old) ≤ choice.now.above) }
         ensures too_many { IfErr result (λ c. c ≡ SheetCause.TooManyRecords
@@ -268,7 +212,7 @@ pub fn unknown_names(
 ) -> Result<Unknown, SheetCause>
     ensures found { IfOk result (λ unknown.
         IsUnknown setup.now.choice (text_records setup.now.choice.delimiter sheet.now) most
-        (map name_seen unknown.names.items) unknown.more unknown.short unknown.kept) }
+        (map name_seen unknown.names.items) unknown.more unknown.unread) }
     ensures no_names { IfErr result (λ c. c ≡ SheetCause.NoNames
         → length (text_records setup.now.choice.delimiter sheet.now) ≤ setup.now.choice.above) }
     ensures too_many { IfErr result (λ c. c ≡ SheetCause.TooManyRecords
@@ -283,14 +227,13 @@ pub fn unknown_names(
             listed: Vec::new(alloc),
             more: 0,
         },
-        dates: DateCounts { short: 0, kept: 0 },
+        unread: UnreadDates::none(),
     };
     let added = found.add_sheet(alloc, choice, &mut records, &mut record, most);
     let unknown = Unknown {
         names: found.names.listed,
         more: found.names.more,
-        short: found.dates.short,
-        kept: found.dates.kept,
+        unread: found.unread,
     };
     unknown_of(added, unknown)
 }

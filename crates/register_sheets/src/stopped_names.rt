@@ -3,10 +3,11 @@
 ghost use Rattle.std.specs.Prelude.{◌≡◌, ◌<◌, ◌++◌, ◌∷◌, [], List, Some, IfNone, IfSome, OnOk, false, map};
 ghost use Rattle.std.specs.Prelude.{option_to_list, slice_get, true};
 ghost use Rattle.std.specs.List.{list_any};
-ghost use Rattle.register_sheets.specs.UnknownNames.{NameStop, is_alike as alike, name_seen};
-ghost use Rattle.register_sheets.specs.UnknownViews.{HasNames, HasRoom, if_stop, named, stop_seen};
+ghost use Rattle.register_sheets.specs.DateStops.{NameStop as SeenName, name_in};
+ghost use Rattle.register_sheets.specs.UnknownNames.{is_alike as alike, name_seen as count_seen};
+ghost use Rattle.register_sheets.specs.UnknownViews.{HasNames, HasRoom, if_stop, named, name_seen};
 
-use crate::stops::{Stop, is_alike};
+use crate::stops::{DateStop, NameStop, is_alike};
 use date_texts::Calendar;
 use std::alloc::{AllocError, Global};
 
@@ -31,10 +32,10 @@ pub(crate) struct StoppedNames {
 }
 
 /// A name, as what stopped a date.
-fn stop_by(name: &UnknownName) -> Stop<'_>
-    ensures { stop_seen result ≡ named name.now }
+fn stop_by(name: &UnknownName) -> NameStop<'_>
+    ensures { name_seen result ≡ named name.now }
 {
-    Stop {
+    NameStop {
         name: name.name.as_slice(),
         calendar: name.calendar,
     }
@@ -42,12 +43,12 @@ fn stop_by(name: &UnknownName) -> Stop<'_>
 
 impl StoppedNames {
     /// The place of the name of a stop among those listed.
-    fn place_of(&self, stop: Stop<'_>) -> Option<usize>
-        ensures some { IfSome result (λ place. (name : NameStop)
+    fn place_of(&self, stop: NameStop<'_>) -> Option<usize>
+        ensures some { IfSome result (λ place. (name : SeenName)
             × (slice_get (map named self.now.listed.items) place ≡ Some name)
-            × (alike name (stop_seen stop.entry) ≡ true)) }
+            × (alike name (name_seen stop.entry) ≡ true)) }
         ensures none { IfNone result
-            (list_any (λ name. alike name (stop_seen stop.entry)) (map named self.now.listed.items) ≡ false) }
+            (list_any (λ name. alike name (name_seen stop.entry)) (map named self.now.listed.items) ≡ false) }
     {
         'names: for place in 0..self.listed.len() {
             if is_alike(stop_by(&self.listed[place]), stop) {
@@ -58,9 +59,9 @@ impl StoppedNames {
     }
 
     /// Lists the name of a stop.
-    fn list(&mut self, alloc: Global, stop: Stop<'_>) -> Result<(), AllocError>
-        ensures listed { OnOk result (map name_seen self.new.listed.items
-            ≡ map name_seen self.old.listed.items ++ (stop.entry.name.now, stop.entry.calendar, 1) ∷ []) }
+    fn list(&mut self, alloc: Global, stop: NameStop<'_>) -> Result<(), AllocError>
+        ensures listed { OnOk result (map count_seen self.new.listed.items
+            ≡ map count_seen self.old.listed.items ++ (stop.entry.name.now, stop.entry.calendar, 1) ∷ []) }
         ensures more { self.new.more ≡ self.old.more }
     {
         self.listed.push(UnknownName {
@@ -72,10 +73,10 @@ impl StoppedNames {
     }
 
     /// Counts a stop.
-    fn count(&mut self, alloc: Global, stop: Stop<'_>, most: usize) -> Result<(), AllocError>
+    fn count(&mut self, alloc: Global, stop: NameStop<'_>, most: usize) -> Result<(), AllocError>
         requires { HasRoom self.old }
-        ensures { OnOk result ((stops : List NameStop) → HasNames most stops self.old
-            → HasNames most (stops ++ stop_seen stop.entry ∷ []) self.new) }
+        ensures { OnOk result ((stops : List SeenName) → HasNames most stops self.old
+            → HasNames most (stops ++ name_seen stop.entry ∷ []) self.new) }
     {
         if let Some(place) = self.place_of(stop) {
             self.listed[place].count += 1;
@@ -92,16 +93,16 @@ impl StoppedNames {
     pub fn add(
         &mut self,
         alloc: Global,
-        stop: Option<Stop<'_>>,
+        stop: Option<DateStop<'_>>,
         most: usize,
     ) -> Result<(), AllocError>
         requires { HasRoom self.old }
-        ensures { OnOk result ((stops : List NameStop) → HasNames most stops self.old
-            → HasNames most (stops ++ option_to_list (if_stop stop.entry)) self.new) }
+        ensures { OnOk result ((stops : List SeenName) → HasNames most stops self.old
+            → HasNames most (stops ++ option_to_list (name_in (if_stop stop.entry))) self.new) }
     {
         match stop {
-            Some(stop) => self.count(alloc, stop, most),
-            None => Ok(()),
+            Some(DateStop::Name(name)) => self.count(alloc, name, most),
+            _ => Ok(()),
         }
     }
 }

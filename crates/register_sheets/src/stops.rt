@@ -1,25 +1,38 @@
 //! What stops a date of a sheet.
 
-ghost use Rattle.std.specs.Prelude.{◌≡◌, Some, option_map};
+ghost use Rattle.std.specs.Prelude.{◌≡◌, ◌≢◌, ◌↔◌, [], true};
 ghost use Rattle.csv.specs.Records.{fields_of};
 ghost use Rattle.written_dates.specs.Fields.{without_blanks as without_spec};
-ghost use Rattle.written_dates.specs.Unknown.{unknown_word as word_spec};
-ghost use Rattle.register_sheets.specs.UnknownNames.{is_alike, is_same, name_stop, stop_by};
-ghost use Rattle.register_sheets.specs.UnknownViews.{if_stop, stop_seen};
+ghost use Rattle.register_sheets.specs.Choices.{date_text};
+ghost use Rattle.register_sheets.specs.DateStops.{IsNoDate, IsStopBy, IsStopIn, StaysWritten, called_for, calendar_field};
+ghost use Rattle.register_sheets.specs.DateStops.{calendar_stop as calendar_spec, text_stop as text_spec};
+ghost use Rattle.register_sheets.specs.UnknownNames.{is_alike, is_same};
+ghost use Rattle.register_sheets.specs.UnknownViews.{if_stop, name_seen, stop_seen};
 
 use crate::choices::{CalendarField, DateColumn, SheetChoice};
 use crate::reading::field_at;
+use crate::reasons::{Reason, reason_by};
 use csv::ByteRecord;
-use date_texts::Calendar;
-use written_dates::{Names, is_same_word, unknown_word, without_blanks};
+use date_texts::{Calendar, read_date};
+use std::str;
+use written_dates::{Choice, Names, is_same_word, stop_of, unknown_word, without_blanks};
 
-/// A name that stopped a date: a name of a calendar that is not known, or the first word that is none in the date's
-/// calendar.
+/// A name that is not known, and stopped a date.
 #[derive(Clone, Copy)]
-pub(crate) struct Stop<'a> {
+pub struct NameStop<'a> {
+    /// A name of a calendar, or the first word of the date that is none in its calendar.
     pub name: &'a [u8],
     /// The calendar in which the word is not known; none for a name of a calendar.
     pub calendar: Option<Calendar>,
+}
+
+/// What stops a date.
+#[derive(Clone, Copy)]
+pub enum DateStop<'a> {
+    /// A name that is not known.
+    Name(NameStop<'a>),
+    /// Another reason.
+    Reason(Reason),
 }
 
 fn is_same_calendar(a: Option<Calendar>, b: Option<Calendar>) -> bool
@@ -32,56 +45,106 @@ fn is_same_calendar(a: Option<Calendar>, b: Option<Calendar>) -> bool
     }
 }
 
-/// Whether two stops are of one name.
-pub(crate) fn is_alike(a: Stop<'_>, b: Stop<'_>) -> bool
-    ensures { result ≡ is_alike (stop_seen a.entry) (stop_seen b.entry) }
+/// Whether two names are one.
+pub(crate) fn is_alike(a: NameStop<'_>, b: NameStop<'_>) -> bool
+    ensures { result ≡ is_alike (name_seen a.entry) (name_seen b.entry) }
 {
     is_same_calendar(a.calendar, b.calendar) && is_same_word(a.name, b.name)
 }
 
-/// The word that stops a date in its calendar.
-fn word_in<'a>(date: &'a [u8], names: &Names, calendar: Calendar) -> Option<Stop<'a>>
-    ensures { if_stop result
-        ≡ option_map (λ word. (word, Some calendar)) (word_spec calendar names.now.listed.now date.now) }
+/// Whether a text is no date as registers have it.
+fn is_no_date(calendar: Calendar, text: &[u8]) -> bool
+    ensures { (result ≡ true) ↔ IsNoDate calendar text.now }
 {
-    Some(Stop {
-        name: unknown_word(date, names, calendar)?,
-        calendar: Some(calendar),
-    })
+    match str::from_utf8(text) {
+        Ok(text) => read_date(calendar, text).is_err(),
+        Err(_) => true,
+    }
 }
 
-/// The name of a calendar in a field, unless that is empty but for blanks.
-fn name_in(field: &[u8]) -> Option<Stop<'_>>
-    ensures { if_stop result ≡ name_stop (without_spec field.now) }
+/// Whether a field that has more than blanks stays as it is.
+fn stays(field: &[u8], date: &[u8]) -> bool
+    ensures { (result ≡ true) ↔ ((without_spec field.now ≢ []) × (date.now ≡ field.now)) }
 {
+    !without_blanks(field).is_empty() && date == field
+}
+
+/// Whether a field of a calendar, for which this date is written, stays as it is although it is no date.
+fn stays_written(calendar: Calendar, field: &[u8], date: &[u8]) -> bool
+    ensures { (result ≡ true) ↔ StaysWritten calendar field.now date.now }
+{
+    stays(field, date) && is_no_date(calendar, field)
+}
+
+/// What stops a text that is not read.
+fn text_stop<'a>(
+    text: &'a [u8],
+    calendar: Calendar,
+    names: &Names,
+    reading: &Choice,
+) -> DateStop<'a>
+    ensures { stop_seen result ≡ text_spec reading.now calendar names.now.listed.now text.now }
+{
+    match unknown_word(text, names, calendar) {
+        Some(name) => DateStop::Name(NameStop {
+            name,
+            calendar: Some(calendar),
+        }),
+        None => DateStop::Reason(reason_by(stop_of(text, calendar, names, reading))),
+    }
+}
+
+/// What stops a field of a calendar, for which this date is written; nothing where the field is a date, or was read.
+pub fn stop_in<'a>(
+    field: &'a [u8],
+    date: &[u8],
+    calendar: Calendar,
+    names: &Names,
+    reading: &Choice,
+) -> Option<DateStop<'a>>
+    ensures { IsStopIn reading.now calendar names.now.listed.now field.now date.now (if_stop result) }
+{
+    if stays_written(calendar, field, date) {
+        Some(text_stop(field, calendar, names, reading))
+    } else {
+        None
+    }
+}
+
+/// The name that stands for a calendar, or that none does.
+fn calendar_stop(column: CalendarField, record: &ByteRecord) -> DateStop<'_>
+    ensures { stop_seen result ≡ calendar_spec (without_spec (calendar_field column (fields_of record.now))) }
+{
+    let field = match column {
+        CalendarField::All(_) => b"".as_slice(),
+        CalendarField::Column(place) => field_at(record, place as usize),
+    };
     let name = without_blanks(field);
     if name.is_empty() {
-        return None;
+        return DateStop::Reason(Reason::NoCalendar);
     }
-    Some(Stop {
+    DateStop::Name(NameStop {
         name,
         calendar: None,
     })
 }
 
-/// What stops the date of a record in a column, whose calendar is the one called, if something does.
-pub(crate) fn stop_of<'a>(
+/// What stops the date of a record in a column: its calendar is the one called, and this is written for it.
+pub(crate) fn stop_by<'a>(
     choice: &SheetChoice,
     column: &DateColumn,
     called: Option<Calendar>,
     record: &'a ByteRecord,
-) -> Option<Stop<'a>>
-    ensures { if_stop result ≡ stop_by choice.now column.now (fields_of record.now) called }
+    date: &[u8],
+) -> Option<DateStop<'a>>
+    requires called { called ≡ called_for choice.now column.now (fields_of record.now) }
+    requires date { date.now ≡ date_text choice.now column.now (fields_of record.now) }
+    ensures { IsStopBy choice.now column.now (fields_of record.now) called (if_stop result) }
 {
-    if let Some(calendar) = called {
-        return word_in(
-            field_at(record, column.date as usize),
-            choice.names,
-            calendar,
-        );
-    }
-    match column.calendar {
-        CalendarField::All(_) => None,
-        CalendarField::Column(place) => name_in(field_at(record, place as usize)),
+    let field = field_at(record, column.date as usize);
+    match called {
+        Some(calendar) => stop_in(field, date, calendar, choice.names, &choice.reading),
+        None if without_blanks(field).is_empty() => None,
+        None => Some(calendar_stop(column.calendar, record)),
     }
 }

@@ -1,22 +1,21 @@
 //! The dates of a sheet that were not read.
 
-ghost use Rattle.std.specs.Prelude.{◌≡◌, length, option_to_list};
+ghost use Rattle.std.specs.Prelude.{◌≡◌, if◌then◌else◌};
 ghost use Rattle.register_sheets.specs.UnknownNames.{is_emptied};
-ghost use Rattle.register_sheets.specs.UnknownViews.{if_stop};
 
-use crate::choices::{DateColumn, SheetChoice};
-use crate::reading::field_at;
-use crate::stops::{Stop, stop_of};
-use csv::ByteRecord;
-use date_texts::Calendar;
+use crate::reasons::ReasonCounts;
+use crate::stops::DateStop;
 
 /// How many dates of a sheet were not read.
+#[repr(C)]
 #[derive(Clone, Copy, PartialEq, Eq)]
 pub struct UnreadDates {
     /// How many were stopped by a name that is not known: that of a calendar, or a word of the date.
-    pub stopped: u64,
+    pub stopped: usize,
     /// How many are left empty, as their year is short.
-    pub short: u64,
+    pub short: usize,
+    /// How many stay as they are written for each other reason.
+    pub reasons: ReasonCounts,
 }
 
 /// Whether nothing is written for a field that is not empty.
@@ -26,39 +25,40 @@ pub(crate) fn is_emptied(field: &[u8], date: &[u8]) -> bool
     !field.is_empty() && date.is_empty()
 }
 
-/// 1 where something stopped a date, and else 0.
-fn stops(stop: Option<Stop<'_>>) -> u64
-    ensures { result ≡ length (option_to_list (if_stop stop.entry)) }
-{
-    match stop {
-        Some(_) => 1,
-        None => 0,
-    }
-}
-
 impl UnreadDates {
-    ghost use Rattle.std.specs.Prelude.{◌∷◌, []};
-    ghost use Rattle.csv.specs.Records.{fields_of};
-    ghost use Rattle.register_sheets.specs.Choices.{date_text};
-    ghost use Rattle.register_sheets.specs.RowViews.{CountsMore, HasPlace};
-    ghost use Rattle.register_sheets.specs.UnknownNames.{called_for};
+    ghost use Rattle.register_sheets.specs.RowViews.{NoneUnread};
+    ghost use Rattle.register_sheets.specs.UnknownViews.{CountsDate, CountsStop, HasPlace, if_stop};
 
-    /// Counts the date of a record in a column: its calendar is the one called, and this is written for it.
-    pub(crate) fn count(
-        &mut self,
-        choice: &SheetChoice,
-        column: &DateColumn,
-        called: Option<Calendar>,
-        record: &ByteRecord,
-        date: &[u8],
-    )
-        requires room { HasPlace 1 self.old }
-        requires called { called ≡ called_for choice.now column.now (fields_of record.now) }
-        requires date { date.now ≡ date_text choice.now column.now (fields_of record.now) }
-        ensures { CountsMore choice.now ((column.now, fields_of record.now) ∷ []) self.old self.new }
+    /// None yet.
+    pub fn none() -> UnreadDates
+        ensures { NoneUnread result }
     {
-        self.stopped += stops(stop_of(choice, column, called, record));
-        if is_emptied(field_at(record, column.date as usize), date) {
+        UnreadDates {
+            stopped: 0,
+            short: 0,
+            reasons: ReasonCounts::none(),
+        }
+    }
+
+    /// Counts what stopped a date.
+    fn add_stop(&mut self, stop: Option<DateStop<'_>>)
+        requires { HasPlace 1 self.old }
+        ensures { CountsStop (if_stop stop.entry) self.old self.new }
+    {
+        match stop {
+            Some(DateStop::Name(_)) => self.stopped += 1,
+            Some(DateStop::Reason(reason)) => self.reasons.add(reason),
+            None => {}
+        }
+    }
+
+    /// Counts one more date: this stopped it, or nothing, and it may be left empty.
+    pub(crate) fn add(&mut self, stop: Option<DateStop<'_>>, is_short: bool)
+        requires { HasPlace 1 self.old }
+        ensures { CountsDate (if_stop stop.entry) is_short self.old self.new }
+    {
+        self.add_stop(stop);
+        if is_short {
             self.short += 1;
         }
     }

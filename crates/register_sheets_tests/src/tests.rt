@@ -2,13 +2,14 @@
 //! tables of Reingold and Dershowitz.
 
 mod dates;
+mod meanings;
 mod table;
 
 use date_texts::{Calendar, Target};
 use register_records::PlainOutput;
 use register_sheets::{
-    AskedColumn, CalendarField, DateColumn, IdField, SheetCause, SheetChoice, SheetEnd, SheetSetup,
-    Unknown, UnreadDates, convert_sheet, unknown_names,
+    AskedColumn, CalendarField, DateColumn, IdField, ReasonCounts, SheetCause, SheetChoice,
+    SheetEnd, SheetSetup, Unknown, UnreadDates, convert_sheet, unknown_names,
 };
 use std::alloc::Global;
 use std::test::Fail;
@@ -153,7 +154,7 @@ fn names_that_are_not_known(rt: HostRuntime) -> Result<(), Fail> {
     let text = unknown.text(rt.alloc())?;
     let wanted = b"name,means,in,count\nFoo,?,gregorian,2\nFoo,?,julian,1\nodd,?,,1\n";
     assert!(rt; text.as_slice() == wanted.as_slice());
-    assert!(rt; unknown.more == 1 && unknown.short == 1 && unknown.kept == 4);
+    assert!(rt; unknown.more == 1 && unknown.unread.short == 1 && unknown.unread.stopped == 5);
     Ok(())
 }
 
@@ -173,11 +174,37 @@ fn dates_are_counted_that_are_not_read(rt: HostRuntime) -> Result<(), Fail> {
     };
     let (_, end) = converted_by(rt.alloc(), UNKNOWN, 0, &known)?;
     let unknown = unknown_by(rt.alloc(), UNKNOWN, &known, 0)?;
+    assert!(rt; unread_in(end) == Some(unknown.unread));
+    assert!(rt; unknown.more == 5 && unknown.unread.short == 1);
+    Ok(())
+}
+
+/// A date for each reason but another weekday, two that are empty, and one that its calendar has.
+const STAYING: &[u8] =
+    b"N;D;C\nA;;gregorian\nB; ;gregorian\nC;1944-3-K6B;roman\nD;12 Mai 1806;\nE;12 Mai 1806 (;gregorian\n\
+    F;15.3.-144;gregorian\nG;Mai 1806;gregorian\nH;12 Mai;gregorian\nI;18.2.1799;french\nJ;40 Mai Mai 1806;gregorian\n";
+
+#[test]
+fn why_dates_stay(rt: HostRuntime) -> Result<(), Fail> {
+    let known = Known {
+        names: Names::layered(rt.alloc(), &NAMES)?,
+        calendars: CalendarNames::layered(rt.alloc(), &CALENDARS)?,
+    };
+    let (_, end) = converted_by(rt.alloc(), STAYING, 0, &known)?;
     let wanted = UnreadDates {
-        stopped: unknown.more,
-        short: unknown.short,
+        stopped: 0,
+        short: 0,
+        reasons: ReasonCounts {
+            no_calendar: 1,
+            character: 1,
+            minus: 1,
+            other_weekday: 0,
+            no_day: 1,
+            no_year: 1,
+            no_such_year: 1,
+            no_date: 1,
+        },
     };
     assert!(rt; unread_in(end) == Some(wanted));
-    assert!(rt; unknown.more == 5 && unknown.short == 1);
     Ok(())
 }

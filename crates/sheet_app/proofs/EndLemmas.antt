@@ -13,6 +13,7 @@ use Rattle.sheet_app.specs.SheetViews.{AsksFor, IsEndedBy, IsTask, MakesChoices}
 use Rattle.sheet_app.specs.Sheets.{IsAskedList, IsAskedOf, IsAskedSheet, IsBroken, IsChoiceFor}
 use Rattle.sheet_app.specs.Sheets.{IsListBy, IsSheetBy, names_of}
 use Rattle.sheet_app.specs.declared.sheet_faults.SheetFault.{SheetFault}
+use Rattle.sheet_app.specs.declared.sheets.ListedSheet.{ListedSheet}
 use Rattle.sheet_app.specs.declared.sheets.SheetDone.{SheetDone}
 use Rattle.sheet_app.specs.declared.sheets.WholeSheet.{WholeSheet}
 use Rattle.sheet_app.proofs.TaskLemmas.{is_choice}
@@ -48,6 +49,6 @@ pub asked_sheet : (task : Task) (lines : List NameLine) (sheet : List ℕ) (choi
 asked_sheet task lines sheet choice known old new chosen (bytes, whole, gained) = (bytes, (choice, chosen, whole), gained)
 
 pub asked_list : (task : Task) (lines : List NameLine) (most : ℕ) (sheet : List ℕ) (choice : SheetChoice)
-    (old new : Option (List ℕ)) → IsChoiceFor task lines sheet choice → Gains old new (IsListBy choice most sheet)
-    → Gains old new (IsAskedList task lines most sheet)
-asked_list task lines most sheet choice old new chosen (bytes, listed, gained) = (bytes, (choice, chosen, listed), gained)
+    (known : ListedSheet) (old new : Option (List ℕ)) → IsChoiceFor task lines sheet choice
+    → Gains old new (IsListBy choice most sheet known) → Gains old new (IsAskedList task lines most sheet known)
+asked_list task lines most sheet choice known old new chosen (bytes, listed, gained) = (bytes, (choice, chosen, listed), gained)

@@ -35,7 +35,7 @@ ended_name sheet = sheet.name.now
 -- all that was asked for is there
 abbrev pub is_whole : SheetDone → Bool
 is_whole (done.Whole whole) = true
-is_whole done.Listed = true
+is_whole (done.Listed listed) = true
 is_whole other = false
 
 -- and nothing to report was lost

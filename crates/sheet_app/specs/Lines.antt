@@ -5,6 +5,11 @@ use Rattle.std.specs.List.{flat_map}
 use Rattle.clap.specs.Words.{Text}
 use Rattle.csv.specs.Records.{fields_of}
 use Rattle.register_records.specs.Entries.{Fields}
+use Rattle.register_sheets.specs.DateStops.{count_of}
+use Rattle.register_sheets.specs.declared.reasons.Reason.{Reason}
+use Rattle.register_sheets.specs.declared.reasons.Reason.TheVariants as reasons
+use Rattle.register_sheets.specs.declared.reasons.ReasonCounts.{ReasonCounts}
+use Rattle.register_sheets.specs.declared.unread_dates.UnreadDates.{UnreadDates}
 use Rattle.sheet_app.specs.declared.sheet_faults.SheetFault.{SheetFault}
 use Rattle.sheet_app.specs.declared.sheet_faults.SheetFault.TheVariants as fault
 use Rattle.sheet_app.specs.declared.sheets.SheetDone.{SheetDone}
@@ -51,6 +56,53 @@ abbrev pub short_line : Text → ℕ → Text
 short_line = line_of_dates (codes " date has a short year and is left empty: see --short-years\n")
     (codes " dates have short years and are left empty: see --short-years\n")
 
+-- the words for so many dates that stay for a reason: for one of them, and for more
+abbrev pub reason_words : Reason → Text × Text
+reason_words reasons.NoCalendar = (codes " date has no calendar\n", codes " dates have no calendar\n")
+reason_words reasons.Character =
+    (codes " date has a character that no date has\n", codes " dates have a character that no date has\n")
+reason_words reasons.Minus =
+    (codes " date has a minus in front of a number\n", codes " dates have a minus in front of a number\n")
+reason_words reasons.OtherWeekday = (codes " date names another weekday\n", codes " dates name another weekday\n")
+reason_words reasons.NoDay = (codes " date has no day\n", codes " dates have no day\n")
+reason_words reasons.NoYear = (codes " date has no year\n", codes " dates have no year\n")
+reason_words reasons.NoSuchYear = (
+  codes " date has a year that the French Republic did not have\n",
+  codes " dates have a year that the French Republic did not have\n",
+)
+reason_words reasons.NoDate = (codes " date is no date of its calendar\n", codes " dates are no dates of their calendars\n")
+
+abbrev pub reason_line : Text → ReasonCounts → Reason → Text
+reason_line name counts reason =
+    line_of_dates (reason_words reason).0 (reason_words reason).1 name (count_of counts reason)
+
+-- the lines on dates that say too little, on those with a sign or a weekday that is not theirs, and on the others
+abbrev pub missing_lines : Text → ReasonCounts → Text
+missing_lines name counts =
+    reason_line name counts reasons.NoCalendar
+    ++ (reason_line name counts reasons.NoDay ++ reason_line name counts reasons.NoYear)
+
+abbrev pub sign_lines : Text → ReasonCounts → Text
+sign_lines name counts =
+    reason_line name counts reasons.Character
+    ++ (reason_line name counts reasons.Minus ++ reason_line name counts reasons.OtherWeekday)
+
+abbrev pub other_lines : Text → ReasonCounts → Text
+other_lines name counts = reason_line name counts reasons.NoSuchYear ++ reason_line name counts reasons.NoDate
+
+-- the lines on dates that stay as they are written, for each reason
+abbrev pub reason_lines : Text → ReasonCounts → Text
+reason_lines name counts = missing_lines name counts ++ (sign_lines name counts ++ other_lines name counts)
+
+-- the lines on dates that were not read, but for names that are not known
+abbrev pub kept_lines : Text → UnreadDates → Text
+kept_lines name unread = short_line name unread.short ++ reason_lines name unread.reasons
+
+-- the line on dates stopped by names that are not listed
+abbrev pub more_line : Text → ℕ → Text
+more_line = line_of_dates (codes " date has a name that is not among the first 1000, which are listed\n")
+    (codes " dates have names that are not among the first 1000, which are listed\n")
+
 -- how many records a sheet has, and how many were refused for each of so many columns of dates
 abbrev pub summary_line : Text → ℕ → WholeSheet → Text
 summary_line name dates whole =
@@ -60,8 +112,8 @@ summary_line name dates whole =
 -- the lines on a sheet of so many columns of dates, the last of them where a summary is asked for
 abbrev pub lines_on : Bool → ℕ → Text → SheetDone → Text
 lines_on summary dates name (done.Whole whole) =
-    stopped_line name whole.stopped ++ (short_line name whole.short
+    stopped_line name whole.unread.stopped ++ (kept_lines name whole.unread
     ++ (if summary then summary_line name dates whole else []))
 lines_on summary dates name (done.WholeBut fault) = head_of name ++ (fault_text fault ++ 10 ∷ [])
-lines_on summary dates name done.Listed = []
+lines_on summary dates name (done.Listed listed) = more_line name listed.more ++ kept_lines name listed.unread
 lines_on summary dates name (done.Broken fault) = head_of name ++ (fault_text fault ++ 10 ∷ [])

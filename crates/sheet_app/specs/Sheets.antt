@@ -17,6 +17,7 @@ use Rattle.sheet_arguments.specs.Requests.{Task}
 use Rattle.sheet_app.specs.Columns.{AreDateColumns, IsIdField}
 use Rattle.sheet_app.specs.declared.sheet_faults.SheetFault.{SheetFault}
 use Rattle.sheet_app.specs.declared.sheet_faults.SheetFault.TheVariants as fault
+use Rattle.sheet_app.specs.declared.sheets.ListedSheet.{ListedSheet}
 use Rattle.sheet_app.specs.declared.sheets.SheetDone.{SheetDone}
 use Rattle.sheet_app.specs.declared.sheets.SheetDone.TheVariants as done
 use Rattle.sheet_app.specs.declared.sheets.WholeSheet.{WholeSheet}
@@ -59,29 +60,28 @@ abbrev pub records_by : SheetChoice → List ℕ → List Fields
 records_by choice sheet = text_records choice.delimiter sheet
 
 -- these bytes are the sheet with the columns asked by a choice, of which this is known: how many records it has, how many
--- of them were refused for each column of dates, and how many dates were stopped by names or left empty
+-- of them were refused for each column of dates, and how many dates were not read
 pub record IsSheetBy (choice : SheetChoice) (sheet : List ℕ) (known : WholeSheet) (bytes : List ℕ) : Type 0 where
   pub whole : IsWholeSheet choice (records_by choice sheet) known.records known.refused bytes
-  pub unread : AreUnreadIn choice (records_by choice sheet) known.stopped known.short
+  pub unread : AreUnreadIn choice (records_by choice sheet) known.unread
 
 -- these bytes are the sheet that a task asks for, of which this is known
 abbrev pub IsAskedSheet : Task → List NameLine → List ℕ → WholeSheet → List ℕ → Type 0
 IsAskedSheet task lines sheet known bytes =
     (choice : SheetChoice) × IsChoiceFor task lines sheet choice × IsSheetBy choice sheet known bytes
 
--- these bytes are the list of the first names in a sheet that are not known by a choice, at most so many
-pub record IsListBy (choice : SheetChoice) (most : ℕ) (sheet bytes : List ℕ) : Type 0 where
+-- these bytes are the list of the first names in a sheet that are not known by a choice, at most so many, and this is
+-- known of its other dates
+pub record IsListBy (choice : SheetChoice) (most : ℕ) (sheet : List ℕ) (known : ListedSheet) (bytes : List ℕ)
+    : Type 0 where
   pub found : List NameCount
-  pub more : ℕ
-  pub short : ℕ
-  pub kept : ℕ
-  pub unknown : IsUnknown choice (records_by choice sheet) most found more short kept
+  pub unknown : IsUnknown choice (records_by choice sheet) most found known.more known.unread
   pub written : bytes ≡ list_text found
 
 -- these bytes are the list that a task asks for
-abbrev pub IsAskedList : Task → List NameLine → ℕ → List ℕ → List ℕ → Type 0
-IsAskedList task lines most sheet bytes =
-    (choice : SheetChoice) × IsChoiceFor task lines sheet choice × IsListBy choice most sheet bytes
+abbrev pub IsAskedList : Task → List NameLine → ℕ → List ℕ → ListedSheet → List ℕ → Type 0
+IsAskedList task lines most sheet known bytes =
+    (choice : SheetChoice) × IsChoiceFor task lines sheet choice × IsListBy choice most sheet known bytes
 
 -- why a sheet breaks off before there is a choice
 abbrev pub IsEarly : Task → List ℕ → SheetFault → Type 0
@@ -157,8 +157,8 @@ IsEnded o task lines most sheet given written new registers (done.WholeBut fault
     × Gains (o.contents given) (o.contents written) (IsAskedSheet task lines sheet whole)
     × (o.is_flushed written ≡ true) × (task.unknown ≡ false)
     × (choice : SheetChoice) × IsChoiceFor task lines sheet choice × AreCutRegisters o choice sheet fault new registers
-IsEnded o task lines most sheet given written new registers done.Listed =
-    Gains (o.contents given) (o.contents written) (IsAskedList task lines most sheet)
+IsEnded o task lines most sheet given written new registers (done.Listed listed) =
+    Gains (o.contents given) (o.contents written) (IsAskedList task lines most sheet listed)
     × (o.is_flushed written ≡ true) × (task.unknown ≡ true) × (registers ≡ new)
 IsEnded o task lines most sheet given written new registers (done.Broken fault) =
     IsBroken o task lines sheet given written fault × (registers ≡ new)

@@ -150,7 +150,7 @@ impl<W> EndedSheet<'_, W> {
         ensures { result ≡ is_complete self.now }
     {
         let is_whole = match self.done {
-            SheetDone::Whole(_) | SheetDone::Listed => true,
+            SheetDone::Whole(_) | SheetDone::Listed(_) => true,
             SheetDone::WholeBut(_) | SheetDone::Broken(_) => false,
         };
         is_whole && self.is_reported

@@ -2,14 +2,17 @@
 
 ghost use Rattle.std.specs.Prelude.{◌≡◌, ◌++◌, ◌∷◌, [], ◌==◌, IfErr, IfOk, OnOk, false, if◌then◌else◌};
 ghost use Rattle.std.specs.Fmt.{decimal};
-ghost use Rattle.sheet_app.specs.Lines.{fault_text, head_of, lines_on, short_line, stopped_line, summary_line};
+ghost use Rattle.sheet_app.specs.Lines.{fault_text, head_of, kept_lines, lines_on, missing_lines, more_line, other_lines};
+ghost use Rattle.sheet_app.specs.Lines.{reason_line, reason_lines, reason_words, short_line, sign_lines, stopped_line};
+ghost use Rattle.sheet_app.specs.Lines.{summary_line};
 ghost use Rattle.sheet_app.specs.SheetViews.{Says};
-ghost use Rattle.sheet_app.specs.declared.sheets.SheetDone.TheVariants.{Whole};
+ghost use Rattle.sheet_app.specs.declared.sheets.SheetDone.TheVariants.{Listed, Whole};
 
 use crate::sheet_faults::{SheetFault, push_listed};
-use crate::sheets::{SheetDone, WholeSheet};
+use crate::sheets::{ListedSheet, SheetDone, WholeSheet};
 use itoa::Buffer;
 use register_records::{Output, send};
+use register_sheets::{Reason, ReasonCounts, UnreadDates};
 use sheet_arguments::MEMORY_FAULT;
 use std::alloc::{AllocError, Global};
 
@@ -100,6 +103,47 @@ fn send_line<E: Output>(errors: &mut E, line: Result<Vec<u8>, AllocError>) -> bo
     }
 }
 
+/// The words for so many dates that stay for a reason: for one of them, and for more.
+fn words_of(reason: Reason) -> (&'static [u8], &'static [u8])
+    ensures one { result.0.now ≡ (reason_words reason).0 }
+    ensures more { result.1.now ≡ (reason_words reason).1 }
+{
+    match reason {
+        Reason::NoCalendar => (
+            b" date has no calendar\n".as_slice(),
+            b" dates have no calendar\n".as_slice(),
+        ),
+        Reason::Character => (
+            b" date has a character that no date has\n".as_slice(),
+            b" dates have a character that no date has\n".as_slice(),
+        ),
+        Reason::Minus => (
+            b" date has a minus in front of a number\n".as_slice(),
+            b" dates have a minus in front of a number\n".as_slice(),
+        ),
+        Reason::OtherWeekday => (
+            b" date names another weekday\n".as_slice(),
+            b" dates name another weekday\n".as_slice(),
+        ),
+        Reason::NoDay => (
+            b" date has no day\n".as_slice(),
+            b" dates have no day\n".as_slice(),
+        ),
+        Reason::NoYear => (
+            b" date has no year\n".as_slice(),
+            b" dates have no year\n".as_slice(),
+        ),
+        Reason::NoSuchYear => (
+            b" date has a year that the French Republic did not have\n".as_slice(),
+            b" dates have a year that the French Republic did not have\n".as_slice(),
+        ),
+        Reason::NoDate => (
+            b" date is no date of its calendar\n".as_slice(),
+            b" dates are no dates of their calendars\n".as_slice(),
+        ),
+    }
+}
+
 /// Reports the dates of a sheet that were stopped by names that are not known, if there are some.
 fn report_stopped<E: Output>(alloc: Global, errors: &mut E, name: &str, count: u64) -> bool
     ensures line { Says E.Output errors.old errors.new result (stopped_line name.now count) }
@@ -136,6 +180,128 @@ fn report_short<E: Output>(alloc: Global, errors: &mut E, name: &str, count: u64
     send_line(errors, line)
 }
 
+/// Reports the dates of a sheet that stay for this reason, if there are some.
+fn report_reason<E: Output>(
+    alloc: Global,
+    errors: &mut E,
+    name: &str,
+    counts: &ReasonCounts,
+    reason: Reason,
+) -> bool
+    ensures line { Says E.Output errors.old errors.new result (reason_line name.now counts.now reason) }
+    ensures mark { E.own_mark errors.new ≡ E.own_mark errors.old }
+{
+    let count = counts.count(reason);
+    if count == 0 {
+        return true;
+    }
+    let (one, more) = words_of(reason);
+    send_line(errors, line_of_dates(alloc, name, count as u64, one, more))
+}
+
+/// Reports the dates of a sheet that say too little.
+fn report_missing<E: Output>(
+    alloc: Global,
+    errors: &mut E,
+    name: &str,
+    counts: &ReasonCounts,
+) -> bool
+    ensures lines { Says E.Output errors.old errors.new result (missing_lines name.now counts.now) }
+    ensures mark { E.own_mark errors.new ≡ E.own_mark errors.old }
+{
+    let calendar = report_reason(alloc, errors, name, counts, Reason::NoCalendar);
+    let day = report_reason(alloc, errors, name, counts, Reason::NoDay);
+    let year = report_reason(alloc, errors, name, counts, Reason::NoYear);
+    calendar && day && year
+}
+
+/// Reports the dates of a sheet with a sign, or a weekday, that is not theirs.
+fn report_signs<E: Output>(alloc: Global, errors: &mut E, name: &str, counts: &ReasonCounts) -> bool
+    ensures lines { Says E.Output errors.old errors.new result (sign_lines name.now counts.now) }
+    ensures mark { E.own_mark errors.new ≡ E.own_mark errors.old }
+{
+    let character = report_reason(alloc, errors, name, counts, Reason::Character);
+    let minus = report_reason(alloc, errors, name, counts, Reason::Minus);
+    let weekday = report_reason(alloc, errors, name, counts, Reason::OtherWeekday);
+    character && minus && weekday
+}
+
+/// Reports the dates of a sheet that stay for other reasons.
+fn report_others<E: Output>(
+    alloc: Global,
+    errors: &mut E,
+    name: &str,
+    counts: &ReasonCounts,
+) -> bool
+    ensures lines { Says E.Output errors.old errors.new result (other_lines name.now counts.now) }
+    ensures mark { E.own_mark errors.new ≡ E.own_mark errors.old }
+{
+    let year = report_reason(alloc, errors, name, counts, Reason::NoSuchYear);
+    let date = report_reason(alloc, errors, name, counts, Reason::NoDate);
+    year && date
+}
+
+/// Reports the dates of a sheet that stay as they are written, for each reason.
+fn report_reasons<E: Output>(
+    alloc: Global,
+    errors: &mut E,
+    name: &str,
+    counts: &ReasonCounts,
+) -> bool
+    ensures lines { Says E.Output errors.old errors.new result (reason_lines name.now counts.now) }
+    ensures mark { E.own_mark errors.new ≡ E.own_mark errors.old }
+{
+    let missing = report_missing(alloc, errors, name, counts);
+    let signs = report_signs(alloc, errors, name, counts);
+    let others = report_others(alloc, errors, name, counts);
+    missing && signs && others
+}
+
+/// Reports the dates of a sheet that were not read, but for names that are not known.
+fn report_kept<E: Output>(alloc: Global, errors: &mut E, name: &str, unread: &UnreadDates) -> bool
+    ensures lines { Says E.Output errors.old errors.new result (kept_lines name.now unread.now) }
+    ensures mark { E.own_mark errors.new ≡ E.own_mark errors.old }
+{
+    let short = report_short(alloc, errors, name, unread.short as u64);
+    let reasons = report_reasons(alloc, errors, name, &unread.reasons);
+    short && reasons
+}
+
+/// Reports the dates of a sheet that were stopped by names that are not listed, if there are some.
+fn report_more<E: Output>(alloc: Global, errors: &mut E, name: &str, count: u64) -> bool
+    ensures line { Says E.Output errors.old errors.new result (more_line name.now count) }
+    ensures mark { E.own_mark errors.new ≡ E.own_mark errors.old }
+{
+    if count == 0 {
+        return true;
+    }
+    let line = line_of_dates(
+        alloc,
+        name,
+        count,
+        b" date has a name that is not among the first 1000, which are listed\n",
+        b" dates have names that are not among the first 1000, which are listed\n",
+    );
+    send_line(errors, line)
+}
+
+/// Reports what is known of a sheet beside the list of its names.
+fn report_listed<E: Output>(
+    alloc: Global,
+    errors: &mut E,
+    name: &str,
+    dates: usize,
+    summary: bool,
+    listed: &ListedSheet,
+) -> bool
+    ensures lines { Says E.Output errors.old errors.new result (lines_on summary dates name.now (Listed listed.now)) }
+    ensures mark { E.own_mark errors.new ≡ E.own_mark errors.old }
+{
+    let more = report_more(alloc, errors, name, listed.more);
+    let kept = report_kept(alloc, errors, name, &listed.unread);
+    more && kept
+}
+
 /// Reports what is known of a whole sheet, where a summary is asked for.
 fn report_summary<E: Output>(
     alloc: Global,
@@ -155,8 +321,7 @@ fn report_summary<E: Output>(
     send_line(errors, line_of_summary(alloc, name, dates, whole))
 }
 
-/// Reports of a whole sheet how many dates were stopped by names that are not known or left empty, where there are such,
-/// and with `summary` its records and how many were refused. Says whether there was memory for all lines.
+/// Reports of a whole sheet how many dates were not read, and why, where there are such, and with `summary` its records and how many were refused. Says whether there was memory for all lines.
 fn report_whole<E: Output>(
     alloc: Global,
     errors: &mut E,
@@ -168,10 +333,10 @@ fn report_whole<E: Output>(
     ensures lines { Says E.Output errors.old errors.new result (lines_on summary dates name.now (Whole whole.now)) }
     ensures mark { E.own_mark errors.new ≡ E.own_mark errors.old }
 {
-    let stopped = report_stopped(alloc, errors, name, whole.stopped);
-    let short = report_short(alloc, errors, name, whole.short);
+    let stopped = report_stopped(alloc, errors, name, whole.unread.stopped as u64);
+    let kept = report_kept(alloc, errors, name, &whole.unread);
     let counted = report_summary(alloc, errors, name, dates, summary, whole);
-    stopped && short && counted
+    stopped && kept && counted
 }
 
 /// Reports how a sheet has ended: why it broke off, or what is known of a whole one. Says whether there was memory for
@@ -189,7 +354,7 @@ pub fn report_sheet<E: Output>(
 {
     match done {
         SheetDone::Whole(whole) => report_whole(alloc, errors, name, dates, summary, whole),
-        SheetDone::Listed => true,
+        SheetDone::Listed(listed) => report_listed(alloc, errors, name, dates, summary, listed),
         SheetDone::WholeBut(fault) | SheetDone::Broken(fault) => {
             send_line(errors, line_of_fault(alloc, name, fault))
         }

@@ -17,7 +17,7 @@ use crate::sheet_faults::{SheetFault, fault_of_columns};
 use csv::ByteRecord;
 use register_records::{Output, send};
 use register_sheets::{
-    AskedByNames, AskedOfSheet, DateColumn, MAX_DATES, NameList, SheetEnd, SheetSetup,
+    AskedByNames, AskedOfSheet, DateColumn, MAX_DATES, NameList, SheetEnd, SheetSetup, UnreadDates,
     convert_sheet, head_record, unknown_names, write_register,
 };
 use sheet_arguments::Job;
@@ -33,10 +33,17 @@ pub struct WholeSheet {
     pub records: u32,
     /// How many dates were refused for each column of dates.
     pub refused: [u32; MAX_DATES],
-    /// How many dates were stopped by names that are not known.
-    pub stopped: u64,
-    /// How many dates were left empty, as their year is short.
-    pub short: u64,
+    /// How many dates were not read.
+    pub unread: UnreadDates,
+}
+
+/// What is known of a sheet beside the list of its names that are not known.
+#[derive(Clone, Copy)]
+pub struct ListedSheet {
+    /// How many dates were stopped by names that are not listed.
+    pub more: u64,
+    /// How many dates were not read.
+    pub unread: UnreadDates,
 }
 
 /// How a sheet ended.
@@ -47,7 +54,7 @@ pub enum SheetDone<'a> {
     /// It was converted to its end, and what else was asked for broke off.
     WholeBut(SheetFault<'a>),
     /// The names that are not known are listed.
-    Listed,
+    Listed(ListedSheet),
     /// It broke off.
     Broken(SheetFault<'a>),
 }
@@ -103,22 +110,25 @@ fn setup_of<'a>(known: &'a AskedByNames<'a>) -> SheetSetup<'a>
     }
 }
 
-/// Writes the list of the names in a sheet that are not known.
+/// Writes the list of the names in a sheet that are not known, and returns what is known beside it.
 fn list_unknown<'b, W: Output>(
     alloc: Global,
     sheet: &[u8],
     setup: &SheetSetup,
     output: &mut W,
-) -> Result<(), SheetFault<'b>>
-    ensures whole { OnOk result (Gains (W.contents output.old) (W.contents output.new)
-        (IsListBy setup.now.choice MOST_UNKNOWN sheet.now)) }
+) -> Result<ListedSheet, SheetFault<'b>>
+    ensures whole { IfOk result (λ listed. Gains (W.contents output.old) (W.contents output.new)
+        (IsListBy setup.now.choice MOST_UNKNOWN sheet.now listed)) }
     ensures flushed { OnOk result (W.is_flushed output.new ≡ true) }
     ensures broken { IfErr result (IsBrokenBy W.Output setup.now.choice sheet.now output.old output.new) }
 {
     let unknown = unknown_names(alloc, sheet, setup, MOST_UNKNOWN)?;
     let text = unknown.text(alloc)?;
     send(output, text.as_slice())?;
-    Ok(())
+    Ok(ListedSheet {
+        more: unknown.more,
+        unread: unknown.unread,
+    })
 }
 
 /// Writes the sheet with the columns asked, and returns what is known of it.
@@ -141,8 +151,7 @@ fn write_sheet<'b, W: Output>(
         } => Ok(WholeSheet {
             records: rows,
             refused,
-            stopped: unread.stopped,
-            short: unread.short,
+            unread,
         }),
         SheetEnd::Broken { cause } => Err(SheetFault::from(cause)),
     }
@@ -200,8 +209,8 @@ fn write_known<'b, W: Output>(
 {
     let setup = setup_of(known);
     if job.unknown {
-        list_unknown(alloc, sheet, &setup, output)?;
-        return Ok(SheetDone::Listed);
+        let listed = list_unknown(alloc, sheet, &setup, output)?;
+        return Ok(SheetDone::Listed(listed));
     }
     let whole = write_sheet(alloc, sheet, &setup, output)?;
     match write_registers(alloc, sheet, &setup, registers) {

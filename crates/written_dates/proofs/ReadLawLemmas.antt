@@ -40,7 +40,7 @@ use Rattle.written_dates.specs.Written.{agrees, answer, answer_by, date_by_rule,
 use Rattle.written_dates.specs.Written.{if_agreed, in_month, items_answer, month_and_day, reading_by, short_rule, written_form}
 use Rattle.written_dates.specs.ReadLaws.{if_on, WeekdaysOnlyTest, DecadeDaysAgree, MixedSignsStay, DaysToDaysStay}
 use Rattle.written_dates.specs.ReadLaws.{IsRead, WeekdaysAgree, UsesAll, AreYearMonthDay, IsMonthItem, IsDayItem}
-use Rattle.written_dates.specs.ReadLaws.{NothingIsLeftOver, LongNumbersAreYears, MonthsAreMonths}
+use Rattle.written_dates.specs.ReadLaws.{NothingIsLeftOver, LongNumbersAreYears, MonthsAreMonths, YearWordsNameYears}
 use Rattle.written_dates.specs.ReadLaws.{NumberedWeekdays, MinusesAreNotRead, MinusesStay, YearsOfTheRepublic, is_no_weekday}
 use Rattle.written_dates.specs.ReadLaws.{is_numeral, IsRepublican, DaysStandBehindMonths, RomanNumbersAreMonths}
 use Rattle.written_dates.specs.declared.stops.Stop.TheVariants as stops
@@ -324,6 +324,19 @@ kept_by (Add more) calendar v y m d day k e = absurd (cc)
 
 is_long_four : (n : Numeral) → 4 ≤ n.digits → is_long n ≡ true
 is_long_four n h = grind (arith, nat_tests)
+
+is_long_marked : (n : Numeral) → n.year ≡ true → is_long n ≡ true
+is_long_marked n h = rw h refl
+
+pub year_words_name_years : YearWordsNameYears
+year_words_name_years choice calendar names text found y m d n r has marked =
+    let (number, day, uses, date) = nothing_is_left_over choice calendar names text found y m d r in
+    let same : n ≡ number =
+    All-contains (IsYearOrShort number) found (Number n) (uses_short found number day uses) has n refl
+    (is_long_marked n marked) in (
+      day,
+      subst (λ (k : Numeral). date_by_rule (short_rule choice calendar k) calendar k.value day ≡ Date y m d) (sym same) date,
+    )
 
 pub long_numbers_are_years : LongNumbersAreYears
 long_numbers_are_years choice calendar names text found y m d n r has four =

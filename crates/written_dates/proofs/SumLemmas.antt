@@ -5,12 +5,12 @@ use Rattle.std.specs.Prelude.{option_map}
 use Rattle.std.proofs.lemmas.Bool.{true≢false}
 use Rattle.written_dates.specs.declared.items.Number.{Number as Numeral}
 use Rattle.written_dates.specs.declared.items.Item.{Item}
-use Rattle.written_dates.specs.declared.items.Item.TheVariants.{Number}
+use Rattle.written_dates.specs.declared.items.Item.TheVariants.{Number, YearWord, DayWord, Weekday, Feast}
 use Rattle.written_dates.specs.declared.meanings.Name.{Name}
 use Rattle.written_dates.specs.Tokens.{Piece}
-use Rattle.written_dates.specs.Items.{before, items}
+use Rattle.written_dates.specs.Items.{before, is_long, items}
 use Rattle.written_dates.specs.ItemViews.{resumed}
-use Rattle.written_dates.specs.Sums.{SumsStay, adds_up, sum_or, sum_with, summed, summed_from, total, value_of}
+use Rattle.written_dates.specs.Sums.{SumsStay, adds_up, joined_item, joined_or, summed, summed_from, total, value_of}
 
 -- ---- the last item may still grow
 last_resumed : (xs : List Item) (last : Item) (rest : List Item)
@@ -24,40 +24,40 @@ pub first_resumed : (item : Item) (rest : List Item) → resumed [] (item ∷ re
 unfolding resumed
 first_resumed item rest = refl
 
-grown : (last item : Item) (o : Option Item) (rest : List Item) → sum_with last item ≡ o
-    → summed_from last (item ∷ rest) ≡ sum_or o last item (λ z. summed_from z rest)
+grown : (last item : Item) (o : Option Item) (rest : List Item) → joined_item last item ≡ o
+    → summed_from last (item ∷ rest) ≡ joined_or o last item (λ z. summed_from z rest)
 unfolding summed_from
 grown last item o rest e = rw e refl
 
 pub sum_resumed : (old new found : List Item) (last item sum : Item) (rest : List Item)
-    → old ≡ new ++ last ∷ [] → found ≡ new ++ sum ∷ [] → sum_with last item ≡ Some sum
+    → old ≡ new ++ last ∷ [] → found ≡ new ++ sum ∷ [] → joined_item last item ≡ Some sum
     → resumed old (item ∷ rest) ≡ resumed found rest
 sum_resumed old new found last item sum rest was is e =
     rw (was, is)
     (last_resumed new last (item ∷ rest) ∙ ap (λ (zs : List Item). new ++ zs) (grown last item (Some sum) rest e)
     ∙ sym (last_resumed new sum rest))
 
-apart : (new : List Item) (last item : Item) (rest : List Item) → sum_with last item ≡ None
+apart : (new : List Item) (last item : Item) (rest : List Item) → joined_item last item ≡ None
     → resumed (new ++ last ∷ []) (item ∷ rest) ≡ (new ++ last ∷ []) ++ summed_from item rest
 apart new last item rest e =
     last_resumed new last (item ∷ rest) ∙ ap (λ (zs : List Item). new ++ zs) (grown last item None rest e)
     ∙ sym (append_assoc new (last ∷ []) (summed_from item rest))
 
 pub item_resumed : (old new found : List Item) (last item : Item) (rest : List Item)
-    → old ≡ new ++ last ∷ [] → found ≡ old ++ item ∷ [] → sum_with last item ≡ None
+    → old ≡ new ++ last ∷ [] → found ≡ old ++ item ∷ [] → joined_item last item ≡ None
     → resumed old (item ∷ rest) ≡ resumed found rest
 item_resumed old new found last item rest was is e =
     rw (is, was) (apart new last item rest e ∙ sym (last_resumed (new ++ last ∷ []) item rest))
 
 some_by : (x y : Item) (o : Option Item) (next : Item → List Item) → ((z : Item) → 0 < length (next z))
-    → 0 < length (sum_or o x y next)
+    → 0 < length (joined_or o x y next)
 some_by x y None next h = omega arith
 some_by x y (Some z) next h = h z
 
 some_summed : (x : Item) (rest : List Item) → 0 < length (summed_from x rest)
 unfolding summed_from
 some_summed x [] = omega arith
-some_summed x (y ∷ rest) = some_by x y (sum_with x y) (λ z. summed_from z rest) (λ z. some_summed z rest)
+some_summed x (y ∷ rest) = some_by x y (joined_item x y) (λ z. summed_from z rest) (λ z. some_summed z rest)
 
 pub none_first : (old new found : List Item) (item : Item) (rest : List Item) → old ≡ new ++ []
     → (0 < length old → false ≡ true) → found ≡ new ++ item ∷ [] → resumed old (item ∷ rest) ≡ resumed found rest
@@ -67,7 +67,7 @@ none_first (x ∷ xs) new found item rest was none is = absurd (true≢false (sy
 
 -- with five items there is no room
 pub full_sum : (old new : List Item) (last item sum : Item) (rest : List Item) → old ≡ new ++ last ∷ []
-    → sum_with last item ≡ Some sum → 5 ≤ length new → 5 < length (resumed old (item ∷ rest))
+    → joined_item last item ≡ Some sum → 5 ≤ length new → 5 < length (resumed old (item ∷ rest))
 full_sum old new last item sum rest was e five =
     let is = sum_resumed old new (new ++ sum ∷ []) last item sum rest was refl e in
     omega (
@@ -78,7 +78,7 @@ full_sum old new last item sum rest was e five =
     )
 
 pub full_apart : (old new : List Item) (last item : Item) (rest : List Item) → old ≡ new ++ last ∷ []
-    → sum_with last item ≡ None → 4 ≤ length new → 5 < length (resumed old (item ∷ rest))
+    → joined_item last item ≡ None → 4 ≤ length new → 5 < length (resumed old (item ∷ rest))
 full_apart old new last item rest was e four =
     let is : resumed old (item ∷ rest) ≡ old ++ summed_from item rest = rw was (apart new last item rest e) in
     omega (
@@ -127,23 +127,64 @@ no_items found all whole (Some zs) e h f = cc
 no_items found all whole None e h f = cc
 
 -- ---- the sum of all numbers stays
-summed_if : (b : Bool) (a c : Numeral) (rest : List Item)
-    → ((z : Item) → total (summed_from z rest) ≡ value_of z + total rest)
-    → total (sum_or (cond b (Some (Number (record { value = a.value + c.value; digits = 0; named = true }))) None)
-    (Number a) (Number c) (λ z. summed_from z rest)) ≡ a.value + (c.value + total rest)
-summed_if true a c rest h =
-    h (Number (record { value = a.value + c.value; digits = 0; named = true })) ∙ omega arith
-summed_if false a c rest h = ap (λ n. a.value + n) (h (Number c))
+abbrev Kept : Option Item → Item → Item → (Item → List Item) → ℕ → Type 0
+Kept o x y next rest = total (joined_or o x y next) ≡ value_of x + (value_of y + rest)
 
-summed_more : (x y : Item) (rest : List Item) → ((z : Item) → total (summed_from z rest) ≡ value_of z + total rest)
-    → total (sum_or (sum_with x y) x y (λ z. summed_from z rest)) ≡ value_of x + (value_of y + total rest)
-summed_more (Number a) (Number c) rest h = summed_if (adds_up a c) a c rest h
-summed_more x y rest h = ap (λ n. value_of x + n) (h y)
+summed_if : (b : Bool) (a c : Numeral) (next : Item → List Item) (rest : ℕ)
+    → ((z : Item) → total (next z) ≡ value_of z + rest)
+    → Kept (cond b (Some (Number (record { value = a.value + c.value; digits = 0; named = true; year = a.year; day = a.day })))
+    None) (Number a) (Number c) next rest
+summed_if true a c next rest h =
+    h (Number (record { value = a.value + c.value; digits = 0; named = true; year = a.year; day = a.day })) ∙ omega arith
+summed_if false a c next rest h = ap (λ n. a.value + n) (h (Number c))
+
+year_if : (b : Bool) (a : Numeral) (next : Item → List Item) (rest : ℕ) → ((z : Item) → total (next z) ≡ value_of z + rest)
+    → Kept (cond b (Some (Number a)) None) (Number a) YearWord next rest
+year_if true a next rest h = h (Number a) ∙ omega arith
+year_if false a next rest h = ap (λ n. a.value + n) (h YearWord)
+
+day_behind : (b : Bool) (a : Numeral) (next : Item → List Item) (rest : ℕ)
+    → ((z : Item) → total (next z) ≡ value_of z + rest)
+    → Kept (cond b None (Some (Number (record {
+      value = a.value;
+      digits = a.digits;
+      named = a.named;
+      year = a.year;
+      day = true;
+    })))) (Number a) DayWord next rest
+day_behind true a next rest h = ap (λ n. a.value + n) (h DayWord)
+day_behind false a next rest h =
+    h (Number (record { value = a.value; digits = a.digits; named = a.named; year = a.year; day = true })) ∙ omega arith
+
+day_before : (b : Bool) (a : Numeral) (next : Item → List Item) (rest : ℕ)
+    → ((z : Item) → total (next z) ≡ value_of z + rest)
+    → Kept (cond b None (Some (Number (record {
+      value = a.value;
+      digits = a.digits;
+      named = a.named;
+      year = a.year;
+      day = true;
+    })))) DayWord (Number a) next rest
+day_before true a next rest h = ap (λ n. 0 + n) (h (Number a))
+day_before false a next rest h =
+    h (Number (record { value = a.value; digits = a.digits; named = a.named; year = a.year; day = true })) ∙ omega arith
+
+summed_more : (x y : Item) (next : Item → List Item) (rest : ℕ) → ((z : Item) → total (next z) ≡ value_of z + rest)
+    → Kept (joined_item x y) x y next rest
+summed_more (Number a) (Number c) next rest h = summed_if (adds_up a c) a c next rest h
+summed_more (Number a) YearWord next rest h = year_if (is_long a) a next rest h
+summed_more (Number a) DayWord next rest h = day_behind (is_long a) a next rest h
+summed_more YearWord (Number c) next rest h =
+    h (Number (record { value = c.value; digits = c.digits; named = c.named; year = true; day = c.day })) ∙ omega arith
+summed_more DayWord (Number c) next rest h = day_before (is_long c) c next rest h
+summed_more DayWord (Weekday w) next rest h = h (Weekday w) ∙ omega arith
+summed_more DayWord (Feast f) next rest h = h (Feast f) ∙ omega arith
+summed_more x y next rest h = ap (λ n. value_of x + n) (h y)
 
 total_from : (x : Item) (rest : List Item) → total (summed_from x rest) ≡ value_of x + total rest
 unfolding summed_from
 total_from x [] = refl
-total_from x (y ∷ rest) = summed_more x y rest (λ z. total_from z rest)
+total_from x (y ∷ rest) = summed_more x y (λ z. summed_from z rest) (total rest) (λ z. total_from z rest)
 
 pub sums_stay : SumsStay
 sums_stay [] = refl

@@ -184,6 +184,7 @@ record AreNumbered (xs : List Item) (naming : Naming) : Type 0 where
   season : Season
   order : xs ≡ Number number ∷ Number naming.year ∷ []
   short : is_long number ≡ false
+  no_day : number.day ≡ false
   is_sunday : naming.feast ≡ feasts.Sunday season number.value
 
 abbrev AreNamed : List Item → Naming → Type 0
@@ -195,25 +196,28 @@ named_by year feast place naming e =
     let same : record { year = year; feast = feast; place = place } ≡ naming = cc in
     inl (ap (λ (g : Naming). Number g.year ∷ []) same)
 
-sunday_by : (long few : Bool) (n year : Numeral) (season : Season) (naming : Naming) → is_long n ≡ long
-    → cond (not long && few) (named year (feasts.Sunday season n.value) (places.Days (pos 0))) None ≡ Some naming
+sunday_by : (long day few : Bool) (n year : Numeral) (season : Season) (naming : Naming) → is_long n ≡ long → n.day ≡ day
+    → cond (not long && not day && few) (named year (feasts.Sunday season n.value) (places.Days (pos 0))) None ≡ Some naming
     → AreNamed (Number n ∷ Number year ∷ []) naming
-sunday_by true few n year season naming en e = absurd (cc)
-sunday_by false false n year season naming en e = absurd (cc)
-sunday_by false true n year season naming en e =
+sunday_by true day few n year season naming en ed e = absurd (cc)
+sunday_by false true few n year season naming en ed e = absurd (cc)
+sunday_by false false false n year season naming en ed e = absurd (cc)
+sunday_by false false true n year season naming en ed e =
     let same : record { year = year; feast = feasts.Sunday season n.value; place = places.Days (pos 0) } ≡ naming = cc in
     inr (record {
       number = n;
       season = season;
       order = ap (λ (g : Naming). Number n ∷ Number g.year ∷ []) same;
       short = en;
+      no_day = ed;
       is_sunday = ap (λ (g : Naming). g.feast) (sym same);
     })
 
 numbered_by : (n year : Numeral) (season : Option Season) (naming : Naming) → numbered n year season ≡ Some naming
     → AreNamed (Number n ∷ Number year ∷ []) naming
 numbered_by n year None naming e = absurd (cc)
-numbered_by n year (Some season) naming e = sunday_by (is_long n) (nat_le n.value 255) n year season naming refl e
+numbered_by n year (Some season) naming e =
+    sunday_by (is_long n) n.day (nat_le n.value 255) n year season naming refl refl e
 
 related_by : (w : Option NamedWeekday) (n : Option Numeral) (r : Related) (f : Festival) (year : Numeral) (naming : Naming)
     → related w n r f year ≡ Some naming → AreNamed (in_front n ++ (Number year ∷ [])) naming
@@ -336,6 +340,7 @@ named_uses_by found naming (inr sunday) =
       season = sunday.season;
       order = sunday.order;
       short = sunday.short;
+      no_day = sunday.no_day;
       place = naming.place;
       is_sunday = ap (λ (f : Festival). days.Feast f naming.place) sunday.is_sunday;
     })

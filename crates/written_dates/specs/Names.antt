@@ -7,7 +7,7 @@ use Rattle.written_dates.specs.declared.meanings.Mark.{Mark}
 use Rattle.written_dates.specs.declared.meanings.Mark.TheVariants.{Kalends, Nones, Ides}
 use Rattle.written_dates.specs.declared.meanings.Meaning.{Meaning}
 use Rattle.written_dates.specs.declared.meanings.Meaning.TheVariants.{Nothing, Month, Number, Mark as Marked}
-use Rattle.written_dates.specs.declared.meanings.Meaning.TheVariants.{Weekday, DecadeDay, Relation as Related, Feast, Sundays}
+use Rattle.written_dates.specs.declared.meanings.Meaning.TheVariants.{YearWord, DayWord, Weekday, DecadeDay, Relation as Related, Feast, Sundays}
 use Rattle.written_dates.specs.declared.meanings.Relation.{Relation}
 use Rattle.written_dates.specs.declared.meanings.Relation.TheVariants.{After, Before, Eve, Morrow, Octave}
 use Rattle.church_year.specs.Weekdays.{number_of}
@@ -53,6 +53,8 @@ number_of_relation Octave = 4
 
 abbrev pub same_meaning : Meaning → Meaning → Bool
 same_meaning Nothing Nothing = true
+same_meaning YearWord YearWord = true
+same_meaning DayWord DayWord = true
 same_meaning (Month a) (Month b) = a == b
 same_meaning (Number a) (Number b) = a == b
 same_meaning (Marked a) (Marked b) = same_mark a b

@@ -110,6 +110,7 @@ pub record AreSundayAndYear (found : List Item) (year : Numeral) (day : InYear) 
   pub season : Season
   pub order : numerals found ≡ Number number ∷ Number year ∷ []
   pub short : is_long number ≡ false
+  pub no_day : number.day ≡ false
   pub place : Place
   pub is_sunday : day ≡ days.Feast (feasts.Sunday season number.value) place
 
@@ -136,6 +137,14 @@ LongNumbersAreYears =
     (choice : Choice) (calendar : Calendar) (names : List Name) (text : List ℕ) (found : List Item) (year month day : ℕ)
     (n : Numeral) → IsRead choice calendar names text found year month day → Contains found (Number n) → 4 ≤ n.digits
     → year ≡ n.value
+
+-- a number behind a word for year is the year, by the rule for it
+abbrev pub YearWordsNameYears : Type 0
+YearWordsNameYears =
+    (choice : Choice) (calendar : Calendar) (names : List Name) (text : List ℕ) (found : List Item) (year month day : ℕ)
+    (n : Numeral) → IsRead choice calendar names text found year month day → Contains found (Number n) → n.year ≡ true
+    → (in_year : InYear)
+    × (date_by_rule (short_rule choice calendar n) calendar n.value in_year ≡ Date year month day)
 
 -- a month by name is the month, wherever it stands
 abbrev pub MonthsAreMonths : Type 0

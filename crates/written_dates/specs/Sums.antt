@@ -1,12 +1,12 @@
--- Numbers by name that are one number, by rules of this project.
+-- Items that belong together, by rules of this project.
 use Rattle.std.specs.Prelude.{◌≡◌, ℕ, ◌+◌, ◌%◌, Bool, true, ◌&&◌, ◌||◌, ◌==◌, nat_lt, if◌then◌else◌, List, [], ◌∷◌}
 use Rattle.std.specs.Prelude.{Option, None, Some, option_map}
 use Rattle.date_texts.specs.declared.calendar.Calendar.{Calendar}
 use Rattle.written_dates.specs.declared.items.Number.{Number as Numeral}
 use Rattle.written_dates.specs.declared.items.Item.{Item}
-use Rattle.written_dates.specs.declared.items.Item.TheVariants.{Number}
+use Rattle.written_dates.specs.declared.items.Item.TheVariants.{Number, YearWord, DayWord, Weekday, Feast}
 use Rattle.written_dates.specs.declared.meanings.Name.{Name}
-use Rattle.written_dates.specs.Items.{items}
+use Rattle.written_dates.specs.Items.{is_long, items}
 use Rattle.written_dates.specs.Names.{names_in}
 use Rattle.written_dates.specs.Parts.{parts}
 
@@ -16,20 +16,46 @@ adds_up a b =
     a.named && b.named && nat_lt 0 a.value && nat_lt a.value 10_000 && nat_lt 0 b.value
     && (((a.value % 1000 == 0) && nat_lt b.value 1000) || ((a.value % 100 == 0) && nat_lt b.value 100))
 
--- the one number that two items are, if they are one
-abbrev pub sum_with : Item → Item → Option Item
-sum_with (Number a) (Number b) =
-    if adds_up a b then Some (Number (record { value = a.value + b.value; digits = 0; named = true })) else None
-sum_with x y = None
+-- the one number that two numbers are, if they add up
+abbrev pub sum_of : Numeral → Numeral → Option Item
+sum_of a b =
+    if adds_up a b
+    then Some (Number (record { value = a.value + b.value; digits = 0; named = true; year = a.year; day = a.day })) else None
 
-abbrev pub sum_or : Option Item → Item → Item → (Item → List Item) → List Item
-sum_or None x y rest = x ∷ rest y
-sum_or (Some z) x y rest = rest z
+-- a number behind a word for year is the year
+abbrev pub with_year : Numeral → Item
+with_year n = Number (record { value = n.value; digits = n.digits; named = n.named; year = true; day = n.day })
 
--- an item and those behind it, in which numbers that add up are one
+-- a number beside a word for day, which is not long, counts days
+abbrev pub with_day : Numeral → Option Item
+with_day n =
+    if is_long n then None
+    else Some (Number (record { value = n.value; digits = n.digits; named = n.named; year = n.year; day = true }))
+
+-- a word for year behind a long number says nothing more
+abbrev pub before_year : Numeral → Option Item
+before_year n = if is_long n then Some (Number n) else None
+
+-- the one item that two items are, if they belong together: numbers that add up; a number and a word for year or day; and
+-- a weekday or a feast behind a word for day, which says nothing more
+abbrev pub joined_item : Item → Item → Option Item
+joined_item (Number a) (Number b) = sum_of a b
+joined_item (Number a) YearWord = before_year a
+joined_item (Number a) DayWord = with_day a
+joined_item YearWord (Number b) = Some (with_year b)
+joined_item DayWord (Number b) = with_day b
+joined_item DayWord (Weekday w) = Some (Weekday w)
+joined_item DayWord (Feast f) = Some (Feast f)
+joined_item x y = None
+
+abbrev pub joined_or : Option Item → Item → Item → (Item → List Item) → List Item
+joined_or None x y rest = x ∷ rest y
+joined_or (Some z) x y rest = rest z
+
+-- an item and those behind it, in which items that belong together are one
 unfoldable pub summed_from : Item → List Item → List Item
 summed_from x [] = x ∷ []
-summed_from x (y ∷ rest) = sum_or (sum_with x y) x y (λ z. summed_from z rest)
+summed_from x (y ∷ rest) = joined_or (joined_item x y) x y (λ z. summed_from z rest)
 
 abbrev pub summed : List Item → List Item
 summed [] = []

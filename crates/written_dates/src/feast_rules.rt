@@ -88,12 +88,12 @@ fn named(year: Number, feast: Feast, place: Place) -> Option<Naming>
     Some(Naming { year, feast, place })
 }
 
-/// The Sunday of a number in a season.
+/// The Sunday of a number in a season, unless a word for day stands beside the number.
 fn numbered(number: Number, year: Number, season: Option<Season>) -> Option<Naming>
     ensures { result ≡ numbered_spec number year season }
 {
     let season = season?;
-    if is_long(number) || number.value > 255 {
+    if is_long(number) || number.day || number.value > 255 {
         return None;
     }
     named(

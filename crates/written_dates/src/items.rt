@@ -9,7 +9,9 @@ ghost use Rattle.written_dates.specs.Parts.{parts};
 ghost use Rattle.written_dates.specs.Items.{number_of_digits as digits_spec, number_of as number_spec};
 ghost use Rattle.written_dates.specs.Items.{longest as longest_spec, is_long as long_spec, items, before, meant};
 ghost use Rattle.written_dates.specs.Unknown.{first_unknown};
-ghost use Rattle.written_dates.specs.Sums.{adds_up as adds_up_spec, found_items, sum_with as sum_with_spec};
+ghost use Rattle.written_dates.specs.Sums.{adds_up as adds_up_spec, found_items, joined_item as joined_spec};
+ghost use Rattle.written_dates.specs.Sums.{before_year as before_year_spec, sum_of as sum_of_spec};
+ghost use Rattle.written_dates.specs.Sums.{with_day as with_day_spec, with_year as with_year_spec};
 ghost use Rattle.written_dates.specs.ItemViews.{resumed};
 
 use crate::meanings::{Mark, Meaning, Name, Relation};
@@ -31,6 +33,10 @@ pub(crate) struct Number {
     pub digits: usize,
     /// Whether it stands by name.
     pub named: bool,
+    /// Whether a word for year stands before it.
+    pub year: bool,
+    /// Whether a word for day stands beside it.
+    pub day: bool,
 }
 
 /// A part of a date.
@@ -38,6 +44,10 @@ pub(crate) struct Number {
 pub(crate) enum Item {
     /// A number.
     Number(Number),
+    /// A word for year.
+    YearWord,
+    /// A word for day.
+    DayWord,
     /// A month by name.
     Month(u8),
     /// A mark.
@@ -72,6 +82,8 @@ pub(crate) fn number_of_digits(text: &[u8]) -> Option<Number>
         value,
         digits: text.len(),
         named: false,
+        year: false,
+        day: false,
     })
 }
 
@@ -87,6 +99,8 @@ fn number_of(part: Token) -> Option<Number>
             value,
             digits: 0,
             named: false,
+            year: false,
+            day: false,
         }),
         None => None,
     }
@@ -148,7 +162,7 @@ fn longest<'a>(
 pub(crate) fn is_long(number: Number) -> bool
     ensures { result ≡ long_spec number }
 {
-    number.digits >= 3 || (number.digits == 0 && number.value >= 100)
+    number.year || number.digits >= 3 || (number.digits == 0 && number.value >= 100)
 }
 
 /// The item that a name means, if it means one.
@@ -162,7 +176,11 @@ fn item_of(meaning: Meaning) -> Option<Item>
             value,
             digits: 0,
             named: true,
+            year: false,
+            day: false,
         })),
+        Meaning::YearWord => Some(Item::YearWord),
+        Meaning::DayWord => Some(Item::DayWord),
         Meaning::Mark(mark) => Some(Item::Mark(mark)),
         Meaning::Weekday(weekday) => Some(Item::Weekday(weekday)),
         Meaning::DecadeDay(number) => Some(Item::DecadeDay(number)),
@@ -219,21 +237,83 @@ fn adds_up(a: Number, b: Number) -> bool
         && ((a.value % 1000 == 0 && b.value < 1000) || (a.value % 100 == 0 && b.value < 100))
 }
 
-/// The number that two items are together, if they are one.
-fn sum_with(a: Item, b: Item) -> Option<Item>
-    ensures { result ≡ sum_with_spec a b }
+/// The one number that two numbers are, if they add up.
+fn sum_of(a: Number, b: Number) -> Option<Item>
+    ensures { result ≡ sum_of_spec a b }
 {
-    match (a, b) {
-        (Item::Number(a), Item::Number(b)) => {
-            if !adds_up(a, b) {
-                return None;
-            }
-            Some(Item::Number(Number {
-                value: a.value + b.value,
-                digits: 0,
-                named: true,
-            }))
-        }
+    if !adds_up(a, b) {
+        return None;
+    }
+    Some(Item::Number(Number {
+        value: a.value + b.value,
+        digits: 0,
+        named: true,
+        year: a.year,
+        day: a.day,
+    }))
+}
+
+/// A number behind a word for year.
+fn with_year(n: Number) -> Item
+    ensures { result ≡ with_year_spec n }
+{
+    Item::Number(Number {
+        value: n.value,
+        digits: n.digits,
+        named: n.named,
+        year: true,
+        day: n.day,
+    })
+}
+
+/// A number beside a word for day, unless it is long.
+fn with_day(n: Number) -> Option<Item>
+    ensures { result ≡ with_day_spec n }
+{
+    if is_long(n) {
+        return None;
+    }
+    Some(Item::Number(Number {
+        value: n.value,
+        digits: n.digits,
+        named: n.named,
+        year: n.year,
+        day: true,
+    }))
+}
+
+/// The year before a word for year, if it is long.
+fn before_year(n: Number) -> Option<Item>
+    ensures { result ≡ before_year_spec n }
+{
+    if is_long(n) {
+        Some(Item::Number(n))
+    } else {
+        None
+    }
+}
+
+/// The one item that two items are, if they belong together.
+fn joined_item(a: Item, b: Item) -> Option<Item>
+    ensures { result ≡ joined_spec a b }
+{
+    match a {
+        Item::Number(a) => match b {
+            Item::Number(b) => sum_of(a, b),
+            Item::YearWord => before_year(a),
+            Item::DayWord => with_day(a),
+            _ => None,
+        },
+        Item::YearWord => match b {
+            Item::Number(b) => Some(with_year(b)),
+            _ => None,
+        },
+        Item::DayWord => match b {
+            Item::Number(b) => with_day(b),
+            Item::Weekday(weekday) => Some(Item::Weekday(weekday)),
+            Item::Feast(feast) => Some(Item::Feast(feast)),
+            _ => None,
+        },
         _ => None,
     }
 }
@@ -246,7 +326,7 @@ fn try_add(found: &mut ArrayVec<Item, 5>, item: Item) -> bool
     found.try_push(item).is_ok()
 }
 
-/// Adds an item, or adds its number to that of the last item, and says whether there was room.
+/// Adds an item, or joins it with the last one where they belong together, and says whether there was room.
 fn push_item(found: &mut ArrayVec<Item, 5>, item: Item) -> bool
     ensures room { result ≡ true → (rest : List Item)
         → resumed found.old.items (item ∷ rest) ≡ resumed found.new.items rest }
@@ -255,7 +335,7 @@ fn push_item(found: &mut ArrayVec<Item, 5>, item: Item) -> bool
     let Some(last) = found.pop() else {
         return try_add(found, item);
     };
-    if let Some(sum) = sum_with(last, item) {
+    if let Some(sum) = joined_item(last, item) {
         return try_add(found, sum);
     }
     if !try_add(found, last) {

@@ -7,7 +7,7 @@ ghost use Rattle.written_dates.specs.Stops.{OtherWeekdaysStop};
 ghost use Rattle.written_dates.specs.Sums.{SumsStay};
 ghost use Rattle.written_dates.specs.ReadLaws.{MonthsAreMonths, HyphensAreMinuses, MinusesAreNotRead, MinusesStay, YearsOfTheRepublic};
 ghost use Rattle.written_dates.specs.ReadLaws.{DaysStandBehindMonths, RomanNumbersAreMonths, DecadeDaysAgree};
-ghost use Rattle.written_dates.specs.ReadLaws.{MixedSignsStay, DaysToDaysStay};
+ghost use Rattle.written_dates.specs.ReadLaws.{MixedSignsStay, DaysToDaysStay, YearWordsNameYears};
 
 /// Year, month and day as registers have them stay, whatever the names, where the year is not last and is kept, or has a
 /// minus.
@@ -33,12 +33,13 @@ pub fn weekdays_agree()
     ensures other { OtherWeekdaysStop }
 {}
 
-/// Each number and each month of a text of which a date is read is a part of this date; a number of four digits is its
-/// year and a month by name its month; behind a month the day stands before the year; a Roman number between two others is
-/// the month; and the French Republic had no year over 99.
+/// Each number and each month of a text of which a date is read is a part of this date; a number of four digits, or behind a
+/// word for year, is its year, and a month by name its month; behind a month the day stands before the year; a Roman number
+/// between two others is the month; and the French Republic had no year over 99.
 pub fn nothing_is_left_over()
     ensures used { NothingIsLeftOver }
     ensures years { LongNumbersAreYears }
+    ensures words { YearWordsNameYears }
     ensures months { MonthsAreMonths }
     ensures days { DaysStandBehindMonths }
     ensures roman { RomanNumbersAreMonths }

@@ -42,6 +42,10 @@ pub enum Meaning {
     Month(u8),
     /// A number.
     Number(u32),
+    /// A word for year: the number behind it is the year.
+    YearWord,
+    /// A word for day: the number beside it counts days.
+    DayWord,
     /// A mark.
     Mark(Mark),
     /// A day of the week.

@@ -195,9 +195,9 @@ const CASES: [Case; 39] = [
         columns: &DAY_AND_GREGORIAN,
         reading: DAY_FIRST,
         sheet: "D;C\n3 MÄRZ 1850;gregorian\n",
-        wanted: "D;C;rd;gregorian;refusal\n3 MÄRZ 1850;gregorian;;;5\n",
+        wanted: "D;C;rd;gregorian;refusal\n3 MÄRZ 1850;gregorian;675395;1850-03-03;\n",
         rows: 1,
-        refused: &[1],
+        refused: &[0],
     },
     Case {
         delimiter: b';',

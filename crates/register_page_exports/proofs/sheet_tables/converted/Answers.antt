@@ -5,6 +5,7 @@ use Rattle.register_records.specs.Entries.{text_records}
 use Rattle.register_sheets.specs.Converted.{IsWholeSheet}
 use Rattle.register_sheets.specs.declared.choices.SheetChoice.{SheetChoice}
 use Rattle.register_sheets.specs.AskedOfSheets.{IsChoice, IsChoiceBy}
+use Rattle.register_sheets.specs.UnknownNames.{AreUnreadIn}
 use Rattle.register_page_exports.specs.SheetTables.{EndsBy}
 use Rattle.register_sheets.specs.declared.asked_of_sheets.AskedByNames.{AskedByNames}
 use Rattle.register_page_exports.proofs.EndingLemmas.{early_ends, early_whole, ends_known}
@@ -17,13 +18,15 @@ returns-clause-whole c =
       | inr (known, knows, post) ↦
           let (place, given, same) = post in
           let whole : IfOk c.made_by.result (λ made. (choice : SheetChoice) × IsChoiceBy place.now choice × IsChoice choice
-          × IsWholeSheet choice (text_records choice.delimiter c.args.sheet.now) made.rows made.refused made.text.items)
+          × IsWholeSheet choice (text_records choice.delimiter c.args.sheet.now) made.rows made.refused made.text.items
+          × AreUnreadIn choice (text_records choice.delimiter c.args.sheet.now) made.unread)
           = search rules in
           IfOk-weaker c.made_by.result _ _ (λ made is. record {
             choice = is.0;
             asked = knows is.0 (subst (λ (k : AskedByNames). IsChoiceBy k is.0) same is.1);
             is_choice = is.2;
             whole = is.3;
+            all_unread = is.4;
           }) whole
     ]
 

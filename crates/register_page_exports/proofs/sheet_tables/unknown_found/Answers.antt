@@ -18,7 +18,7 @@ returns-clause-whole c =
           let (place, given, same) = post in
           let whole : IfOk c.made_by.result (λ r. (choice : SheetChoice) × IsChoiceBy place.now choice × IsChoice choice
           × IsUnknown choice (text_records choice.delimiter c.args.sheet.now) c.args.most (map name_seen r.0.names.items)
-          r.0.more r.0.short r.0.kept × (r.1.items ≡ list_text (map name_seen r.0.names.items)))
+          r.0.more r.0.unread × (r.1.items ≡ list_text (map name_seen r.0.names.items)))
           = search rules in
           IfOk-weaker c.made_by.result _ _ (λ made is. record {
             choice = is.0;

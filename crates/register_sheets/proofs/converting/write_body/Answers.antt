@@ -43,8 +43,7 @@ returns-then-not-branch g c =
             (made begun head h),
       );
       unread = λ _.
-          subst (λ (records : List Fields). AreUnread choice (all_dates choice records) c.records.rows.unread.stopped
-          c.records.rows.unread.short) every (all_counted choice (all_dates choice done) _ _ c.requires.all_read read);
+          subst (λ (records : List Fields). AreUnread choice (all_dates choice records) c.records.rows.unread) every (all_counted choice (all_dates choice done) _ _ c.requires.all_read read);
       part = tt;
       output = record { good = inv.failed; causes = tt; memory = tt; sink = tt; marked = inv.mark };
     }

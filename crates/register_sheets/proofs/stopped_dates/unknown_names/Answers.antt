@@ -18,7 +18,7 @@ returns c =
     let added = c.add_sheet-added.ensures in
     record {
       found = rw c.unknown_of.ensures
-          (if_found _ _ (λ u. IsUnknown choice all c.args.most (map name_seen u.names.items) u.more u.short u.kept)
+          (if_found _ _ (λ u. IsUnknown choice all c.args.most (map name_seen u.names.items) u.more u.unread)
           (rw left at added.found));
       no_names = rw c.unknown_of.ensures
           (if_stopped _ _ (λ e. e ≡ NoNames → length all ≤ choice.above) (rw left at added.no_names));
@@ -36,6 +36,6 @@ add_sheet-added-requires c =
     record {
       reading = c.records_of-records.ensures.reading;
       few = few_dates _ c.args.setup.now.dated.few;
-      none = subst (λ (items : List UnknownName). IsFound choice [] c.args.most (map name_seen items) 0 0 0)
-          (sym c.new.ensures.items) (none_found choice c.args.most);
+      none = subst (λ (items : List UnknownName). IsFound choice [] c.args.most (map name_seen items) 0 c.none.result)
+          (sym c.new.ensures.items) (none_found choice c.args.most c.none.result c.none.ensures);
     }

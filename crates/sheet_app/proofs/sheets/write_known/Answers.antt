@@ -5,22 +5,22 @@ use Rattle.sheet_app.specs.declared.sheets.TheConstants.{MOST_UNKNOWN}
 use Rattle.sheet_app.proofs.EndLemmas.{asked_list, asked_sheet, ended_fault}
 use Rattle.sheet_app.proofs.sheets.write_known.Goals as goal
 
-pub returns-in_err-list_unknown : goal.returns-in_err-list_unknown
-returns-in_err-list_unknown g c = λ lines asks.
+pub returns-in_err-listed : goal.returns-in_err-listed
+returns-in_err-listed g c = λ lines asks.
     let choice = c.setup_of-setup.result.choice in
     let chosen = asks choice c.setup_of-setup.ensures.0 c.setup_of-setup.ensures.1 in
     ended_fault g.W.Output (task_of c.args.job.now) lines MOST_UNKNOWN c.args.sheet.now c.args.output.now
     c.list_unknown.new.output c.args.registers.now c.from_residual.result _ c.from_residual.ensures.1
-    (inr (choice, chosen, c.in_err-list_unknown.ensures.broken))
+    (inr (choice, chosen, c.in_err-listed.ensures.broken))
 
 pub returns-then-job : goal.returns-then-job
 returns-then-job g c = λ lines asks.
     let choice = c.setup_of-setup.result.choice in
     let chosen = asks choice c.setup_of-setup.ensures.0 c.setup_of-setup.ensures.1 in (
-      asked_list (task_of c.args.job.now) lines MOST_UNKNOWN c.args.sheet.now choice
+      asked_list (task_of c.args.job.now) lines MOST_UNKNOWN c.args.sheet.now choice c.in_ok-listed.listed
           (g.W.Output.contents c.args.output.now) (g.W.Output.contents c.list_unknown.new.output) chosen
-          c.in_ok-list_unknown.ensures.whole,
-      c.in_ok-list_unknown.ensures.flushed,
+          c.in_ok-listed.ensures.whole,
+      c.in_ok-listed.ensures.flushed,
       c.if-job.true,
       refl,
     )

@@ -1,5 +1,5 @@
 use Rattle.written_dates.proofs.ReadLawLemmas.{nothing_is_left_over, long_numbers_are_years, months_are_months, years_of_the_republic}
-use Rattle.written_dates.proofs.ReadLawLemmas.{days_stand_behind_months, roman_numbers_are_months}
+use Rattle.written_dates.proofs.ReadLawLemmas.{year_words_name_years, days_stand_behind_months, roman_numbers_are_months}
 use Rattle.written_dates.proofs.laws.nothing_is_left_over.Goals as goal
 
 pub returns-clause-used : goal.returns-clause-used
@@ -19,3 +19,6 @@ returns-clause-days c = days_stand_behind_months
 
 pub returns-clause-roman : goal.returns-clause-roman
 returns-clause-roman c = roman_numbers_are_months
+
+pub returns-clause-words : goal.returns-clause-words
+returns-clause-words c = year_words_name_years

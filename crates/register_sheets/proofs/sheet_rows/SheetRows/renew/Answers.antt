@@ -6,7 +6,7 @@ use Rattle.register_records.specs.Outcomes.{IsRowOf, TableRow}
 use Rattle.register_records.specs.Views.{row_seen}
 use Rattle.register_sheets.specs.Choices.{asked_targets, register_entry}
 use Rattle.register_sheets.specs.RowViews.{CountsMore, rows_seen}
-use Rattle.register_sheets.specs.UnknownNames.{SheetDate}
+use Rattle.register_sheets.specs.DateStops.{SheetDate}
 use Rattle.register_sheets.specs.declared.choices.CalendarField.TheVariants.{Column}
 use Rattle.register_sheets.specs.declared.choices.DateColumn.{DateColumn}
 use Rattle.register_sheets.proofs.RowLemmas.{seen_count, seen_few, seen_set, zip_at}

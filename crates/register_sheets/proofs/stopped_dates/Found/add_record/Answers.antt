@@ -2,7 +2,7 @@ use Rattle.std.proofs.Common.{◌≡◌, ◌++◌, append-nil, arith, length-app
 use Rattle.std.proofs.lemmas.List.{length-map}
 use Rattle.csv.specs.Records.{fields_of}
 use Rattle.register_sheets.specs.FoundViews.{HasFound}
-use Rattle.register_sheets.specs.UnknownNames.{SheetDate}
+use Rattle.register_sheets.specs.DateStops.{SheetDate}
 use Rattle.register_sheets.specs.declared.choices.CalendarField.TheVariants as calendar
 use Rattle.register_sheets.specs.declared.choices.DateColumn.{DateColumn}
 use Rattle.register_sheets.proofs.FoundLemmas.{dates_taken}

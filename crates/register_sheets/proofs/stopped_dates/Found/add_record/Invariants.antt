@@ -1,7 +1,7 @@
 use Rattle.std.proofs.Common.{◌++◌, List, map, take}
 use Rattle.csv.specs.Records.{fields_of}
 use Rattle.register_sheets.specs.FoundViews.{HasFound}
-use Rattle.register_sheets.specs.UnknownNames.{SheetDate}
+use Rattle.register_sheets.specs.DateStops.{SheetDate}
 use Rattle.register_sheets.proofs.stopped_dates.Found.add_record.Given as goal
 
 abbrev pub invariant-dates : goal.invariant-dates

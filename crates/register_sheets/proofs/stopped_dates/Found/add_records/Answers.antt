@@ -6,7 +6,8 @@ use Rattle.register_records.specs.Entries.{Fields}
 use Rattle.register_records.proofs.StepLemmas.{passed_on}
 use Rattle.register_sheets.specs.FoundViews.{HasFound}
 use Rattle.register_sheets.specs.Reading.{left_of}
-use Rattle.register_sheets.specs.UnknownNames.{SheetDate, all_dates}
+use Rattle.register_sheets.specs.DateStops.{SheetDate}
+use Rattle.register_sheets.specs.UnknownNames.{all_dates}
 use Rattle.register_sheets.proofs.FoundLemmas.{dates_few, dates_more}
 use Rattle.register_sheets.proofs.ListLemmas.{one_taken}
 use Rattle.register_sheets.proofs.SendingLemmas.{no_value}

@@ -2,8 +2,9 @@ use Rattle.std.proofs.Common.{◌≡◌, ◌<◌, ◌≤◌, ◌∙◌, ◌++◌
 use Rattle.std.proofs.lemmas.List.{get_or-map, length-map, map-set}
 use Rattle.std.proofs.lemmas.Option.{slice_get_within}
 use Rattle.std.proofs.lemmas.Result.{on_ok_weaker}
-use Rattle.register_sheets.specs.UnknownNames.{AreNames, NameCount, NameStop, name_seen}
-use Rattle.register_sheets.specs.UnknownViews.{named, stop_seen}
+use Rattle.register_sheets.specs.DateStops.{NameStop}
+use Rattle.register_sheets.specs.UnknownNames.{AreNames, NameCount, name_seen as count_seen}
+use Rattle.register_sheets.specs.UnknownViews.{name_seen, named}
 use Rattle.register_sheets.proofs.StopLemmas.{has, name_counted, named_are, names_full, names_new, one_more}
 use Rattle.register_sheets.proofs.stopped_names.StoppedNames.count.Goals as goal
 
@@ -14,28 +15,28 @@ returns-in-Some c = λ stops are.
     let k = c.in-Some.place in
     let (name, found, alike) = c.in-Some.ensures.some in
     let lt : k < length items = omega (arith, slice_get_within _ k name found, length-map items named) in
-    let at = get_or-map name_seen items k x (name_seen x) lt ∙ ap name_seen (sym c.index_mut.ensures.value) in
-    name_counted c.args.most stops (stop_seen c.args.stop) items _ c.args.self.now.more k name (name_seen x) are found alike
-    (map-set name_seen items k _
-    ∙ ap (λ (n : NameCount). set (map name_seen items) k (one_more n)) (sym at))
+    let at = get_or-map count_seen items k x (count_seen x) lt ∙ ap count_seen (sym c.index_mut.ensures.value) in
+    name_counted c.args.most stops (name_seen c.args.stop) items _ c.args.self.now.more k name (count_seen x) are found alike
+    (map-set count_seen items k _
+    ∙ ap (λ (n : NameCount). set (map count_seen items) k (one_more n)) (sym at))
 
 pub returns-then-len-most : goal.returns-then-len-most
 returns-then-len-most c = λ stops are.
     let items = c.args.self.now.listed.items in
-    let stop = stop_seen c.args.stop in
+    let stop = name_seen c.args.stop in
     let none : has (map named items) stop ≡ false = search rules in
-    let full : c.args.most ≤ length (map name_seen items) = omega (arith, length-map items name_seen) in
-    names_full c.args.most stops stop (map name_seen items) c.args.self.now.more are full
+    let full : c.args.most ≤ length (map count_seen items) = omega (arith, length-map items count_seen) in
+    names_full c.args.most stops stop (map count_seen items) c.args.self.now.more are full
     (ap (λ (names : List NameStop). has names stop) (sym (named_are stops items _ are.names_are)) ∙ none)
 
 pub returns : goal.returns
 returns c =
     let items = c.args.self.now.listed.items in
-    let stop = stop_seen c.args.stop in
+    let stop = name_seen c.args.stop in
     let none : has (map named items) stop ≡ false = search rules in
-    let few : length (map name_seen items) < c.args.most = omega (arith, length-map items name_seen) in
+    let few : length (map count_seen items) < c.args.most = omega (arith, length-map items count_seen) in
     on_ok_weaker c.list.result (λ made stops are.
-    subst (AreNames c.args.most (stops ++ stop ∷ []) (map name_seen c.list.new.self.listed.items)) (sym c.list.ensures.more)
-    (names_new c.args.most stops stop (map name_seen items) _ c.args.self.now.more are few
+    subst (AreNames c.args.most (stops ++ stop ∷ []) (map count_seen c.list.new.self.listed.items)) (sym c.list.ensures.more)
+    (names_new c.args.most stops stop (map count_seen items) _ c.args.self.now.more are few
     (ap (λ (names : List NameStop). has names stop) (sym (named_are stops items _ are.names_are)) ∙ none) made))
     c.list.ensures.listed

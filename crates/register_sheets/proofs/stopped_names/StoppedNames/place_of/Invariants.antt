@@ -1,9 +1,9 @@
 use Rattle.std.proofs.Common.{◌≡◌, false, map, take}
 use Rattle.std.specs.List.{list_any}
 use Rattle.register_sheets.specs.UnknownNames.{is_alike}
-use Rattle.register_sheets.specs.UnknownViews.{named, stop_seen}
+use Rattle.register_sheets.specs.UnknownViews.{name_seen, named}
 use Rattle.register_sheets.proofs.stopped_names.StoppedNames.place_of.Given as goal
 
 abbrev pub invariant-names : goal.invariant-names
 invariant-names l =
-    list_any (λ name. is_alike name (stop_seen l.stop)) (take l.place (map named l.self.listed.items)) ≡ false
+    list_any (λ name. is_alike name (name_seen l.stop)) (take l.place (map named l.self.listed.items)) ≡ false

@@ -1,0 +1,131 @@
+-- What stops a date of a sheet, so that it is not read.
+use Rattle.std.specs.Prelude.{◌≡◌, ◌≢◌, ◌⊎◌, ◌==◌, ℕ, Bool, false, List, [], ◌∷◌, IsUtf8, Option, None, Some, get_or}
+use mathlib.Core.Logic.{inl, inr}
+use Rattle.date_texts.specs.DateText.{IsDateText}
+use Rattle.date_texts.specs.declared.calendar.Calendar.{Calendar}
+use Rattle.date_texts.specs.declared.date.Date.{Date}
+use Rattle.register_records.specs.Entries.{Fields}
+use Rattle.written_dates.specs.Fields.{without_blanks}
+use Rattle.written_dates.specs.Stops.{stop}
+use Rattle.written_dates.specs.Unknown.{unknown_word}
+use Rattle.written_dates.specs.declared.meanings.Name.{Name}
+use Rattle.written_dates.specs.declared.stops.Stop.{Stop}
+use Rattle.written_dates.specs.declared.stops.Stop.TheVariants as stops
+use Rattle.written_dates.specs.declared.written.Choice.{Choice}
+use Rattle.register_sheets.specs.Choices.{calendar_called, calendar_text, date_text}
+use Rattle.register_sheets.specs.declared.choices.CalendarField.{CalendarField}
+use Rattle.register_sheets.specs.declared.choices.CalendarField.TheVariants as calendar
+use Rattle.register_sheets.specs.declared.choices.DateColumn.{DateColumn}
+use Rattle.register_sheets.specs.declared.choices.SheetChoice.{SheetChoice}
+use Rattle.register_sheets.specs.declared.reasons.Reason.{Reason}
+use Rattle.register_sheets.specs.declared.reasons.Reason.TheVariants as reasons
+use Rattle.register_sheets.specs.declared.reasons.ReasonCounts.{ReasonCounts}
+
+-- a name that stopped a date: a word, and the calendar in which it is not known; or that of a calendar, and none
+abbrev pub NameStop : Type 0
+NameStop = List ℕ × Option Calendar
+
+-- what stops a date: a name that is not known, or another reason
+abbrev pub DateStop : Type 0
+DateStop = NameStop ⊎ Reason
+
+-- the reason for which dates in words are not read
+abbrev pub reason_by : Option Stop → Reason
+reason_by (Some stops.Character) = reasons.Character
+reason_by (Some stops.Minus) = reasons.Minus
+reason_by (Some stops.OtherWeekday) = reasons.OtherWeekday
+reason_by (Some stops.NoDay) = reasons.NoDay
+reason_by (Some stops.NoYear) = reasons.NoYear
+reason_by (Some stops.NoSuchYear) = reasons.NoSuchYear
+reason_by other = reasons.NoDate
+
+-- a word that is not known, or else the reason
+abbrev pub word_or_reason : Calendar → Option (List ℕ) → Option Stop → DateStop
+word_or_reason calendar (Some word) stop = inl (word, Some calendar)
+word_or_reason calendar None stop = inr (reason_by stop)
+
+-- what stops a text that is not read
+abbrev pub text_stop : Choice → Calendar → List Name → List ℕ → DateStop
+text_stop reading calendar names text =
+    word_or_reason calendar (unknown_word calendar names text) (stop reading calendar names text)
+
+-- this is no text, or no date of the calendar
+abbrev pub IsNoDate : Calendar → List ℕ → Type 0
+IsNoDate calendar text = IsUtf8 text → (date : Date) → ¬ (IsDateText calendar text date)
+
+-- a field of this calendar has more than blanks, stays as it is, and is no date text
+pub record StaysWritten (calendar : Calendar) (field date : List ℕ) : Type 0 where
+  pub some : without_blanks field ≢ []
+  pub stays : date ≡ field
+  pub no_date : IsNoDate calendar field
+
+-- what stops a field of a calendar, for which this date is written: nothing where the field is a date, or was read
+pub record IsStopIn (reading : Choice) (calendar : Calendar) (names : List Name) (field date : List ℕ)
+    (found : Option DateStop) : Type 0 where
+  pub stays : StaysWritten calendar field date → found ≡ Some (text_stop reading calendar names field)
+  pub other : ¬ (StaysWritten calendar field date) → found ≡ None
+
+-- the name that stands for a calendar, or that none does
+abbrev pub calendar_stop : List ℕ → DateStop
+calendar_stop [] = inr reasons.NoCalendar
+calendar_stop (byte ∷ name) = inl (byte ∷ name, None)
+
+abbrev pub calendar_field : CalendarField → Fields → List ℕ
+calendar_field (calendar.All calendar) fields = []
+calendar_field (calendar.Column place) fields = get_or fields place []
+
+abbrev pub unless_empty : List ℕ → DateStop → Option DateStop
+unless_empty [] stop = None
+unless_empty (byte ∷ text) stop = Some stop
+
+-- the calendar of a record's date, where its register names a known one
+abbrev pub called_for : SheetChoice → DateColumn → Fields → Option Calendar
+called_for choice column fields = calendar_called (calendar_text choice.calendars.now column.calendar fields)
+
+-- this stops the date of a record in a column, whose calendar is the one called; an empty field stops nothing
+abbrev pub IsStopBy : SheetChoice → DateColumn → Fields → Option Calendar → Option DateStop → Type 0
+IsStopBy choice column fields None found =
+    found ≡ unless_empty (without_blanks (get_or fields column.date []))
+    (calendar_stop (without_blanks (calendar_field column.calendar fields)))
+IsStopBy choice column fields (Some calendar) found =
+    IsStopIn choice.reading calendar choice.names.now.listed.now (get_or fields column.date [])
+    (date_text choice column fields) found
+
+-- a date of a sheet: its column and its record
+abbrev pub SheetDate : Type 0
+SheetDate = DateColumn × Fields
+
+abbrev pub IsStopOf : SheetChoice → SheetDate → Option DateStop → Type 0
+IsStopOf choice date = IsStopBy choice date.0 date.1 (called_for choice date.0 date.1)
+
+-- the name that stopped a date
+abbrev pub name_in : Option DateStop → Option NameStop
+name_in (Some (inl name)) = Some name
+name_in stop = None
+
+-- the number of a reason
+abbrev pub reason_number : Reason → ℕ
+reason_number reasons.NoCalendar = 1
+reason_number reasons.Character = 2
+reason_number reasons.Minus = 3
+reason_number reasons.OtherWeekday = 4
+reason_number reasons.NoDay = 5
+reason_number reasons.NoYear = 6
+reason_number reasons.NoSuchYear = 7
+reason_number reasons.NoDate = 8
+
+-- a date was stopped for this reason
+abbrev pub is_for : Reason → Option DateStop → Bool
+is_for reason (Some (inr other)) = reason_number other == reason_number reason
+is_for reason stop = false
+
+-- the count of a reason
+abbrev pub count_of : ReasonCounts → Reason → ℕ
+count_of counts reasons.NoCalendar = counts.no_calendar
+count_of counts reasons.Character = counts.character
+count_of counts reasons.Minus = counts.minus
+count_of counts reasons.OtherWeekday = counts.other_weekday
+count_of counts reasons.NoDay = counts.no_day
+count_of counts reasons.NoYear = counts.no_year
+count_of counts reasons.NoSuchYear = counts.no_such_year
+count_of counts reasons.NoDate = counts.no_date

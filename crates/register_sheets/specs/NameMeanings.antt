@@ -1,0 +1,100 @@
+-- What the field `means` of a list says, by a form of this project. Each meaning is said by one text.
+use Rattle.std.specs.Prelude.{◌≡◌, ◌≤◌, ◌≤ℤ◌, ◌++◌, ℕ, ℤ, pos, neg_ℤ, List, [], ◌∷◌, codes, if◌then◌else◌}
+use Rattle.std.specs.Fmt.{decimal, signed_decimal}
+use Rattle.std.specs.Ordering.{int_eq}
+use Rattle.church_year.specs.declared.feasts.Anchor.TheVariants as anchors
+use Rattle.church_year.specs.declared.feasts.Feast.{Feast}
+use Rattle.church_year.specs.declared.feasts.Feast.TheVariants.{Day, Sunday}
+use Rattle.church_year.specs.declared.feasts.Season.{Season}
+use Rattle.church_year.specs.declared.feasts.Season.TheVariants as seasons
+use Rattle.day_numbers.specs.declared.day.Weekday.{Weekday}
+use Rattle.day_numbers.specs.declared.day.Weekday.TheVariants as weekdays
+use Rattle.date_texts.specs.Calendars.{calendar_name}
+use Rattle.date_texts.specs.Names.{IsNamed}
+use Rattle.written_dates.specs.declared.meanings.Mark.{Mark}
+use Rattle.written_dates.specs.declared.meanings.Mark.TheVariants.{Kalends, Nones, Ides}
+use Rattle.written_dates.specs.declared.meanings.Meaning.{Meaning}
+use Rattle.written_dates.specs.declared.meanings.Meaning.TheVariants as meaning
+use Rattle.written_dates.specs.declared.meanings.Relation.{Relation}
+use Rattle.written_dates.specs.declared.meanings.Relation.TheVariants.{After, Before, Eve, Morrow, Octave}
+use Rattle.register_sheets.specs.declared.name_meanings.Means.{Means}
+use Rattle.register_sheets.specs.declared.name_meanings.Means.TheVariants as means
+
+abbrev pub mark_name : Mark → List ℕ
+mark_name Kalends = codes "K"
+mark_name Nones = codes "N"
+mark_name Ides = codes "I"
+
+abbrev pub weekday_name : Weekday → List ℕ
+weekday_name weekdays.Sunday = codes "weekday 0"
+weekday_name weekdays.Monday = codes "weekday 1"
+weekday_name weekdays.Tuesday = codes "weekday 2"
+weekday_name weekdays.Wednesday = codes "weekday 3"
+weekday_name weekdays.Thursday = codes "weekday 4"
+weekday_name weekdays.Friday = codes "weekday 5"
+weekday_name weekdays.Saturday = codes "weekday 6"
+
+abbrev pub relation_name : Relation → List ℕ
+relation_name After = codes "after"
+relation_name Before = codes "before"
+relation_name Eve = codes "eve"
+relation_name Morrow = codes "morrow"
+relation_name Octave = codes "octave"
+
+abbrev pub season_name : Season → List ℕ
+season_name seasons.Epiphany = codes "epiphany"
+season_name seasons.Lent = codes "lent"
+season_name seasons.Easter = codes "easter"
+season_name seasons.Pentecost = codes "pentecost"
+season_name seasons.Trinity = codes "trinity"
+season_name seasons.Advent = codes "advent"
+
+-- the text is a number within these bounds
+abbrev pub IsNumberIn : ℕ → ℕ → List ℕ → ℕ → Type 0
+IsNumberIn least most text number = (least ≤ number) × (number ≤ most) × (text ≡ decimal number)
+
+-- the text is this word, a blank, and such a number
+abbrev pub IsWordAndNumber : List ℕ → ℕ → ℕ → List ℕ → ℕ → Type 0
+IsWordAndNumber word least most text number =
+    (least ≤ number) × (number ≤ most) × (text ≡ word ++ 32 ∷ decimal number)
+
+-- a feast is a year at most from another day
+abbrev pub IsFewDays : ℤ → Type 0
+IsFewDays days = (neg_ℤ (pos 366) ≤ℤ days) × (days ≤ℤ pos 366)
+
+abbrev pub AreDays : List ℕ → ℤ → Type 0
+AreDays text days = IsFewDays days × (text ≡ signed_decimal days)
+
+-- the text is a day of a month, and how many days from it, where these are not 0
+abbrev pub day_name : ℕ → ℤ → List ℕ
+day_name day days = decimal day ++ (if int_eq days (pos 0) then [] else (32 ∷ signed_decimal days))
+
+abbrev pub IsDayAndDays : List ℕ → ℕ → ℤ → Type 0
+IsDayAndDays text day days = (1 ≤ day) × (day ≤ 31) × IsFewDays days × (text ≡ day_name day days)
+
+-- so many days from Easter; so many days from a day of each year; or the Sunday of a number in a season
+abbrev pub SaysFeast : List ℕ → Feast → Type 0
+SaysFeast field (Day anchors.Easter days) = IsFewDays days × (field ≡ codes "easter " ++ signed_decimal days)
+SaysFeast field (Day (anchors.Fixed month day) days) =
+    (1 ≤ month) × (month ≤ 12) × (1 ≤ day) × (day ≤ 31) × IsFewDays days
+    × (field ≡ codes "feast " ++ (decimal month ++ 45 ∷ day_name day days))
+SaysFeast field (Sunday season number) =
+    (1 ≤ number) × (number ≤ 53) × (field ≡ codes "sunday " ++ (season_name season ++ 32 ∷ decimal number))
+
+-- the field says this of a name in dates
+abbrev pub SaysMeaning : List ℕ → Meaning → Type 0
+SaysMeaning field meaning.Nothing = field ≡ []
+SaysMeaning field (meaning.Month month) = IsWordAndNumber (codes "month") 1 13 field month
+SaysMeaning field (meaning.Number number) = IsNumberIn 0 999_999_999 field number
+SaysMeaning field (meaning.Mark mark) = field ≡ mark_name mark
+SaysMeaning field (meaning.Weekday weekday) = field ≡ weekday_name weekday
+SaysMeaning field (meaning.DecadeDay day) = IsWordAndNumber (codes "decade") 1 10 field day
+SaysMeaning field (meaning.Relation relation) = field ≡ relation_name relation
+SaysMeaning field (meaning.Feast feast) = SaysFeast field feast
+SaysMeaning field (meaning.Sundays season) = field ≡ codes "sundays " ++ season_name season
+
+-- the field says this of a name
+abbrev pub Says : List ℕ → Means → Type 0
+Says field (means.InDates meaning) = SaysMeaning field meaning
+Says field (means.Calendar calendar) = IsNamed field (calendar_name calendar)
+Says field means.Open = field ≡ codes "?"

@@ -1,0 +1,91 @@
+//! What lists say of names. The texts are those in which the feasts of the church year are written down.
+
+use church_year::{Anchor, Feast, Season};
+use day_numbers::Weekday;
+use register_sheets::{Means, NameList, NameListFault};
+use std::alloc::Global;
+use std::test::Fail;
+use written_dates::{Meaning, Relation};
+
+/// A text, and what it says of a name.
+const SAID: [(&str, Meaning); 17] = [
+    ("weekday 0", Meaning::Weekday(Weekday::Sunday)),
+    ("weekday 6", Meaning::Weekday(Weekday::Saturday)),
+    ("decade 1", Meaning::DecadeDay(1)),
+    ("decade 10", Meaning::DecadeDay(10)),
+    ("after", Meaning::Relation(Relation::After)),
+    ("octave", Meaning::Relation(Relation::Octave)),
+    ("sundays lent", Meaning::Sundays(Season::Lent)),
+    ("sundays advent", Meaning::Sundays(Season::Advent)),
+    ("easter 0", Meaning::Feast(Feast::Day(Anchor::Easter, 0))),
+    (
+        "easter -63",
+        Meaning::Feast(Feast::Day(Anchor::Easter, -63)),
+    ),
+    ("easter 60", Meaning::Feast(Feast::Day(Anchor::Easter, 60))),
+    (
+        "feast 9-29",
+        Meaning::Feast(Feast::Day(Anchor::Fixed(9, 29), 0)),
+    ),
+    (
+        "feast 12-6",
+        Meaning::Feast(Feast::Day(Anchor::Fixed(12, 6), 0)),
+    ),
+    (
+        "feast 3-1 -5",
+        Meaning::Feast(Feast::Day(Anchor::Fixed(3, 1), -5)),
+    ),
+    (
+        "sunday advent 3",
+        Meaning::Feast(Feast::Sunday(Season::Advent, 3)),
+    ),
+    ("month 13", Meaning::Month(13)),
+    ("31", Meaning::Number(31)),
+];
+
+/// Texts that say nothing.
+const NOT_SAID: [&str; 14] = [
+    "weekday 7",
+    "weekday",
+    "decade 0",
+    "decade 11",
+    "easter",
+    "easter 00",
+    "easter -0",
+    "easter +1",
+    "feast 9-29 0",
+    "feast 13-1",
+    "feast 9-32",
+    "feast 09-29",
+    "sunday advent 0",
+    "sundays advent 1",
+];
+
+/// The list of one name that means this.
+fn list_of(alloc: Global, means: &str) -> Result<Result<NameList, NameListFault>, Fail> {
+    let text = format!(in alloc; "name,means,in\nx,{means},\n")?;
+    Ok(NameList::read(alloc, text.as_bytes()))
+}
+
+#[test]
+fn meanings_are_said(rt: HostRuntime) -> Result<(), Fail> {
+    for (text, meaning) in SAID {
+        let list = list_of(rt.alloc(), text)?;
+        assert!(rt;
+            list.is_ok_and(|list| list
+                .lines
+                .first()
+                .is_some_and(|line| line.means == Means::InDates(meaning)))
+        );
+    }
+    Ok(())
+}
+
+#[test]
+fn other_texts_say_nothing(rt: HostRuntime) -> Result<(), Fail> {
+    for text in NOT_SAID {
+        let list = list_of(rt.alloc(), text)?;
+        assert!(rt; list.is_err_and(|fault| fault == NameListFault::Means(1)));
+    }
+    Ok(())
+}

@@ -110,7 +110,10 @@ class Chromium:
         return self.http("POST", "/goog/cdp/execute", {"cmd": command, "params": words})
 
     def width(self, width):
-        self.cdp("Emulation.setDeviceMetricsOverride", width=width, height=1400, deviceScaleFactor=1, mobile=False)
+        self.size(width, 1400)
+
+    def size(self, width, height):
+        self.cdp("Emulation.setDeviceMetricsOverride", width=width, height=height, deviceScaleFactor=1, mobile=False)
 
     def dark(self, is_dark):
         value = "dark" if is_dark else "light"
@@ -210,7 +213,13 @@ class Firefox:
         return self.ask("TakeScreenshot", {"full": whole, "hash": False})["value"]
 
     def width(self, width):
-        self.ask("SetWindowRect", {"width": width, "height": 1400})
+        self.size(width, 1400)
+
+    def size(self, width, height):
+        """The size of what is shown, without what the window has round it."""
+        self.ask("SetWindowRect", {"width": width, "height": height})
+        shown = self.run("return [innerWidth, innerHeight]")
+        self.ask("SetWindowRect", {"width": 2 * width - shown[0], "height": 2 * height - shown[1]})
 
     def end(self):
         try:

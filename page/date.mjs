@@ -13,7 +13,7 @@ const TOO_LONG = 2;
  */
 
 /** @returns {DateState} */
-export const initial = () => ({ choice: { calendar: 'julian', text: '' }, asked: 0, result: null });
+export const initial = () => ({ choice: { calendar: 'gregorian', text: '' }, asked: 0, result: null });
 
 /**
  * A calendar or a text is chosen.
@@ -47,9 +47,9 @@ export function replied(state, key, reply) {
   return { ...state, result: { choice: state.choice, reply } };
 }
 
-function cellsOf(heading, row) {
+function cellsOf(heading, row, isLeap) {
   return heading.flatMap((name, i) => (NO_TARGETS.includes(name) ? []
-    : [[WORDS.calendars[name] || name, row[i], WORDS.inWords(name, row[i])]]));
+    : [[WORDS.calendars[name] || name, row[i], WORDS.inWords(name, row[i], isLeap)]]));
 }
 
 /** What is shown: a line, what kind of line it is, and the cells, each with its name and its date in words. */
@@ -58,7 +58,7 @@ export function shown(state) {
   if (!hasResult(state)) return { line: '', kind: 'empty', cells: [] };
   const { answer, fault, why } = state.result.reply;
   if (fault) return { line: WORDS.fault(why), kind: 'wrong', cells: [] };
-  const { ending, heading, row, written } = answer;
+  const { ending, heading, row, written, isLeap, unknown = [] } = answer;
   // The date as it was read, where that is not how it was typed.
   const read = written === state.choice.text.trim() ? '' : written;
   if (ending !== 0) {
@@ -67,8 +67,9 @@ export function shown(state) {
   const of = (name) => row[heading.indexOf(name)];
   const refusal = Number(of('refusal'));
   if (refusal) {
-    const reason = refusal === TOO_LONG ? WORDS.isTooLong : WORDS.refusals[refusal - 1];
+    const why = unknown.length ? WORDS.unknownInDate(unknown) : WORDS.refusals[refusal - 1];
+    const reason = refusal === TOO_LONG ? WORDS.isTooLong : why;
     return { line: WORDS.isNoDay(reason, read), kind: 'wrong', cells: [] };
   }
-  return { line: WORDS.isDay(of('weekday'), of('rd'), read), kind: 'day', cells: cellsOf(heading, row) };
+  return { line: WORDS.isDay(of('weekday'), of('rd'), read), kind: 'day', cells: cellsOf(heading, row, isLeap) };
 }

@@ -76,15 +76,22 @@ export function wordsIn(id) {
   };
 }
 
-// A row that something leads to has an id.
-function bodyRow({ fields, reason, span, id = '' }) {
+// A row that something leads to has an id. A reason stands in place of its last fields, or in a line of its own below, at the
+// left wherever the table is moved to.
+function bodyRow({ fields, reason, span, id = '', isBelow = false }) {
   const line = element('tr', '', id ? { id, tabIndex: -1 } : {});
   for (const field of fields) line.append(textElement('td', field, { title: field }));
-  if (reason) {
-    line.className = 'refused';
-    line.append(element('td', reason, { className: 'reason', colSpan: span }));
+  if (!reason) return [line];
+  line.className = 'refused';
+  const cell = element('td', isBelow ? '' : reason, { className: 'reason', colSpan: span });
+  if (!isBelow) {
+    line.append(cell);
+    return [line];
   }
-  return line;
+  cell.append(element('div', reason));
+  const below = element('tr', '', { className: 'refused below' });
+  below.append(cell);
+  return [line, below];
 }
 
 /** A table in a box of its own, which can be moved sideways. Its name is its caption, behind the title of its owner. */
@@ -97,7 +104,7 @@ export function tableBox({ caption, heading, rows }, title = '') {
   table.append(element('caption', caption));
   const head = table.appendChild(element('thead')).appendChild(element('tr'));
   for (const name of heading) head.append(textElement('th', name, { scope: 'col', title: name }));
-  table.appendChild(element('tbody')).append(...rows.map(bodyRow));
+  table.appendChild(element('tbody')).append(...rows.flatMap(bodyRow));
   return box;
 }
 
@@ -212,13 +219,6 @@ export function onCheck(name, choose) {
   }
 }
 
-// Files, as a field has them.
-function listOf(files) {
-  const data = new DataTransfer();
-  for (const file of files) data.items.add(file);
-  return data.files;
-}
-
 // The names of folders among what is dropped, and the files.
 function droppedOf({ items }) {
   const dropped = [...items].filter(({ kind }) => kind === 'file');
@@ -231,14 +231,17 @@ function droppedOf({ items }) {
 }
 
 /**
- * Files are chosen in a field, or dropped anywhere. The same file can be chosen again. Folders among what is dropped are left
- * out, and told by their names.
+ * Files are chosen in a field, or dropped anywhere. The field stays empty, so that the same file can be chosen again. Folders
+ * among what is dropped are left out, and told by their names.
  */
 export function takeFiles(input, choose) {
   const box = input.closest('.drop');
   input.value = '';
-  input.addEventListener('click', () => { input.value = ''; });
-  input.addEventListener('change', () => choose([...input.files], []));
+  input.addEventListener('change', () => {
+    const files = [...input.files];
+    input.value = '';
+    if (files.length) choose(files, []);
+  });
   // A field that was drawn anew takes nothing any more.
   const listen = (name, take) => document.addEventListener(name, (event) => { if (input.isConnected) take(event); });
   listen('dragover', (event) => {
@@ -250,7 +253,6 @@ export function takeFiles(input, choose) {
     event.preventDefault();
     box.classList.remove('over');
     const { folders, files } = droppedOf(event.dataTransfer);
-    input.files = listOf(files);
     if (folders.length || files.length) choose(files, folders);
   });
 }

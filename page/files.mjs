@@ -7,6 +7,10 @@ export class NoReading extends Error {}
 /** The file has more or fewer bytes than it said when it was chosen, or others when it is read again. */
 export class ChangedFile extends Error {}
 
+/** Whether a file that is given again is as it was. */
+export const isSameFile = (one, other) =>
+  one === other || (one.name === other.name && one.size === other.size && one.lastModified === other.lastModified);
+
 /**
  * Gives the pieces of a file to `take`, in order, each with its place. They have to be as many bytes as the file says.
  * @param {Blob} file

@@ -1,14 +1,14 @@
 // What spreadsheets take for a formula when they open a table.
 
 const BEGINS = /^[=+\-@]/, HAS_MORE = /[\p{L}\d]/u;
-const NUMBER = /^[+-][\d.,]+$/, DATE = /^-\d+-W?\d+-[KNI]?\d+B?$/;
+const NUMBER = /^[+-][\d.,]+$/, DATE = /^-\d+-W?\d+-[KNI]?\d+B?$/, RECORD = /^@[^@\s]+@$/;
 
 /**
- * Whether a field is like a formula: it begins with `=`, `+`, `-` or `@`, has a letter or a digit, and is no number and
- * no date that registers have.
+ * Whether a field is like a formula: it begins with `=`, `+`, `-` or `@`, has a letter or a digit, and is no number, no date
+ * that registers have, and no number of a record of a family tree, as `@I1@`.
  */
 export const isFormula = (field) =>
-  BEGINS.test(field) && HAS_MORE.test(field) && !NUMBER.test(field) && !DATE.test(field);
+  BEGINS.test(field) && HAS_MORE.test(field) && !NUMBER.test(field) && !DATE.test(field) && !RECORD.test(field);
 
 const markedBytes = (letters) => {
   const marks = new Uint8Array(256);

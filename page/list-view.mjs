@@ -1,13 +1,13 @@
 // Draws registers as a list: each with its state, and its table or what can be done.
 
-import { clear, downloadLink, element, setText, textOf, withFocus } from './elements.mjs';
+import { clear, downloadLink, element, setText, textElement, textOf, withFocus } from './elements.mjs';
 import { WORDS } from './language.mjs';
 
 const HEADS = ['name', 'form', 'rows', 'refused', 'state', 'table'];
 
-function newTable(count) {
+function newTable(caption) {
   const table = element('table', '', { className: 'list' });
-  table.append(element('caption', WORDS.listCaption(count)));
+  table.append(element('caption', caption));
   const head = table.appendChild(element('thead')).appendChild(element('tr'));
   for (const name of HEADS) {
     head.append(element('th', WORDS.listHeads[name], { scope: 'col', className: `of-${name}` }));
@@ -30,6 +30,13 @@ function againButtons({ number, name }, { repeated }) {
 }
 
 const canRepeat = ({ kind }) => kind === 'broken' || kind === 'stopped';
+
+// A file that was given, and is no register: why stands where others have their state.
+function leftRow({ name, why }) {
+  const line = element('tr', '', { className: 'left' });
+  line.append(textElement('th', name, { scope: 'row' }), element('td', why, { className: 'state', colSpan: HEADS.length - 1 }));
+  return line;
+}
 
 function saveLink(link, number, { saved }) {
   const made = downloadLink(link, true, () => saved(number), () => {});
@@ -82,21 +89,22 @@ function newRow(number, steps) {
 }
 
 /**
- * A list of so many registers in a box; the answer draws the reports of their rows, in this order. `steps` are told what
- * is to be done with the register of a number.
+ * A list of the registers of these numbers in a box, and of what was given and is none; the answer draws the reports of their
+ * rows, in this order. `steps` are told what is to be done with the register of a number.
  */
-export function registersTable(box, count, steps) {
+export function registersTable(box, numbers, left, steps) {
   const region = box.appendChild(element('div', '', { className: 'rows scroll', tabIndex: 0 }));
+  const caption = WORDS.listCaption(numbers.length, numbers.length + left.length);
   region.setAttribute('role', 'region');
-  region.setAttribute('aria-label', textOf(WORDS.listCaption(count)));
-  const body = region.appendChild(newTable(count)).appendChild(element('tbody'));
-  const rows = [...Array(count).keys()].map((number) => newRow(number, steps));
+  region.setAttribute('aria-label', textOf(caption));
+  const body = region.appendChild(newTable(caption)).appendChild(element('tbody'));
+  const rows = new Map(numbers.map((number) => [number, newRow(number, steps)])), others = left.map(leftRow);
   let order = '';
   return (reports, opened) => {
-    for (const report of reports) rows[report.number].draw(report, report.number === opened);
+    for (const report of reports) rows.get(report.number).draw(report, report.number === opened);
     const now = reports.map(({ number }) => number).join();
     if (now === order) return;
     order = now;
-    withFocus(body, () => body.append(...reports.map(({ number }) => rows[number].line)));
+    withFocus(body, () => body.append(...others, ...reports.map(({ number }) => rows.get(number).line)));
   };
 }

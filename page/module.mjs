@@ -20,7 +20,7 @@ const MOST_DATES = 8;
 export const REASONS = ['noCalendar', 'character', 'minus', 'otherWeekday', 'noDay', 'noYear', 'noSuchYear', 'noDate'];
 
 // How many dates were stopped by names, left empty for a short year, and stay for each reason.
-function unreadOf([stopped, short, ...counts]) {
+function unreadOf(/** @type {number[]} */ [stopped, short, ...counts]) {
   return { stopped, short, reasons: Object.fromEntries(REASONS.map((reason, i) => [reason, counts[i]])) };
 }
 

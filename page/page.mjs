@@ -31,7 +31,7 @@ function open(language) {
   putWords();
   for (const button of byId('languages').children) button.setAttribute('aria-pressed', String(button.lang === language));
   views.date = dateView(stepOf('date'));
-  views.door = doorView(stepOf('door'));
+  views.door = doorView(stepOf('door'), { anew: () => page.startAnew(), answer: (isYes) => page.answer(isYes) });
   views.registers = registersView(stepOf('registers'), now);
   views.sheet = sheetView(stepOf('sheet'));
   page.settle();
@@ -43,6 +43,9 @@ byId('languages').append(...NAMES_OF_LANGUAGES.map(({ language, name }) => {
   return button;
 }));
 open(likelyLanguage(navigator.languages));
+
+// The link to what is proved unfolds it.
+document.querySelector('nav a[href="#proved-part"]').addEventListener('click', () => { byId('proved-fold').open = true; });
 
 // The seconds of what runs go on.
 setInterval(() => draw(page.state), 1000);

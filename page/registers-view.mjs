@@ -8,10 +8,10 @@ import { WORDS } from './language.mjs';
 import { registersTable } from './list-view.mjs';
 import { pictureBox } from './picture-view.mjs';
 import {
-  archiveSaved, archiveWanted, chosen, hasTable, isRunning, opened, pictureWanted, repeated, saved, shownRun, started,
-  stopped,
+  archiveSaved, archiveWanted, chosen, countGiven, hasTable, isRunning, opened, pictureWanted, repeated, saved, shownRun,
+  started, stopped,
 } from './registers.mjs';
-import { archiveReport, registerPicture, registerReport, registersList, registersStatus } from './reports.mjs';
+import { archiveReport, leftRows, registerPicture, registerReport, registersList, registersStatus } from './reports.mjs';
 
 // An article in a box, in which the answer draws a register, if there is something else to be drawn; none for null.
 function articleOf(box, id, step, now) {
@@ -58,31 +58,36 @@ function archiveOf(box, step) {
 }
 
 /** A list of registers in a box, with an archive of their tables and the one that is opened; the answer draws a run. */
-function listOfRun(box, run, step, now) {
-  const drawTable = registersTable(box, run.jobs.length, stepsOf(step, now));
+function listOfRun(box, run, left, step, now) {
+  const drawTable = registersTable(box, run.jobs.map(({ number }) => number), leftRows(left), stepsOf(step, now));
   const drawArchive = archiveOf(box.appendChild(element('p', '', { className: 'buttons' })), step);
   const openedBox = box.appendChild(element('div', '', { id: 'register-opened' }));
   const drawOpened = articleOf(openedBox, 'register-result', step, now);
-  return (it) => {
-    drawTable(registersList(it, now()), it.opened);
-    drawArchive(archiveReport(it));
-    drawOpened(it.opened === null ? null : it.jobs[it.opened]);
+  return (it, state) => {
+    const opened = it.jobs.length === 1 ? it.jobs[0].number : it.opened;
+    drawTable(registersList(it, now()), opened);
+    drawArchive(archiveReport(it, countGiven(state)));
+    drawOpened(it.jobs.find(({ number }) => number === opened) || null);
   };
 }
 
-/** One register alone is an article, and several are a list; the answer draws a run, or nothing for null. */
+/**
+ * One register alone is an article, and several, or one beside others that are none, are a list; the answer draws what is
+ * shown of a state.
+ */
 function resultsView(box, step, now) {
-  let drawnRun = 0, drawRun = null;
-  return (run) => {
-    const number = run === null ? 0 : run.number;
-    if (number !== drawnRun) {
+  let drawn = '', drawRun = null;
+  return (state) => {
+    const run = shownRun(state), { left } = state.choice;
+    const wanted = run === null ? '' : JSON.stringify([run.number, run.jobs.map(({ number }) => number),
+      left.map(({ number, as }) => [number, as])]);
+    if (wanted !== drawn) {
       clear(box);
-      drawnRun = number;
-      const drawOne = articleOf(box, 'register-result', step, now);
-      drawRun = run === null || run.jobs.length > 1 ? null : (it) => drawOne(it.jobs[0]);
-      if (run !== null && run.jobs.length > 1) drawRun = listOfRun(box, run, step, now);
+      drawn = wanted;
+      const isOne = run !== null && run.jobs.length + left.length === 1, drawOne = articleOf(box, 'register-result', step, now);
+      drawRun = isOne ? (it) => drawOne(it.jobs[0]) : run && listOfRun(box, run, left, step, now);
     }
-    if (run !== null) drawRun(run);
+    if (run !== null) drawRun(run, state);
   };
 }
 
@@ -94,7 +99,7 @@ function rested(draw, now) {
   let at = -Infinity, before = '';
   return (state) => {
     const { run, choice, notice } = state, jobs = run === null ? [] : run.jobs;
-    const byHand = JSON.stringify([run && run.number, run && run.opened, choice.files.length, notice,
+    const byHand = JSON.stringify([run && run.number, run && run.opened, choice.files.length, choice.columns, notice,
       jobs.filter(({ isSaved }) => isSaved).length, jobs.map(({ tries }) => tries)]);
     if (jobs.length > 1 && isRunning(state) && byHand === before && now() - at < REST) return;
     before = byHand;
@@ -136,7 +141,7 @@ export function registersView(step, now) {
     drawColumns(choice.columns);
     drawRunning('register', isRunning(state));
     drawProgress(run);
-    drawResults(run);
+    drawResults(state);
     byId('register-saved').hidden = run === null || !run.jobs.some(hasTable);
     drawStatus(registersStatus(state, now()));
   }, now);

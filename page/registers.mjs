@@ -1,6 +1,7 @@
 // Registers: which files are chosen, what runs, and what came of it. Each step takes the state and gives the next.
 
 import { DEFAULT_TARGETS } from './calendars.mjs';
+import { isSameFile } from './files.mjs';
 import { WORDS } from './language.mjs';
 
 // A file that is larger is not read.
@@ -11,15 +12,16 @@ const BYTES_AT_ONCE = 2 ** 24;
 const SMALL = 2 ** 20, SHARE = 64;
 
 /**
- * A job is a register, by its number among those that were chosen; `slot` is its place among those that run, and `tries`
- * says how often it was converted before. `picture` holds what a picture of its entries shows, once it was wanted; for a
- * register alone that is found before, and `ready` has it. `told` is its text where that is known before its table. Of a run,
- * `opened` is the number of the register whose details are shown, and `archive` holds the archive of all whole tables,
- * once it was wanted.
- * @typedef {{ files: File[], columns: string[] }} RegistersChoice
- * @typedef {{ number: number, file: File, tries: number, slot: number, status: 'waits' | 'runs' | 'ended' | 'stopped',
+ * What is chosen are registers, and what was given beside them and is none: `left`, as the door has it. A job is a register,
+ * by a number of its own; one that was given after a conversion is `new`. `slot` is its place among those that run, and
+ * `tries` says how often it was converted before. `picture` holds what a picture of its entries shows, once it was wanted;
+ * for a register alone that is found before, and `ready` has it. `told` is its text where that is known before its table. Of
+ * a run, `aside` has the jobs of files that are taken for something else now, `opened` is the number of the register whose
+ * details are shown, and `archive` holds the archive of all whole tables, once it was wanted.
+ * @typedef {{ files: File[], left: any[], columns: string[] }} RegistersChoice
+ * @typedef {{ number: number, file: File, tries: number, slot: number, status: 'new' | 'waits' | 'runs' | 'ended' | 'stopped',
  *   begun: number, reply: any, told: any, isSaved: boolean, picture: { reply: any } | null, ready: any }} Job
- * @typedef {{ number: number, choice: RegistersChoice, begun: number, jobs: Job[], opened: number | null,
+ * @typedef {{ number: number, columns: string[], begun: number, jobs: Job[], aside: Job[], opened: number | null,
  *   archive: { reply: any } | null }} Run
  * @typedef {{ choice: RegistersChoice, atOnce: number, isEarly: boolean, runs: number, run: Run | null,
  *   notice: string }} RegistersState
@@ -37,24 +39,55 @@ export const isEarlyBy = (processors) => processors > 1;
  * @returns {RegistersState}
  */
 export function initial(processors) {
-  const choice = { files: [], columns: [...DEFAULT_TARGETS] }, atOnce = Math.max(1, Math.min(4, processors - 1));
+  const choice = { files: [], left: [], columns: [...DEFAULT_TARGETS] }, atOnce = Math.max(1, Math.min(4, processors - 1));
   return { choice, atOnce, isEarly: isEarlyBy(processors), runs: 0, run: null, notice: '' };
 }
 
-/** The run that is shown: none whose choices are others than those of now. */
-export const shownRun = ({ choice, run }) => (run !== null && run.choice === choice ? run : null);
+/**
+ * Nothing is chosen any more, and nothing was converted.
+ * @param {RegistersState} state
+ * @returns {RegistersState}
+ */
+export const emptied = ({ atOnce, isEarly, runs }) => ({ ...initial(1), atOnce, isEarly, runs });
+
+/** The run that is shown: none with other columns than those of now, and none of which nothing was converted. */
+export function shownRun({ choice, run }) {
+  const hasBegun = run !== null && run.jobs.some(({ status }) => status !== 'new');
+  return hasBegun && run.columns.join() === choice.columns.join() ? run : null;
+}
 
 export const isRunning = ({ run }) => run !== null && run.jobs.some((job) => ['waits', 'runs'].includes(job.status));
 
+// The job that a file has: one that was given again and is as it was has its table still, if no other has its name.
+function jobOf(jobs, file) {
+  const own = jobs.find((it) => it.file === file), called = jobs.filter((it) => it.file.name === file.name);
+  const isAgain = called.length === 1 && isWhole(called[0]) && isSameFile(called[0].file, file);
+  return own || (isAgain ? { ...called[0], file } : null);
+}
+
 /**
- * Files or columns are chosen, which a conversion that goes on forbids.
+ * Columns are chosen; or these files are registers now, and `left` was given beside them. A conversion that goes on forbids
+ * it. What was converted of files that stay stays too.
  * @param {RegistersState} state
  * @returns {RegistersState}
  */
 export function chosen(state, change) {
   if (isRunning(state)) return { ...state, notice: 'stopFirst' };
-  return { ...state, choice: { ...state.choice, ...change }, notice: '' };
+  const next = { ...state, choice: { ...state.choice, ...change }, notice: '' };
+  return 'files' in change && state.run !== null ? { ...next, run: runWith(state.run, next.choice) } : next;
 }
+
+// The run with the jobs of these files: new ones for those that have none.
+function runWith(run, { files, left }) {
+  const all = [...run.jobs, ...run.aside], free = 1 + Math.max(-1, ...all.map(({ number }) => number));
+  const jobs = files.map((file, i) => jobOf(all, file) || newJob(file, free + i));
+  const isNow = (job) => jobs.some(isNumber(job));
+  const aside = all.filter((job) => !isNow(job) && left.some(({ file }) => file === job.file));
+  const opened = jobs.some(({ number }) => number === run.opened) ? run.opened : null;
+  return { ...run, jobs, aside, opened, archive: null };
+}
+
+const isNumber = (one) => (other) => one.number === other.number;
 
 /** @returns {Job} */
 const endedJob = (job, reply) => ({ ...job, status: 'ended', reply, told: null });
@@ -66,6 +99,9 @@ const stoppedJob = (job) => ({ ...job, status: 'stopped', told: null });
 const waitingJob = (file, number, tries = 0) =>
   ({ number, file, tries, slot: 0, status: 'waits', begun: 0, reply: null, told: null, isSaved: false, picture: null,
     ready: null });
+
+/** @returns {Job} */
+const newJob = (file, number) => ({ ...waitingJob(file, number), status: 'new' });
 
 // Starts what can be started now. A file that is too large has its answer at once.
 function scheduled(state, now) {
@@ -82,17 +118,25 @@ function scheduled(state, now) {
   return { ...state, run: { ...state.run, jobs } };
 }
 
+// The conversion goes on with what did not end yet, or else with what broke off.
+function continued(state, run, now) {
+  const isLeft = ({ status }) => status !== 'ended', isNext = run.jobs.some(isLeft) ? isLeft : (job) => !isWhole(job);
+  const jobs = run.jobs.map((job) => (isNext(job) ? waitingJob(job.file, job.number, job.tries + 1) : job));
+  return scheduled({ ...state, run: { ...run, begun: now, jobs, archive: null }, notice: '' }, now);
+}
+
 /**
- * The conversion of what is chosen begins, unless one goes on.
+ * The conversion of what is chosen begins, unless one goes on. What has a whole table is not converted again, unless all have.
  * @param {RegistersState} state
  * @returns {RegistersState}
  */
 export function started(state, now) {
   if (isRunning(state)) return state;
-  const { choice } = state, number = state.runs + 1;
-  if (choice.files.length === 0) return state;
-  const jobs = choice.files.map((file, i) => waitingJob(file, i));
-  const run = { number, choice, begun: now, jobs, opened: null, archive: null };
+  const { choice: { files, columns } } = state, number = state.runs + 1, shown = shownRun(state);
+  if (files.length === 0) return state;
+  if (shown !== null && !shown.jobs.every(isWhole)) return continued(state, shown, now);
+  const jobs = files.map((file, i) => waitingJob(file, i));
+  const run = { number, columns, begun: now, jobs, aside: [], opened: null, archive: null };
   return scheduled({ ...state, runs: number, run, notice: '' }, now);
 }
 
@@ -103,7 +147,7 @@ export function started(state, now) {
  */
 export function stopped(state) {
   if (!isRunning(state)) return state;
-  const jobs = state.run.jobs.map((job) => (job.status === 'ended' ? job : stoppedJob(job)));
+  const jobs = state.run.jobs.map((job) => (['ended', 'new'].includes(job.status) ? job : stoppedJob(job)));
   return { ...state, run: { ...state.run, jobs }, notice: '' };
 }
 
@@ -118,8 +162,8 @@ export function repeated(state, number, file, now) {
   if (!job || ['waits', 'runs'].includes(job.status)) return state;
   const next = waitingJob(file || job.file, number, job.tries + 1);
   const jobs = run.jobs.map((it) => (it === job ? next : it)), begun = isRunning(state) ? run.begun : now;
-  const choice = { ...state.choice, files: jobs.map((it) => it.file) };
-  return scheduled({ ...state, choice, run: { ...run, choice, begun, jobs, archive: null }, notice: '' }, now);
+  const choice = file ? { ...state.choice, files: jobs.map((it) => it.file) } : state.choice;
+  return scheduled({ ...state, choice, run: { ...run, begun, jobs, archive: null }, notice: '' }, now);
 }
 
 /**
@@ -178,25 +222,29 @@ function pictureTasks(run) {
 }
 
 const keyOf = (run, job) => `register ${run.number} ${job.number} ${job.tries}`;
-const archiveKey = (run) => `archive ${run.number} ${run.jobs.map(({ tries }) => tries)}`;
+const archiveKey = (run) => `archive ${run.number} ${run.jobs.map(({ number, tries }) => `${number}-${tries}`)}`;
 
-function archiveTasks(run) {
+/** How many files were given, those that are no registers too; but no choices. */
+export const countGiven = ({ choice: { files, left } }) => files.length + left.length;
+
+function archiveTasks({ run, choice }) {
   if (run.archive === null || run.archive.reply !== null) return [];
   const whole = run.jobs.filter(isWhole), key = archiveKey(run);
   const files = whole.map((job) => ({ name: tableName(job), blob: job.reply.answer.table }));
-  const comment = WORDS.archiveSays(whole.length, run.jobs.length);
+  const comment = WORDS.archiveSays(whole.length, countGiven({ choice }));
   return [{ key, worker: key, name: 'archive', words: { files, comment } }];
 }
 
 /** What workers are to be asked now: one for each register that runs, for the archive, and for each picture. */
-export function tasks({ run, isEarly }) {
+export function tasks(state) {
+  const { run, isEarly } = state;
   if (run === null) return [];
-  const { columns } = run.choice, isTold = isEarly && run.jobs.length === 1;
+  const { columns } = run, isTold = isEarly && run.jobs.length === 1;
   return [...run.jobs.filter(({ status }) => status === 'runs').map((job) => {
     const { file, number, slot, tries } = job, key = keyOf(run, job), share = Math.floor(number / SHARE);
     const worker = file.size > SMALL ? key : `registers ${run.number} ${slot} ${share} ${tries}`;
     return { key, worker, name: 'register', words: { file, columns, isTold } };
-  }), ...archiveTasks(run), ...pictureTasks(run)];
+  }), ...archiveTasks(state), ...pictureTasks(run)];
 }
 
 /**
@@ -207,7 +255,7 @@ export function tasks({ run, isEarly }) {
 export function replied(state, key, reply, now) {
   const { run } = state;
   if (run === null) return state;
-  if (archiveTasks(run).some((it) => it.key === key)) return { ...state, run: { ...run, archive: { reply } } };
+  if (archiveTasks(state).some((it) => it.key === key)) return { ...state, run: { ...run, archive: { reply } } };
   const drawn = run.jobs.find((it) => isToBeDrawn(run, it) && pictureKey(run, it) === key);
   if (drawn) return jobsWith(state, (it) => it === drawn, drawn.picture === null ? { ready: reply } : { picture: { reply } });
   const job = run.jobs.find((it) => it.status === 'runs' && keyOf(run, it) === key);
@@ -236,11 +284,14 @@ export const archiveSaved = (state) => savedIf(state, isWhole);
 /** Whether a register has a table, or a part of one, that can be saved. */
 export const hasTable = ({ reply }) => reply !== null && Boolean(reply.answer && reply.answer.table);
 
-/** Whether a table is shown that was not saved. */
-export function isUnsaved(state) {
-  const run = shownRun(state);
-  return run !== null && run.jobs.some((job) => hasTable(job) && !job.isSaved);
-}
+const isUnsavedJob = (job) => hasTable(job) && !job.isSaved;
+
+/** Whether there is a table that was not saved. */
+export const isUnsaved = ({ run }) => run !== null && [...run.jobs, ...run.aside].some(isUnsavedJob);
+
+/** Whether this file has a whole table that was not saved. */
+export const isUnsavedOf = ({ run }, file) =>
+  run !== null && [...run.jobs, ...run.aside].some((job) => job.file === file && isWhole(job) && isUnsavedJob(job));
 
 /** Whether a register was converted to its end. */
 export const isWhole = ({ reply }) => Boolean(reply && reply.answer && reply.answer.ending === 0);

@@ -2,11 +2,12 @@
 
 import { CALENDARS } from './calendars.mjs';
 import { choicesText, isColumn } from './choices.mjs';
-import { CHOICES, canBeOther } from './door.mjs';
+import { CHOICES, canBeOther, choicesOf, isTextSheet } from './door.mjs';
 import { textOf } from './elements.mjs';
 import * as registers from './registers.mjs';
 import * as sheet from './sheet.mjs';
 import { WORDS } from './language.mjs';
+import { isOfEmpty } from './tables.mjs';
 
 // A field is shown so far, in letters.
 const SHORT = 40;
@@ -20,9 +21,24 @@ export function countRows(counts, advice = WORDS.advice) {
     (count === 0 ? [] : [[WORDS.number(count), WORDS.reason(i + 1, WORDS.refusals[i]), `${advice[i]}.`]]));
 }
 
+// The place of the reason that a date is not written as its calendar wants it.
+const NOT_WRITTEN = 4;
+
+// What to do with the dates of a sheet: where years are short and such dates are left out, that choice.
+function adviceOfDates(state, counts) {
+  const reply = sheet.shownUnknown(state), short = reply && reply.answer ? reply.answer.short : 0;
+  const others = counts.reduce((sum, ofColumn) => sum + ofColumn[NOT_WRITTEN], 0) - short;
+  if (short === 0) return WORDS.sheetAdvice;
+  const advice = WORDS.shortAdvice(short) + (others > 0 ? `. ${WORDS.sheetAdvice[NOT_WRITTEN]}` : '');
+  return WORDS.sheetAdvice.map((it, i) => (i === NOT_WRITTEN ? advice : it));
+}
+
 // The same of dates; of several columns, each with its name before the reason.
-const dateCountRows = (counts, names) => counts.flatMap((ofColumn, k) => countRows(ofColumn, WORDS.sheetAdvice)
-  .map(([count, reason, advice]) => [count, names.length === 1 ? reason : [names[k], ' ', reason], advice]));
+function dateCountRows(state, counts, names) {
+  const advices = adviceOfDates(state, counts), named = (reason, k) => (names.length === 1 ? reason : [names[k], ' ', reason]);
+  return counts.flatMap((ofColumn, k) =>
+    countRows(ofColumn, advices).map(([count, reason, advice]) => [count, named(reason, k), advice]));
+}
 
 // What a spreadsheet may do with fields of a table.
 const cautionOf = ({ formulas: { count, example } }) => (count === 0 ? '' : WORDS.formulas(count, shortened(example)));
@@ -32,9 +48,9 @@ const shortened = (text) => (text.length > SHORT ? `${text.slice(0, SHORT)}…` 
  * Rows to be drawn: the fields of each, and for a refused one the reason, which stands in place of its last `span`.
  * @param {import('./tables.mjs').ShownRows} shown
  */
-function drawnRows({ heading, rows, from, refusal }) {
+function drawnRows({ heading, rows, from, refusal, date }) {
   return rows.map((row) => {
-    const number = Number(row[refusal]), reason = WORDS.refusals[number - 1];
+    const number = isOfEmpty(row[refusal], row[date]) ? 0 : Number(row[refusal]), reason = WORDS.refusals[number - 1];
     if (!reason) return { fields: row, reason: '', span: 0 };
     return { fields: row.slice(0, from), reason: WORDS.reason(number, reason), span: heading.length - from };
   });
@@ -74,15 +90,16 @@ function endingReport(reply, most, encoding) {
 // ---- What is given ----
 
 // What a file is, in words: of a register how it is written, and of a sheet its first line.
-function isWords({ kind, delimiter, sealed, firstLine }) {
+function isWords({ kind, delimiter, sealed, firstLine, isWorkbook }) {
   if (kind === 'register') return WORDS.isRegister(sealed, WORDS.delimiters[delimiter]);
-  if (kind === 'sheet') return WORDS.isSheet(firstLine);
+  if (kind === 'sheet') return isWorkbook ? WORDS.isWorkbook : WORDS.isSheet(firstLine);
   const sentences = { noReading: WORDS.causeAdvice[READ_FAULT], noChoices: WORDS.noChoices };
   return WORDS.isKind[kind] || sentences[kind] || `${WORDS[kind]}.`;
 }
 
 // What a file can be taken for, with what it is where it looks so.
-const asChoices = ({ look }) => CHOICES.map((kind) => [kind, kind === look.kind ? isWords(look) : WORDS.isKind[kind]]);
+const asChoices = ({ look }) =>
+  choicesOf({ look }).map((kind) => [kind, kind === look.kind ? isWords(look) : WORDS.isKind[kind]]);
 
 // What cannot be taken stands first, and registers last: they may be many.
 const ranks = (it) => (it.look.kind === 'register' ? 2 : Number(canBeOther(it) || it.look.kind === 'choices'));
@@ -92,14 +109,18 @@ export function doorRows({ entries, open }) {
   const sheets = entries.filter(({ as }) => ['sheet', 'tree'].includes(as));
   return [...entries].sort((one, other) => ranks(one) - ranks(other)).map((it) => ({
     number: it.number, name: WORDS.chosen(it.file.name, WORDS.bytes(it.file.size)), is: isWords(it.look), as: it.as,
-    choices: canBeOther(it) ? asChoices(it) : [], canOpen: sheets.length > 1 && sheets.includes(it), isOpen: it.number === open,
+    choices: asChoices(it), canOpen: sheets.length > 1 && sheets.includes(it), isOpen: it.number === open,
   }));
+}
+
+/** What is asked before something unsaved goes, and the two answers; or null. */
+export function doorQuestion(question) {
+  return question === null ? null : WORDS.questions[question.what](question.names);
 }
 
 /** How many sheets there are beside registers: they may be registers too, without their headers. */
 export function sheetsBeside({ entries }) {
-  const of = (kind) => entries.filter(({ as }) => as === kind).length;
-  return of('register') === 0 ? 0 : of('sheet');
+  return entries.some(({ as }) => as === 'register') ? entries.filter(isTextSheet).length : 0;
 }
 
 // What the only file is taken for, or why it cannot be taken.
@@ -118,9 +139,9 @@ function kindCounts(entries) {
 }
 
 /** The line below: what was given. */
-export function doorStatus({ entries, coming, folders, notice }) {
+export function doorStatus({ entries, coming, folders, notice, question = null }) {
   const told = entries.length === 1 ? oneEntry(entries[0]) : kindCounts(entries);
-  const words = notice ? WORDS[notice] || notice : coming !== null ? WORDS.looking : told;
+  const words = notice ? WORDS[notice] || notice : coming !== null && question === null ? WORDS.looking : told;
   return folders.length ? [WORDS.folders(folders), ' ', words] : words;
 }
 
@@ -128,14 +149,15 @@ export function doorStatus({ entries, coming, folders, notice }) {
 
 function jobWords({ status, begun }, now) {
   if (status === 'stopped') return WORDS.stopped;
+  if (status === 'new') return WORDS.notYet;
   return status === 'waits' ? WORDS.waiting : WORDS.running(Math.round((now - begun) / 1000));
 }
 
 function wholeRegister(answer, name) {
-  const { rows, refused, counts, first, table } = answer;
+  const { rows, refused, empty, counts, first, table } = answer;
   const caption = rows === first.rows.length ? WORDS.allRows : WORDS.firstRows(first.rows.length);
   return {
-    kind: 'done', words: WORDS.whole(rows, refused), advice: [], counts: countRows(counts),
+    kind: 'done', words: WORDS.whole(rows, refused, empty), advice: [], counts: countRows(counts),
     tables: [tableReport(caption, first), ...refusedTable(answer)],
     links: [{ words: WORDS.save(name, WORDS.bytes(table.size)), blob: table, name, isTable: true }],
     caution: cautionOf(answer),
@@ -196,7 +218,7 @@ function listRow(job, now) {
     number, name: file.name, form: formWords(job), state: stateWords(job, now), isSaved,
     kind: status === 'ended' ? (isWhole ? 'whole' : 'broken') : status,
     // They are known of a whole table alone.
-    counts: isWhole ? [answer.rows, answer.refused].map(WORDS.number) : ['', ''],
+    counts: isWhole ? [WORDS.number(answer.rows), WORDS.refusedShort(answer.refused, answer.empty)] : ['', ''],
     caution: has && answer.formulas.count ? WORDS.formulasShort(answer.formulas.count) : '',
     link: has ? {
       words: isWhole ? WORDS.saveShort(size) : WORDS.savePartShort(size), blob: answer.table, name, isTable: true,
@@ -260,17 +282,23 @@ export function registerPicture(job) {
     { id: 'register-picture', make: WORDS.makePicture, title: WORDS.pictureOf(name), name: `${name}.svg` });
 }
 
-// Those that broke off stand first, and then those that were stopped.
-const KINDS = ['broken', 'stopped'];
+/** What was given beside registers, and is none, each with the reason. */
+export const leftRows = (left) => left.map(({ file, as, look }) => {
+  const isAsItLooks = as === look.kind || as === 'nothing';
+  return { name: file.name, why: WORDS.leftOut(isAsItLooks ? isWords(look) : WORDS.isKind[as]) };
+});
+
+// Those that broke off stand first, and then those that were stopped, and that are not converted yet.
+const KINDS = ['broken', 'stopped', 'new'];
 const placeOf = ({ kind }) => (KINDS.includes(kind) ? KINDS.indexOf(kind) : KINDS.length);
 
 /** The registers of a run, each in a row. */
 export const registersList = ({ jobs }, now) =>
   jobs.map((job) => listRow(job, now)).sort((one, other) => placeOf(one) - placeOf(other));
 
-/** The archive of all whole tables, as it can be made or saved; or null. */
-export function archiveReport({ jobs, archive }) {
-  const whole = jobs.filter(registers.isWhole).length, all = jobs.length;
+/** The archive of all whole tables, as it can be made or saved, among `all` files that were given; or null. */
+export function archiveReport({ jobs, archive }, all = jobs.length) {
+  const whole = jobs.filter(registers.isWhole).length;
   if (whole === 0 || jobs.some(({ status }) => ['waits', 'runs'].includes(status))) return null;
   if (archive === null) return { place: 'archive', words: WORDS.makeArchive(whole, all), isMade: false };
   if (archive.reply === null) return { place: 'archive', words: WORDS.makingArchive, isMade: false };
@@ -280,11 +308,11 @@ export function archiveReport({ jobs, archive }) {
   return { place: 'archive', words, blob: answer.archive, name: WORDS.archiveName(whole, all), isTable: true };
 }
 
-function endedWords({ jobs }) {
+function endedWords({ jobs }, left) {
   const [first, ...others] = jobs;
-  if (others.length === 0) return WORDS.endedOne(first.file.name, registerReport(first, 0).words);
-  const whole = jobs.filter(registers.isWhole).length;
-  return WORDS.ended(whole, jobs.length - whole);
+  if (others.length + left === 0) return WORDS.endedOne(first.file.name, registerReport(first, 0).words);
+  const whole = jobs.filter(registers.isWhole).length, waits = jobs.filter(({ status }) => status === 'new').length;
+  return WORDS.ended(whole, jobs.length - whole - waits, waits, left);
 }
 
 /** The line below the form. */
@@ -294,7 +322,7 @@ export function registersStatus(state, now) {
   if (run === null) return '';
   const ended = run.jobs.filter(({ status }) => status === 'ended').length;
   if (run.jobs.some(({ status }) => status === 'stopped')) return WORDS.stoppedAfter(ended);
-  if (!registers.isRunning(state)) return endedWords(run);
+  if (!registers.isRunning(state)) return endedWords(run, state.choice.left.length);
   if (run.jobs.length === 1) return '';
   return WORDS.converting(ended, run.jobs.length, Math.round((now - run.begun) / 1000));
 }
@@ -307,10 +335,49 @@ const encodingOf = ({ source }) => WORDS.encodings[source.encoding];
 export function sheetChosen(state) {
   const { source: { file } } = state, { encoding, delimiter, above } = sheet.shownProposed(state);
   const first = sheet.beginning(state), isOfTree = first && first.isOfTree;
-  const separator = isOfTree ? WORDS.aTree : first && first.widest > 1 && WORDS.delimiters[delimiter];
-  const looks = [separator, WORDS.encodings[encoding], above && WORDS.aboveFound(above)].filter(Boolean);
+  const isText = !isOfTree && !(first && first.pages);
+  const separator = isOfTree ? WORDS.aTree : isText && first && first.widest > 1 && WORDS.delimiters[delimiter];
+  const looks = [separator, isText && WORDS.encodings[encoding], above && WORDS.aboveFound(above)].filter(Boolean);
   if (file === null) return '';
   return [WORDS.chosen(file.name, WORDS.bytes(file.size)), '.', looks.length ? ` ${WORDS.looksLike(looks)}` : ''];
+}
+
+// Of these columns of dates, those that have the same calendars stand together.
+function datesInWords({ picks: { dates } }, names, heading) {
+  const calendars = [...new Set(dates.map(({ calendar }) => calendar))];
+  return calendars.map((calendar) => WORDS.datesBy(names.filter((_, k) => dates[k].calendar === calendar),
+    isColumn(calendar) ? WORDS.column(Number(calendar) + 1, heading[Number(calendar)]) : WORDS.calendars[calendar]));
+}
+
+/** How the sheet is read, in one line. */
+export function sheetSummary(state) {
+  const first = sheet.beginning(state), { source, picks, columns } = state;
+  if (source.file === null) return '';
+  if (first === null) return [{ own: source.file.name }];
+  const form = first.pages ? [WORDS.pageNamed(first.pages[first.page])]
+    : [first.widest > 1 && WORDS.delimiters[source.delimiter], encodingOf(state)];
+  const how = first.isOfTree ? [WORDS.aTree] : [...form, source.above > 0 && WORDS.titleLines(source.above)].filter(Boolean);
+  const dates = sheet.missing(state) ? [WORDS.chooseDates.replace(/\.$/, '')]
+    : datesInWords(state, dateNames(state), first.heading);
+  const parts = [...how, ...dates, WORDS.orders[picks.order], WORDS.behindThem(columns)];
+  return [{ own: source.file.name }, ': ', ...parts.flatMap((it, i) => (i === 0 ? [it] : [', ', it]))];
+}
+
+// What an order of numbers reads more, and what decides for it.
+function orderWords(order, { more, decides }) {
+  const words = more ? WORDS.moreByOrder[order](more) : WORDS.onlyByOrder[order];
+  return decides ? [words, WORDS.decides, { own: decides }, '. '] : [words, '. '];
+}
+
+/** Orders of numbers that read more dates than the one that is chosen, or that a date decides for. */
+export function sheetOrders(state) {
+  const reply = sheet.shownOrders(state), names = ['year', 'day', 'month'], chosen = names.indexOf(state.picks.order);
+  if (!reply || !reply.answer || sheet.shownRun(state) !== null) return [];
+  const { orders } = reply.answer, isDecided = orders.some(({ decides }) => decides);
+  const isNeeded = ({ more, decides }) => (isDecided ? decides && (more || !orders[chosen].decides) : more > 0);
+  const isOffered = (it, i) => i !== chosen && isNeeded(it);
+  return names.flatMap((order, i) => (isOffered(orders[i], i)
+    ? [{ order, words: orderWords(order, orders[i]), button: WORDS.takeOrder[order] }] : []));
 }
 
 /** What became of choices that were kept. */
@@ -349,27 +416,41 @@ export function sheetCounts(state) {
   return `${[kept && WORDS.kept(kept), short && WORDS.shortLeft(short)].filter(Boolean).join('; ')}.`;
 }
 
-// The first rows of a sheet that came back. Of several columns of dates, the reasons stand behind all others.
-function joinedTable(caption, { heading, rows, from }, names, width) {
-  if (names.length === 1) return tableReport(caption, { heading, rows, from, refusal: heading.length - 1 });
+// The first rows of a sheet that came back. The reasons of a row stand below it.
+function joinedTable(caption, { heading, rows, from }, names, { dates }) {
+  const width = (heading.length - from) / names.length;
   const whyOf = (row) => names.flatMap((name, k) => {
-    const number = Number(row[from + (k + 1) * width - 1]);
-    return number === 0 ? [] : [[name, ' ', WORDS.reason(number, WORDS.refusals[number - 1])]];
+    const refusal = row[from + (k + 1) * width - 1];
+    const number = isOfEmpty(refusal, row[Number(dates[k].date)]) ? 0 : Number(refusal);
+    const reason = number && WORDS.reason(number, WORDS.refusals[number - 1]);
+    return number === 0 ? [] : [names.length === 1 ? reason : [name, ' ', reason]];
   });
   const drawn = rows.map((row) => {
-    const why = whyOf(row).flatMap((it, i) => (i === 0 ? [it] : ['; ', it]));
-    return why.length ? { fields: row, reason: why, span: 1 } : { fields: [...row, ''], reason: '', span: 0 };
+    const reason = whyOf(row).flatMap((it, i) => (i === 0 ? [it] : ['; ', it]));
+    return { fields: row, reason: reason.length ? reason : '', span: row.length, isBelow: true };
   });
-  return { caption, heading: [...heading, WORDS.why], rows: drawn };
+  return { caption, heading, rows: drawn };
 }
 
-/** How the registers begin that would be made, and the sheet that would come back. */
-export function previewTables(state) {
+const previewAnswer = (state) => {
   const reply = sheet.shownPreview(state);
-  if (!reply || !reply.answer || reply.answer.ending !== 0) return [];
-  const { registers, first } = reply.answer, names = dateNames(state);
-  const made = registers.map((register, k) => plainTable(WORDS.registerRows(names[k], register.rows.length), register));
-  return [...made, joinedTable(WORDS.sheetBack(first.rows.length), first, names, state.columns.length + 1)];
+  return reply && reply.answer && reply.answer.ending === 0 ? reply.answer : null;
+};
+
+/** How the registers begin that would be made. */
+export function madeTables(state) {
+  const answer = previewAnswer(state);
+  if (answer === null) return [];
+  const names = dateNames(state);
+  return answer.registers.map((register, k) => plainTable(WORDS.registerRows(names[k], register.rows.length), register));
+}
+
+/** How the sheet begins that would come back. */
+export function previewTable(state) {
+  const answer = previewAnswer(state);
+  if (answer === null) return [];
+  const { first } = answer, names = dateNames(state);
+  return [joinedTable(WORDS.sheetBack(first.rows.length), first, names, state.picks)];
 }
 
 // The first dates that were refused.
@@ -435,13 +516,14 @@ export function sheetReport(state) {
   if (run === null || run.status !== 'ended') return null;
   const title = run.source.file.name, { answer } = run.reply;
   if (!answer || answer.ending !== 0) return { title, ...brokenSheet(run.reply, encodingOf(state)) };
-  const { rows, refused, counts } = answer, names = dateNames(state), { first, table } = sortedAnswer(run) || answer;
+  const { rows, refused, empty, blank, counts } = answer, names = dateNames(state);
+  const { first, table } = sortedAnswer(run) || answer;
   const stem = stemOf(title), name = `${stem}${WORDS.sheetSuffix}`;
-  const ofEach = names.map((it, k) => [it, refused[k]]);
-  const words = names.length === 1 ? WORDS.whole(rows, refused[0]) : WORDS.wholeSheet(rows, ofEach);
+  const ofEach = names.map((it, k) => [it, refused[k], empty[k]]), said = rows - blank;
+  const words = names.length === 1 ? WORDS.whole(said, refused[0], empty[0]) : WORDS.wholeSheet(said, ofEach);
   return {
-    title, number: 0, kind: 'done', words, advice: [], counts: dateCountRows(counts, names), countsOf: 'dates',
-    tables: [joinedTable(WORDS.sheetJoined(first.rows.length), first, names, run.columns.length + 1),
+    title, number: 0, kind: 'done', words, advice: [], counts: dateCountRows(state, counts, names), countsOf: 'dates',
+    tables: [joinedTable(WORDS.sheetJoined(first.rows.length), first, names, run.picks),
       ...refusedDatesTable(answer, run.picks, names)],
     links: [{ words: WORDS.save(name, WORDS.bytes(table.size)), blob: table, name, isTable: true },
       ...registerLinks(run, names, stem)],
@@ -490,6 +572,7 @@ const isFault = (reply) => reply !== null && (Boolean(reply.fault) || reply.answ
 /** The line below the form. */
 export function sheetStatus(state) {
   const run = sheet.shownRun(state);
+  if (state.notice === 'wrong above') return WORDS.wrongAbove(state.source.above);
   if (state.notice) return WORDS[state.notice];
   if (state.source.file === null) return '';
   if (sheet.isTooLarge(state)) return WORDS.notDone(WORDS.tooLarge(sheet.MOST_BYTES));

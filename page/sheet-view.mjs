@@ -8,12 +8,12 @@ import {
 } from './elements.mjs';
 import { pictureBox } from './picture-view.mjs';
 import {
-  keptChoices, previewTables, sheetChosen, sheetCounts, sheetFit, sheetOrder, sheetPictures, sheetReport, sheetStatus, sheetTable,
-  sheetTitles,
+  keptChoices, madeTables, previewTable, sheetChosen, sheetCounts, sheetFit, sheetOrder, sheetOrders, sheetPictures, sheetReport,
+  sheetStatus, sheetSummary, sheetTable, sheetTitles,
 } from './reports.mjs';
 import {
   beginning, columnsChosen, dateAdded, datePicked, dateRemoved, isRunning, missing, namePicked, picked, pictureWanted,
-  registerWanted, saved, shownPreview, shownRun, shownUnknown, sortWanted, sourceChosen, started, stopped,
+  registerWanted, saved, shownPreview, shownRun, shownUnknown, sortWanted, sourceChosen, started, stopped, wronglyTyped,
 } from './sheet.mjs';
 import { WORDS } from './language.mjs';
 
@@ -85,8 +85,8 @@ function drawDates(first, dates) {
 function meaningOptions(where) {
   if (where === '') return calendarOptions();
   const months = WORDS.months[where] || [], marks = where === 'roman' ? Object.entries(WORDS.marks) : [];
-  return [option(WORDS.passOver, 'nothing'), ...MONTHS.map((n) => option(WORDS.month(n, months[n - 1]), `month ${n}`)),
-    option(WORDS.aNumber, 'number'), ...marks.map(([means, words]) => option(words, means))];
+  return [...MONTHS.map((n) => option(WORDS.month(n, months[n - 1]), `month ${n}`)), option(WORDS.aNumber, 'number'),
+    ...marks.map(([means, words]) => option(words, means)), option(WORDS.passOver, 'nothing')];
 }
 
 function nameRow({ name, where }, i) {
@@ -146,8 +146,14 @@ function takeSource(step) {
   byId('sheet-encoding').addEventListener('change', ({ target }) => step(sourceChosen, { encoding: target.value }));
   onCheck('sheet-delimiter', (value) => step(sourceChosen, { delimiter: Number(value) }));
   byId('sheet-above').addEventListener('change', ({ target }) => {
-    if (target.validity.valid && target.value !== '') step(sourceChosen, { above: Number(target.value) });
+    const isNumberOfLines = /^\s*\d{1,3}\s*$/.test(target.value);
+    const { source: { above } } =
+      isNumberOfLines ? step(sourceChosen, { above: Number(target.value) }) : step(wronglyTyped, 'above');
+    // What is typed wrongly does not stay beside what was read with another number.
+    target.value = above === null ? '' : String(above);
   });
+  byId('sheet-page').addEventListener('change', ({ target }) => step(sourceChosen, { page: Number(target.value) }));
+  byId('sheet-file-dates').addEventListener('change', ({ target }) => step(sourceChosen, { hasFileDates: target.checked }));
 }
 
 function takeRules(step) {
@@ -165,14 +171,17 @@ function takeForm(step) {
   byId('sheet-form').addEventListener('submit', (event) => {
     event.preventDefault();
     const state = step(started), first = missing(state);
-    if (state.notice === 'chooseDates') byId(`sheet-${first.which}-${first.place}`).focus();
+    if (state.notice !== 'chooseDates') return;
+    byId('sheet-fold').open = true;
+    byId(`sheet-${first.which}-${first.place}`).focus();
   });
   byId('sheet-stop').addEventListener('click', () => step(stopped));
 }
 
 // ---- What is drawn of the state ----
 
-function drawSource({ encoding, delimiter, above }) {
+function drawSource({ encoding, delimiter, above, hasFileDates }) {
+  byId('sheet-file-dates').checked = hasFileDates;
   if (encoding !== null) byId('sheet-encoding').value = encoding;
   if (delimiter !== null) check('sheet-delimiter', delimiter);
   byId('sheet-above').value = above === null ? '' : String(above);
@@ -181,7 +190,16 @@ function drawSource({ encoding, delimiter, above }) {
 function drawBeginning(state) {
   const first = beginning(state), table = sheetTable(state);
   byId('sheet-rows').replaceChildren(...(table === null ? [] : [tableBox(table)]));
-  byId('sheet-choices').hidden = first === null;
+  byId('sheet-choices').hidden = byId('sheet-end').hidden = byId('sheet-asks').hidden = first === null;
+  const { pages = [], page = 0 } = first || {};
+  byId('sheet-text-choices').hidden = first !== null && first.isOfTree;
+  for (const id of ['sheet-encoding-field', 'sheet-delimiters']) byId(id).hidden = pages.length > 0;
+  byId('sheet-page-field').hidden = pages.length < 2;
+  byId('sheet-page').replaceChildren(...pages.map((name, i) => option({ own: name }, String(i))));
+  byId('sheet-page').value = String(page);
+  byId('sheet-tree-choices').hidden = first === null || !first.isOfTree;
+  // What is missing is to be seen.
+  if (state.begins !== null && (first === null || missing(state))) byId('sheet-fold').open = true;
   if (first !== null) {
     byId('sheet-id').replaceChildren(option(WORDS.rowNumber, '-1'), ...columnOptions(first.heading));
   }
@@ -204,10 +222,30 @@ function namesView() {
     const all = JSON.stringify(listed.map(({ name, where }) => [name, where]));
     if (all === drawn) return drawMeanings(listed, names);
     drawn = all;
-    return withFocus(byId('sheet-choices'), () => {
+    return withFocus(byId('sheet-asks'), () => {
       drawListed(listed);
       drawMeanings(listed, names);
     });
+  };
+}
+
+// Other orders of numbers that read more, each with a button; the answer draws them, anew only where they are others.
+function ordersView(step) {
+  const box = byId('sheet-orders');
+  let drawn = '';
+  return (orders) => {
+    const now = JSON.stringify(orders);
+    if (now === drawn) return;
+    drawn = now;
+    const had = box.contains(document.activeElement);
+    box.replaceChildren(...orders.map(({ order, words, button }) => {
+      const line = element('p', words, { className: 'order' });
+      const own = { type: 'button', className: 'second small', id: `sheet-order-${order}` };
+      const take = line.appendChild(element('button', button, own));
+      take.addEventListener('click', () => step(picked, { order }));
+      return line;
+    }));
+    if (had) byId('sheet-start').focus();
   };
 }
 
@@ -215,7 +253,7 @@ function namesView() {
 function choicesView(step) {
   const drawColumns = whenChanged(columnTicks(byId('sheet-columns'), BESIDE, WORDS.noneBehind,
     (columns) => step(columnsChosen, columns)));
-  const drawNames = namesView(), drawCounts = wordsIn('sheet-counts');
+  const drawNames = namesView(), drawCounts = wordsIn('sheet-counts'), drawOrders = ordersView(step);
   let drawn = { begins: undefined, count: 0, more: undefined, preview: undefined };
   return (state) => {
     const { picks, columns, listed } = state, first = beginning(state), unknown = shownUnknown(state);
@@ -227,9 +265,13 @@ function choicesView(step) {
     drawNames(listed, picks.names);
     if (more !== drawn.more) setText(byId('sheet-more'), more ? WORDS.tooManyNames(more) : '').hidden = !more;
     drawCounts(sheetCounts(state));
+    drawOrders(sheetOrders(state));
     if (preview !== drawn.preview) {
-      byId('sheet-register').replaceChildren(...previewTables(state).map((table) => tableBox(table)));
+      byId('sheet-made').replaceChildren(...madeTables(state).map((table) => tableBox(table)));
+      byId('sheet-register').replaceChildren(...previewTable(state).map((table) => tableBox(table)));
     }
+    // A result has the same table.
+    byId('sheet-register').hidden = shownRun(state) !== null && shownRun(state).status === 'ended';
     drawn = { begins: first, count, more, preview };
     drawColumns(columns);
   };
@@ -269,6 +311,19 @@ function resultView(step) {
   };
 }
 
+// Moves the page so that what was given stands above and the way to convert it is in sight, once for each file.
+function scrolledTo() {
+  let seen = null;
+  return (state) => {
+    const { source: { file }, begins } = state;
+    const isKnown = begins !== null && (shownPreview(state) !== null || missing(state));
+    if (file === null || file === seen || !isKnown) return;
+    seen = file;
+    if (byId('sheet-fold').open || byId('sheet-start').getBoundingClientRect().bottom <= innerHeight) return;
+    byId('files-part').scrollIntoView({ block: 'start' });
+  };
+}
+
 /** The answer draws the state. */
 export function sheetView(step) {
   takeSource(step);
@@ -281,9 +336,10 @@ export function sheetView(step) {
     const [name, text] = keptChoices(now);
     saveBlob(new Blob([text], { type: 'application/json' }), name);
   });
-  const [drawStatus, drawChosen, drawFit, drawTitles] =
-    ['said', 'chosen', 'fit', 'titles'].map((name) => wordsIn(`sheet-${name}`));
+  const [drawStatus, drawChosen, drawFit, drawTitles, drawSummary] =
+    ['said', 'chosen', 'fit', 'titles', 'summary'].map((name) => wordsIn(`sheet-${name}`));
   const drawOfSource = whenChanged(drawSource), drawChoices = choicesView(step), drawResult = resultView(step);
+  const scroll = scrolledTo();
   return (state) => {
     now = state;
     drawPart('sheet', state.source.file !== null || state.kept !== null);
@@ -291,10 +347,13 @@ export function sheetView(step) {
     drawChosen(sheetChosen(state));
     drawFit(sheetFit(state));
     drawTitles(sheetTitles(state));
+    drawSummary(sheetSummary(state));
+    byId('sheet-fold').hidden = state.source.file === null;
     drawChoices(state);
     drawResult(state);
     drawRunning('sheet', isRunning(state));
     if (!isRunning(state)) byId('sheet-add').disabled = state.picks.dates.length >= MOST_DATES;
     drawStatus(sheetStatus(state));
+    scroll(state);
   };
 }

@@ -1,7 +1,8 @@
 // A sheet: which file is chosen and how it is to be read, what its columns are, what was found in it, and what came of
 // its conversion. Each step takes the state and gives the next.
 
-import { MOST_DATES, fitted, isColumn, namesText, noPicks, numbersOf } from './choices.mjs';
+import { MOST_DATES, choicesOf, choicesText, fitted, isColumn, namesText, noPicks, numbersOf } from './choices.mjs';
+import { isSameFile } from './files.mjs';
 import { likelyPicks } from './heads.mjs';
 import { WORDS } from './language.mjs';
 import { isEarlyBy } from './registers.mjs';
@@ -16,18 +17,20 @@ export const MOST_BYTES = 2 ** 28;
  * read, and `isFilled` once they were filled in; `fit` says what of them did not fit. `listed` has the names that are not
  * known, and those that have a meaning of the user's own; a count is null while it is not known. A result of `picks`,
  * `columns` or `source` holds what it came from. `gathered` has what a picture shows of the first columns of dates, whose days
- * take long to find: at the same time as the conversion where the state `isEarly`, once its text is `told`.
+ * take long to find: at the same time as the conversion where the state `isEarly`, once its text is `told`. `given` is the
+ * number of the sheet among what was given and what it is taken for, and `held` has what was chosen for others by theirs,
+ * and what came of it: it is there again when one comes back to them. Readings are numbered through all sheets.
  * @typedef {import('./choices.mjs').Picks} Picks
  * @typedef {{ encoding: string | null, delimiter: number | null, above: number | null }} Proposed
- * @typedef {{ file: File | null, isTree: boolean | null } & Proposed} Source
+ * @typedef {{ file: File | null, isTree: boolean | null, hasFileDates: boolean, page: number | null } & Proposed} Source
  * @typedef {{ source: Source, picks: Picks, columns: string[], status: 'runs' | 'ended' | 'stopped', key: string,
  *   reply: any, told: any, isSaved: boolean, gathered: any[], sorted: { place: number, reply: any } | null,
  *   registers: Record<number, { reply: any }>, pictures: Record<number, { reply: any }> }} Run
  * @typedef {{ name: string, where: string, count: number | null }} Listed
  * @typedef {{ source: Source, proposed: Proposed, kept: { file: File, choices: any, isFilled: boolean } | null,
  *   fit: { absent: string[], other: string[] } | null, reading: number, begins: any, picks: Picks, columns: string[],
- *   unknown: any, listed: Listed[], preview: any, run: Run | null, runs: number, worker: number, notice: string,
- *   isEarly: boolean }} SheetState
+ *   unknown: any, orders: any, listed: Listed[], preview: any, run: Run | null, runs: number, worker: number, notice: string,
+ *   isEarly: boolean, given: { number: number, as: string } | null, held: Record<string, any>, readings: number }} SheetState
  */
 
 /** @type {Proposed} */
@@ -39,12 +42,21 @@ const NOTHING = { encoding: null, delimiter: null, above: null };
  */
 export function initial(processors) {
   return {
-    source: { file: null, isTree: null, encoding: 'utf-8', delimiter: 44, above: 0 }, proposed: NOTHING, kept: null, fit: null,
-    reading: 0, begins: null, picks: noPicks(), columns: ['weekday', 'gregorian'], unknown: null, listed: [],
+    source: { file: null, isTree: null, hasFileDates: false, page: null, encoding: 'utf-8', delimiter: 44, above: 0 },
+    proposed: NOTHING, kept: null, fit: null,
+    reading: 0, begins: null, picks: noPicks(), columns: ['weekday', 'gregorian'], unknown: null, orders: null, listed: [],
     preview: null, run: null, runs: 0, worker: 0, notice: '',
-    isEarly: isEarlyBy(processors),
+    isEarly: isEarlyBy(processors), given: null, held: {}, readings: 0,
   };
 }
+
+/**
+ * No sheet is chosen any more, and nothing was converted.
+ * @param {SheetState} state
+ * @returns {SheetState}
+ */
+export const emptied = ({ isEarly, runs, readings, worker }) =>
+  ({ ...initial(1), isEarly, runs, readings, reading: readings, worker: worker + 1 });
 
 export const isRunning = ({ run }) => run !== null && run.status === 'runs';
 
@@ -52,7 +64,8 @@ export const isRunning = ({ run }) => run !== null && run.status === 'runs';
 
 // What is chosen of the columns is proposed anew; what holds for the same file stays.
 function readAnew(state, source) {
-  return { ...state, source, reading: state.reading + 1, worker: state.worker + 1, begins: null, fit: null, notice: '' };
+  const reading = state.readings + 1;
+  return { ...state, source, reading, readings: reading, worker: state.worker + 1, begins: null, fit: null, notice: '' };
 }
 
 /**
@@ -63,9 +76,16 @@ function readAnew(state, source) {
  */
 export function sourceChosen(state, change) {
   if (isRunning(state)) return { ...state, notice: 'stopFirst' };
-  const source = { ...state.source, ...change };
+  const source = { ...state.source, ...('page' in change ? NOTHING : {}), ...change };
   return 'above' in change ? { ...state, source, begins: null, fit: null, notice: '' } : readAnew(state, source);
 }
+
+/**
+ * Something is typed that is no choice: what was chosen stays.
+ * @param {SheetState} state
+ * @returns {SheetState}
+ */
+export const wronglyTyped = (state, what) => ({ ...state, notice: `wrong ${what}` });
 
 // What is chosen of the columns is chosen again, for this file.
 function chosenAnew(state, source, kept) {
@@ -73,17 +93,47 @@ function chosenAnew(state, source, kept) {
   return { ...next, proposed: NOTHING, kept };
 }
 
+// What is chosen for the sheet that is there, and what came of it.
+function heldOf(state) {
+  const { source, proposed, kept, fit, reading, begins, picks, columns, unknown, orders, listed, preview, run, given } = state;
+  return { source, proposed, kept, fit, reading, begins, picks, columns, unknown, orders, listed, preview, run, given };
+}
+
+// Choices as they would be kept and read again, for another text of the same sheet. What was proposed alone is no choice.
+function ownChoices(held) {
+  const first = beginning(held);
+  if (first === null) return null;
+  const { source, picks, columns } = held, own = choicesOf(choicesText(source, first.heading, picks, columns));
+  const shown = shownProposed(held), isOwn = (name) => shown[name] === null;
+  return { ...own, encoding: isOwn('encoding') ? own.encoding : null, delimiter: isOwn('delimiter') ? own.delimiter : null };
+}
+
+const keyOf = ({ number, as }) => `${number} ${as}`;
+
+/** What was chosen for each sheet, by what it was taken for, and that of the one that is there. */
+function heldWith({ held, ...state }) {
+  return state.given === null || state.source.file === null ? held : { ...held, [keyOf(state.given)]: heldOf(state) };
+}
+
 /**
- * A sheet or a family tree is chosen, as it is given; or none. What it looks like is proposed anew, unless it comes with it.
- * Choices that wait for a sheet are for it.
+ * A sheet or a family tree is chosen, as it is given; or none. What was chosen for it before is there again, also for another
+ * file in its place. Else what it looks like is proposed anew, unless it comes with it. Choices that wait for a sheet are for
+ * it.
  * @param {SheetState} state
  * @returns {SheetState}
  */
 export function fileChosen(state, given) {
   if (isRunning(state)) return { ...state, notice: 'stopFirst' };
-  const { file, as, proposed } = given || { file: null, as: 'sheet', proposed: null };
-  const source = { file, isTree: as === undefined ? null : as === 'tree', ...(proposed || NOTHING) };
-  return chosenAnew(state, source, state.source.file === null ? state.kept : null);
+  const none = { file: null, as: 'sheet', proposed: null, number: null };
+  const held = heldWith(state), { file, as, proposed, number } = given || none;
+  const own = given && held[keyOf({ number, as })];
+  const next = { ...state, held, given: given && number !== undefined ? { number, as } : null };
+  if (own && isSameFile(own.source.file, file)) return { ...next, ...own, worker: state.worker + 1, notice: '' };
+  const { hasFileDates, page } = own ? own.source : { hasFileDates: false, page: null };
+  const source = { file, isTree: as === undefined ? null : as === 'tree', hasFileDates, page, ...(proposed || NOTHING) };
+  const waits = state.source.file === null ? state.kept : null, choices = own ? ownChoices(own) : null;
+  if (choices === null) return chosenAnew(next, source, waits);
+  return { ...chosenAnew(next, source, { file: own.source.file, choices, isFilled: false }), columns: own.columns };
 }
 
 /**
@@ -94,7 +144,8 @@ export function fileChosen(state, given) {
  */
 export function choicesChosen(state, file) {
   if (isRunning(state)) return { ...state, notice: 'stopFirst' };
-  const { source } = state, own = { file: source.file, isTree: source.isTree, ...NOTHING };
+  const { file: ownFile, isTree, hasFileDates, page } = state.source;
+  const own = { file: ownFile, isTree, hasFileDates, page, ...NOTHING };
   return chosenAnew(state, own, { file, choices: null, isFilled: false });
 }
 
@@ -140,14 +191,28 @@ export function dateRemoved(state, place) {
 
 const isName = (one) => (other) => one.name === other.name && one.where === other.where;
 
+// The names, of which one has a meaning now, or '' for none.
+function namesWith(names, made) {
+  const isIt = isName(made);
+  if (made.means === '') return names.filter((it) => !isIt(it));
+  return names.some(isIt) ? names.map((it) => (isIt(it) ? made : it)) : [...names, made];
+}
+
+// Whether a meaning is the same in each calendar.
+const isOfAll = (means) => means === '' || /^(nothing|number( \d+)?)$/.test(means);
+
 /**
- * A name is given a meaning, or '' leaves it as it is.
+ * A name is given a meaning, or '' leaves it as it is. A sign or a number, which means the same in the dates of each calendar,
+ * has it in all that are listed.
  * @param {SheetState} state
  */
 export function namePicked(state, name, where, means) {
-  const { names } = state.picks, made = { name, where, means }, isIt = isName(made);
-  const others = means === '' ? names.filter((it) => !isIt(it)) : names.map((it) => (isIt(it) ? made : it));
-  return picked(state, { names: means === '' || names.some(isIt) ? others : [...names, made] });
+  const { picks: { names }, listed } = state, meansNow = (it) => (names.find(isName(it)) || { means: '' }).means;
+  const before = meansNow({ name, where });
+  const isAlso = (it) => it.name === name && it.where !== '' && it.where !== where && meansNow(it) === before;
+  const others = where !== '' && isOfAll(means) && isOfAll(before) ? listed.filter(isAlso) : [];
+  const all = [{ name, where }, ...others].reduce((made, it) => namesWith(made, { name, where: it.where, means }), names);
+  return picked(state, { names: all });
 }
 
 /**
@@ -184,6 +249,9 @@ const isOfNow = (state, it) => it !== null && it.begins === state.begins && it.p
 
 /** What is not known in the columns that are chosen, or null. */
 export const shownUnknown = (state) => (isOfNow(state, state.unknown) ? state.unknown.reply : null);
+
+/** What other orders of numbers would read, or null. */
+export const shownOrders = (state) => (isOfNow(state, state.orders) ? state.orders.reply : null);
 
 /** How the registers begin that would be made, and the sheet that would come back, or null. */
 export function shownPreview(state) {
@@ -273,6 +341,7 @@ const choicesKey = ({ reading }) => `sheet choices ${reading}`;
 const readingKey = ({ reading, source }) => `sheet reading ${reading} ${source.above}`;
 const picksKey = (state) => `${readingKey(state)} ${JSON.stringify(state.picks)}`;
 const unknownKey = (state) => `names ${picksKey(state)}`;
+const ordersKey = (state) => `orders ${picksKey(state)}`;
 const previewKey = (state) => `preview ${picksKey(state)} ${state.columns}`;
 
 // The text that is or was converted, once it is known.
@@ -343,8 +412,13 @@ export function tasks(state) {
     wanted.push(task(previewKey(state), 'preview', { ...wordsOf(state), dates: dates.length, columns }));
   }
   if (shownUnknown(state) === null) wanted.push(task(unknownKey(state), 'unknownNames', wordsOf(state)));
+  else if (shownOrders(state) === null && shownRun(state) === null) {
+    wanted.push(task(ordersKey(state), 'orders', ordersWords(state)));
+  }
   return wanted.length ? wanted : gatherTasks(state);
 }
+
+const ordersWords = (state) => ({ ...wordsOf(state), dates: state.picks.dates.map(({ date }) => Number(date)) });
 
 /** The workers that stay: one has read the sheet, and one has the days of what is shown. */
 export function keptWorkers(state) {
@@ -436,6 +510,7 @@ export function replied(state, key, reply) {
   if (kept !== null && kept.choices === null) return key === choicesKey(state) ? choicesReplied(state, reply) : state;
   if (begins === null) return key === readingKey(state) ? readingReplied(state, reply) : state;
   if (key === unknownKey(state)) return unknownReplied(state, reply);
+  if (key === ordersKey(state)) return { ...state, orders: { begins, picks, reply } };
   if (key === previewKey(state)) return { ...state, preview: { begins, picks, columns, reply } };
   return partReplied(state, key, reply);
 }
@@ -447,8 +522,11 @@ export function replied(state, key, reply) {
  */
 export const saved = (state) => ({ ...state, run: { ...state.run, isSaved: true } });
 
-/** Whether a table is shown that was not saved. */
-export function isUnsaved(state) {
-  const run = shownRun(state);
-  return isWhole(run) && !run.isSaved;
-}
+const isUnsavedRun = (held) => isWhole(shownRun(held)) && !shownRun(held).isSaved;
+
+/** Whether there is a table of a sheet that was not saved. */
+export const isUnsaved = (state) => Object.values(heldWith(state)).some(isUnsavedRun) || isUnsavedRun(state);
+
+/** Whether the sheet of this number has a table that was not saved. */
+export const isUnsavedOf = (state, number) =>
+  Object.values(heldWith(state)).some((held) => held.given.number === number && isUnsavedRun(held));

@@ -29,7 +29,7 @@ class SheetTrials:
 
     def wait_for_counts(self):
         wait_for("what is not read",
-            lambda: self.text("#sheet-register") and "looked through" not in self.text("#sheet-counts"))
+            lambda: self.text("#sheet-made") and "looked through" not in self.text("#sheet-counts"))
 
     def sheet(self, file, encoding, delimiter, id, calendar, date, order="year", names=()):
         self.choose_sheet(file)
@@ -49,7 +49,7 @@ class SheetTrials:
         )
         for name, value in names:
             self.name(name, value)
-        wait_for("the register", lambda: self.text("#sheet-register"))
+        wait_for("the register", lambda: self.text("#sheet-made"))
 
     def name(self, name, value):
         """Gives a name, or a word, its meaning."""
@@ -74,7 +74,7 @@ class SheetTrials:
 
     def try_sheets(self):
         self.sheet(f"{ROOT}/page/book.csv", "utf-8", 59, 0, 2, 3, names=[("Swedish", "gregorian")])
-        wait_for("the register with the name", lambda: "KB-4\tgregorian\t1712-02-30" in self.text("#sheet-register"))
+        wait_for("the register with the name", lambda: "KB-4\tgregorian\t1712-02-30" in self.text("#sheet-made"))
         back = self.text("#sheet-register").split("The sheet as it comes back")[1]
         self.check("how the sheet will come back",
             re.compile("KB-1\tShaw, Anna\tJulian\t1699-11-30\tBristol\tThursday\t1699-12-10"), back)
@@ -108,7 +108,7 @@ class SheetTrials:
         self.sheet(
             self.file("german.txt", text.encode("windows-1252")), "windows-1252", 9, -1, "julian", 2, order="day"
         )
-        self.check("one calendar for all", re.compile("3 rows, 1 refused"), self.convert_sheet())
+        self.check("one calendar for all", re.compile("3 rows, none refused, 1 empty"), self.convert_sheet())
         wanted = (
             "\ufeffNr\tName\tDatum\tweekday\tgregorian\trefusal\n"
             '1\t"Müller, ""Hans"""\t4.10.1582\tThursday\t1582-10-14\t\n'
@@ -123,7 +123,7 @@ class SheetTrials:
         self.choose("#sheet-short", "1800")
         self.check("a sheet's table goes with another choice", "", self.text("#sheet-results"))
         self.wait_for_counts()
-        self.check("a century that is added", re.compile("1\tjulian\t1882-1-1"), self.text("#sheet-register"))
+        self.check("a century that is added", re.compile("1\tjulian\t1882-1-1"), self.text("#sheet-made"))
         self.check("they are converted", re.compile("2 rows, none refused"), self.convert_sheet())
         wide = [f"c{i}" for i in range(250)], ["1700-1-1"] + ["5"] * 249
         self.sheet(self.file("wide.csv", "\n".join(map(",".join, wide))), "utf-8", 44, -1, "julian", 0)
@@ -138,7 +138,7 @@ class SheetTrials:
         self.choose_sheet(self.file("cell.csv", "Date,Calendar\n,julian\n1700-1-1,\n1700-1-1,julian\n"))
         self.wait_for_sheet()
         self.wait_for_counts()
-        self.check("empty cells", re.compile("3 rows, 2 refused"), self.convert_sheet())
+        self.check("empty cells", re.compile("3 rows, 1 refused, 1 empty"), self.convert_sheet())
         self.choose_sheet(self.file("wrong.csv", "Id\nMüller\n".encode("windows-1252")))
         self.choose("#sheet-encoding", "utf-8")
         wait_for("the wrong encoding", lambda: "choose another encoding" in self.text("#sheet-said"))
@@ -156,7 +156,7 @@ class SheetTrials:
         self.check("and so are its days", [*church.days()], days)
         self.choose_sheet(self.file("church.txt", b"\xff\xfe" + text.replace("\n", "\r\n").encode("utf-16-le")))
         self.wait_for_sheet()
-        looks = "Looks like tabs, UTF-16 (“Unicode text”), 2 lines above the names."
+        looks = "Proposed: tabs, UTF-16 (“Unicode text”), 2 lines above the names."
         self.check("what a church book looks like", re.compile(re.escape(looks)), self.text("#sheet-chosen"))
         self.check("its titles", re.compile("^Above the names: Kirchenbuch-Auszüge"), self.text("#sheet-titles"))
         self.label_of("sheet-order", "day")
@@ -214,13 +214,13 @@ class SheetTrials:
             self.page.run(focused)))
         self.choose("#sheet-calendar-1", "3")
         self.wait_for_counts()
-        register = self.text("#sheet-register").split("The register that is made of Died")[1]
+        register = self.text("#sheet-made").split("The register that is made of Died")[1]
         self.check("the second has its calendars", re.compile("1\tgregorian\t1701-3-1\n2\tislamic\t1701-3-1"),
             register)
         self.choose("#sheet-calendar-1", "julian")
         self.wait_for_counts()
         said = self.convert_sheet()
-        self.check("refused of each", re.compile("2 rows. Born: 1 refused, Died: none refused."), said)
+        self.check("refused of each", re.compile("2 rows. Born: 1 refused; Died: none refused."), said)
         self.check("the reason by its column", re.compile("Born 6: the calendar has no such date"), said)
         counts = self.text("#sheet-results .counts")
         self.check("dates by the reason", re.compile("Refused dates, by the reason[\\s\\S]*1\tBorn 6: the calendar has no such date\tLook"),
@@ -258,9 +258,9 @@ class SheetTrials:
             self.text("#sheet-counts"))
         options = "return [...document.querySelector(`select[data-name=${arguments[0]}]`).options].map((it) => it.textContent)"
         found = self.page.run(options, "früh")
-        self.check("what a word can mean", ["leave it", "nothing: pass it over", "month 1, January", 16],
+        self.check("what a word can mean", ["leave it", "month 1, January", "month 2, February", 16],
             [*found[:3], len(found)])
-        self.check("and a Roman one", ["a number", "Kalends", "Nones", "Ides"], self.page.run(options, "Kalx")[-4:])
+        self.check("and a Roman one", ["a number", "Kalends", "Nones", "Ides", "nothing: pass it over"], self.page.run(options, "Kalx")[-5:])
         self.page.run("document.querySelector('select[data-name=früh]').focus()")
         self.name("früh", "number")
         focused = "return [document.activeElement.localName, document.activeElement.dataset.name]"
@@ -294,7 +294,7 @@ class SheetTrials:
             self.name(name, value)
         self.click("#sheet-columns [value=hebrew]")
         self.wait_for_counts()
-        self.check("the first sheet", re.compile("1\tjulian\t1706-5-2"), self.text("#sheet-register"))
+        self.check("the first sheet", re.compile("1\tjulian\t1706-5-2"), self.text("#sheet-made"))
         self.click("#sheet-keep")
         [(name, kept)] = self.saved_files(1).items()
         self.check("the name of the choices", "one.choices.json", name)
@@ -306,7 +306,7 @@ class SheetTrials:
         self.check("they are filled in",
             "The choices of one.choices.json are filled in, but for what does not fit: the column “Nr”.",
             self.text("#sheet-fit"))
-        self.check("the next sheet", re.compile("1\tjulian\t1707-5-3"), self.text("#sheet-register"))
+        self.check("the next sheet", re.compile("1\tjulian\t1707-5-3"), self.text("#sheet-made"))
         self.check("its columns", re.compile("weekday\tgregorian\thebrew\trefusal"), self.text("#sheet-register"))
         self.choose_sheet(self.file("none.json", "{}"))
         self.check("choices that are none", re.compile("none.json, 2 bytes: .*is none that this page saved"), self.text("#files-list"))
@@ -323,7 +323,7 @@ class SheetTrials:
         self.give(self.file("a.txt", "Nr;Müller\n1;2\n".encode("windows-1252")))
         wait_for("the sheet", lambda: "1 record of 2 columns" in self.text("#sheet-said"))
         self.check("what is proposed", ["windows-1252", "59"], self.page.run(chosen))
-        wanted = "a.txt, 14 bytes. Looks like semicolons, Western Europe (Windows-1252)."
+        wanted = "a.txt, 14 bytes. Proposed: semicolons, Western Europe (Windows-1252)."
         self.check("what is said of it", wanted, self.text("#sheet-chosen"))
         self.check("how it is read", re.compile("Nr\tMüller\n1\t2"), self.text("#sheet-rows"))
         self.choose("#sheet-encoding", "windows-1250")

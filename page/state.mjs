@@ -3,14 +3,26 @@
 
 import * as date from './date.mjs';
 import * as door from './door.mjs';
+import { isSameFile } from './files.mjs';
 import * as registers from './registers.mjs';
 import * as sheet from './sheet.mjs';
 import { Runner } from './runner.mjs';
 
 const isRunning = (state) => registers.isRunning(state.registers) || sheet.isRunning(state.sheet);
 
-// What came is told when nothing runs.
-const told = (state) => (door.hasArrived(state.door) && !isRunning(state) ? { ...state, door: door.arrived(state.door) } : state);
+// The files of what came that would take the place of a table that was not saved.
+function unsavedNames({ door: given, registers: many, sheet: own }) {
+  const isUnsaved = ({ entry, file }) => !isSameFile(entry.file, file) &&
+    (registers.isUnsavedOf(many, entry.file) || sheet.isUnsavedOf(own, entry.number));
+  return door.replaced(given).filter(isUnsaved).map(({ file }) => file.name);
+}
+
+// What came is told when nothing runs, and where nothing unsaved goes with it.
+function told(state) {
+  if (!door.hasArrived(state.door) || isRunning(state) || state.door.question !== null) return state;
+  const names = unsavedNames(state);
+  return { ...state, door: names.length ? door.asked(state.door, { what: 'replace', names }) : door.arrived(state.door) };
+}
 
 /** What the door has for another part than it had before is chosen there; and what was chosen there, the door has. */
 function passedOn(before, state) {
@@ -20,7 +32,9 @@ function passedOn(before, state) {
     return { ...state, door: door.followed(state.door, files) };
   }
   let { registers: many, sheet: own } = state;
-  if (!isSame(was.registers, is.registers)) many = registers.chosen(many, { files: is.registers });
+  if (!isSame(was.registers, is.registers) || !isSame(was.left, is.left)) {
+    many = registers.chosen(many, { files: is.registers, left: is.left });
+  }
   if (was.sheet !== is.sheet) own = sheet.fileChosen(own, is.sheet);
   if (was.choices !== is.choices && is.choices !== null) own = sheet.choicesChosen(own, is.choices.file);
   return { ...state, registers: many, sheet: own };
@@ -45,6 +59,29 @@ export class Page {
     const { [part]: own } = this.state, isHeld = part === 'door' && isRunning(this.state);
     this.become({ ...this.state, [part]: isHeld ? door.noticed(own, 'stopFirst') : step(own, ...words) });
     return this.state[part];
+  }
+
+  /** Nothing is given any more, and no choice is made: at once, or where something is unsaved, once that is agreed to. */
+  startAnew() {
+    const { door: given } = this.state;
+    if (isRunning(this.state)) this.become({ ...this.state, door: door.noticed(given, 'stopFirst') });
+    else if (this.isUnsaved()) this.become({ ...this.state, door: door.asked(given, { what: 'anew', names: [] }) });
+    else this.empty();
+  }
+
+  /** Answers what the door asks. */
+  answer(isYes) {
+    const { door: given } = this.state, { question } = given;
+    if (question === null) return;
+    if (question.what === 'anew' && isYes) this.empty();
+    else this.become({ ...this.state, door: isYes ? door.arrived(given) : door.refused(given) });
+  }
+
+  empty() {
+    const { door: given, registers: many, sheet: own } = this.state;
+    this.state = { ...this.state, door: { ...door.initial(), asked: given.asked + 1 }, registers: registers.emptied(many),
+      sheet: sheet.emptied(own) };
+    this.settle();
   }
 
   // An answer belongs to the part that waits for its key.

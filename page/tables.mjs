@@ -16,9 +16,15 @@ export function rowsOf(fields, width) {
 
 /**
  * Rows to be shown, under their heading. A row with a number in the column `refusal` was refused, and its fields from
- * the column `from` on are empty up to there.
- * @typedef {{ heading: string[], rows: string[][], from: number, refusal: number }} ShownRows
+ * the column `from` on are empty up to there; but where its `date` is empty, nothing is refused.
+ * @typedef {{ heading: string[], rows: string[][], from: number, refusal: number, date: number }} ShownRows
  */
+
+// Refusals that a record without a date can have: its calendar is not known, or the date is not written as it wants.
+const OF_EMPTY = [4, 5];
+
+/** Whether a refusal is only that there is no date, which is then empty and not refused. */
+export const isOfEmpty = (refusal, date) => date.trim() === '' && OF_EMPTY.includes(Number(refusal));
 
 /** The table of a register. */
 export class Table {
@@ -50,7 +56,8 @@ export class Table {
    */
   firstRows() {
     const { heading } = this;
-    return { heading, rows: this.rows(heading, SHOWN), from: this.column('rd'), refusal: this.column('refusal') };
+    return { heading, rows: this.rows(heading, SHOWN), from: this.column('rd'), refusal: this.column('refusal'),
+      date: this.column('date') };
   }
 
   /**
@@ -61,12 +68,13 @@ export class Table {
   refusedRows() {
     const front = { ...this.text, length: Math.min(this.text.length, LOOKED_AT) };
     const table = new Table(this.module, front, this.delimiter);
-    const refusals = table.rows(['refusal'], EVERY);
+    const refusals = table.rows(['refusal', 'date'], EVERY);
     // The last record may be cut.
     if (front.length < this.text.length) refusals.pop();
-    const numbers = refusals.flatMap(([refusal], i) => (refusal === '' ? [] : [i])).slice(0, REFUSED_SHOWN);
+    const isRefused = ([refusal, date]) => refusal !== '' && !isOfEmpty(refusal, date);
+    const numbers = refusals.flatMap((it, i) => (isRefused(it) ? [i] : [])).slice(0, REFUSED_SHOWN);
     const heading = [...this.heading.slice(0, this.column('rd')), 'refusal'];
-    const last = heading.length - 1, shown = { heading, rows: [], from: last, refusal: last };
+    const last = heading.length - 1, shown = { heading, rows: [], from: last, refusal: last, date: this.column('date') };
     if (numbers.length === 0 || numbers[numbers.length - 1] < SHOWN) return shown;
     const rows = table.rows(heading, numbers[numbers.length - 1] + 1);
     return { ...shown, rows: numbers.map((i) => rows[i]) };

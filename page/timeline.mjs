@@ -69,11 +69,11 @@ const emptyRow = (calendar) => ({ calendar, count: 0, refused: 0, first: NO_DAY,
 
 // A row for each calendar that occurs, by its number, and behind them one for the records without a known calendar: how many
 // entries were converted, and refused, and how many stand in each part of the line.
-function binned({ days, calendars }, /** @type {number[]} */ [from, to]) {
+function binned({ days, calendars, empty }, /** @type {number[]} */ [from, to]) {
   const all = range(NO_CALENDAR + 1).map(emptyRow);
   for (let i = 0; i < days.length; i += 1) {
     const row = all[calendars[i]], day = days[i];
-    if (day === NO_DAY) row.refused += 1;
+    if (day === NO_DAY) row.refused += empty && empty[i] ? 0 : 1;
     else {
       row.count += 1;
       if (day < row.first) row.first = day;
@@ -142,9 +142,9 @@ function drawn(entries, years, fieldsOf) {
 
 /**
  * What a picture shows of a register, whose records have these days and calendars: those that are told one by one are read
- * by the module. The header stands before the first one.
+ * by the module. The header stands before the first one. `empty` says which have no date, and so are not refused.
  * @param {import('./module.mjs').Part} register
- * @param {{ days: Uint32Array, calendars: Uint8Array }} entries
+ * @param {{ days: Uint32Array, calendars: Uint8Array, empty: Uint8Array | null }} entries
  */
 export function timelineOf(module, register, delimiter, entries) {
   const fieldsOf = (places) => {

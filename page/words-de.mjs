@@ -24,7 +24,7 @@ const SHORT_CAUSES = {
 const MORE_OF_CAUSES = {
   4: ', etwa weil ein Datenträger voll ist',
   6: ': nicht `id,calendar,date` (in einem versiegelten Register `id,calendar,date,note`), sondern andere Namen oder ' +
-    'eine andere Folge, mehr Spalten, ein anderes Trennzeichen, UTF-16 oder eine Titelzeile',
+    'eine andere Reihenfolge, mehr Spalten, ein anderes Trennzeichen, UTF-16 oder eine Titelzeile',
   8: ': keine Zeile `END,N` mit dem eigenen Trennzeichen, oder nur eine wie `END,N,,` aus einer Tabellenkalkulation; ' +
     'oder die erste hat eine andere Zahl, als es Einträge sind, oder ist nicht die letzte Zeile',
 };
@@ -32,26 +32,27 @@ const MORE_OF_CAUSES = {
 export const WORDS = {
   language: 'Deutsch',
   languages: 'Sprache',
-  title: 'register: historische Daten von Kalender zu Kalender',
+  title: 'register: historische Datumsangaben von Kalender zu Kalender',
   name: 'register',
-  about: 'Rechnet historische Daten von Kalender zu Kalender um: eines oder ein ganzes Register. Nichts, was Sie ' +
-    'eingeben oder wählen, verlässt diesen Rechner.',
+  about: 'Rechnet historische Datumsangaben von Kalender zu Kalender um: eine einzelne oder ein ganzes Register, also ' +
+    'eine Tabelle mit Kennung, Kalender und Datum in jeder Zeile. Nichts davon verlässt diesen Rechner.',
   noScript: 'Diese Seite braucht JavaScript und WebAssembly, die hier abgeschaltet sind.',
   noModule: 'Die Umrechnung ließ sich in diesem Browser nicht starten:',
   parts: 'Teile dieser Seite',
 
   // ---- What is proved ----
   proved: 'Was bewiesen ist',
-  provedOfRegisters: 'Das Programm in dieser Seite wurde bewiesen, bevor die Seite gemacht wurde. Die Tabelle eines ' +
-    'Registers hat für jeden Eintrag eine Zeile, in ihrer Folge, mit dem Tag, den sein Kalender ergibt, oder mit dem ' +
+  provedShort: 'Die Tabellen sind bewiesen, nicht aber, dass eine Einstellung passt: was genau, steht hier.',
+  provedOfRegisters: 'Das Programm in dieser Seite wurde bewiesen, bevor sie entstand. Die Tabelle eines ' +
+    'Registers hat für jeden Eintrag eine Zeile, in derselben Reihenfolge, mit dem Tag, den sein Kalender ergibt, oder mit dem ' +
     'Grund, warum es keinen gibt; und sie hat genau diese Bytes.',
-  provedOfSheets: 'Auch die Tabelle eines Tabellenblatts ist bewiesen, von Ihrer Wahl und der Namensliste bis zu ihren ' +
-    'Bytes: Jeder Eintrag behält seine Felder, seine Daten werden gelesen, wie die Regeln es sagen, und dahinter ' +
+  provedOfSheets: 'Auch die Tabelle eines Tabellenblatts ist bewiesen, von Ihren Einstellungen und der Namensliste bis zu ' +
+    'ihren Bytes: Jeder Eintrag behält seine Felder, seine Datumsangaben werden nach den Regeln gelesen, und dahinter ' +
     'stehen ihre Tage oder der Grund, warum es keinen gibt.',
-  trusted: 'Nicht bewiesen, sondern vertraut wird dem, was aus dem bewiesenen Programm eines für Browser macht (dem ' +
-    'Übersetzer für ein anderes Ziel, dem Binder und der Umformung), dem Speicher, den es bekommt, dem Browser und ' +
-    'dem Skript dieser Seite, das Dateien liest, anzeigt und speichert.',
-  notProved: 'Niemand kann beweisen, dass die Wahl zu einem Tabellenblatt passt, dass ein Name bedeutet, was die Namensliste ' +
+  trusted: 'Nicht bewiesen ist, worauf sich die Seite verlässt: was aus dem bewiesenen Programm eines für Browser macht (der ' +
+    'Übersetzer für ein anderes Ziel, der Binder und die Umformung), der Speicher, den es bekommt, der Browser und das ' +
+    'Skript dieser Seite, das Dateien liest, anzeigt und speichert.',
+  notProved: 'Niemand kann beweisen, dass die Einstellungen zu einem Tabellenblatt passen, dass ein Name bedeutet, was die Namensliste ' +
     'sagt, oder dass ein Datum richtig abgeschrieben wurde. Sehen Sie sich darum vor dem Umrechnen an, was die Seite ' +
     'zeigt.',
 
@@ -67,8 +68,10 @@ export const WORDS = {
   isDay: (weekday, number, read = '') => `${WORDS.weekdays[weekday]}, Tagesnummer ${number}${WORDS.readAs(read)}`,
   isNoDay: (reason, read = '') => `Kein Tag: ${reason}${WORDS.readAs(read)}.`,
   readAs: (read) => (read === '' ? '' : `; gelesen als \`${read}\``),
-  dateInWords: 'Auch Daten in Worten werden gelesen, und Zahlen mit dem Tag zuerst: `30. November 1699`, ' +
+  dateInWords: 'Auch Datumsangaben in Worten werden gelesen, und Zahlen mit dem Tag zuerst: `30. November 1699`, ' +
     '`30.11.1699`, `15 Ventôse an VI`.',
+  unknownInDate: (words) => (words.length === 1 ? `„${words[0]}“ ist in einem solchen Datum unbekannt`
+    : `in einem solchen Datum unbekannt: ${words.map((it) => `„${it}“`).join(', ')}`),
   isTooLong: `das Datum hat über ${date} Byte`,
   noCell: 'vor seinem ersten Tag',
   calendars: {
@@ -88,10 +91,12 @@ export const WORDS = {
     hebrew: ['Nisan', 'Ijjar', 'Siwan', 'Tammus', 'Aw', 'Elul', 'Tischri', 'Marcheschwan', 'Kislew', 'Tewet', 'Schewat',
       'Adar (im Schaltjahr Adar I)', 'Adar II'],
   },
-  inWords: (calendar, date) => {
+  adar: (isLeap) => (isLeap ? 'Adar I' : 'Adar'),
+  inWords: (calendar, date, isLeap = false) => {
     const [, year, month, day] = /^(\d+)-(\d+)-(\d+)$/.exec(date) || [];
-    const names = WORDS.months[calendar];
-    return names && Number(year) > 0 ? `${Number(day)}. ${names[Number(month) - 1]} ${Number(year)}` : '';
+    const names = WORDS.months[calendar], isAdar = calendar === 'hebrew' && Number(month) === 12;
+    const name = isAdar ? WORDS.adar(isLeap) : names && names[Number(month) - 1];
+    return names && Number(year) > 0 ? `${Number(day)}. ${name} ${Number(year)}` : '';
   },
   forms: {
     gregorian: 'Jahr, Monat, Tag: `1699-11-30`. Das Jahr 0 ist 1 v. Chr.',
@@ -121,55 +126,67 @@ export const WORDS = {
 
   // ---- Files ----
   files: 'Dateien',
-  filesAre: 'Tabellen, als CSV oder Text gespeicherte Arbeitsmappen, Stammbäume (GEDCOM) und eine gespeicherte Auswahl: ' +
-    'die Seite sieht nach, was jede ist.',
-  chooseFiles: 'Dateien',
-  dropFiles: 'Wählen Sie so viele, wie Sie wollen, oder ziehen Sie sie auf diese Seite.',
+  filesAre: 'Tabellen (CSV, .xlsx, .ods), Stammbäume (GEDCOM), Register, Einstellungen: Die Seite sieht nach, was jede ist.',
+  chooseFiles: 'Dateien auswählen',
+  dropFiles: 'Wählen Sie beliebig viele aus, oder ziehen Sie sie auf diese Seite.',
   pasteCells: 'Oder Zellen einer Tabellenkalkulation',
-  pasteCellsIs: 'Kopieren Sie sie mit der Zeile der Namen, und fügen Sie sie hier ein.',
+  pasteCellsIs: 'Kopieren Sie sie mitsamt den Spaltennamen, und fügen Sie sie hier ein.',
   pasted: 'eingefuegt.csv',
   takenFor: (name) => [name, ' gilt als'],
   isRegister: (sealed, between) => `${sealed ? 'ein versiegeltes Register' : 'ein Register'}, zwischen den Feldern ${between}`,
   isSheet: (line) => (line === '' ? 'ein Tabellenblatt' : ['ein Tabellenblatt, das mit „', own(line), '“ beginnt']),
+  isWorkbook: 'eine Arbeitsmappe',
   isKind: { register: 'ein Register', sheet: 'ein Tabellenblatt', tree: 'ein Stammbaum',
-    nothing: 'nichts: sie bleibt weg', choices: 'eine Auswahl für ein Tabellenblatt' },
+    nothing: 'nichts: sie wird ausgelassen', choices: 'Einstellungen für ein Tabellenblatt' },
   countOf: {
     register: (n) => `${WORDS.number(n)} Register`,
     sheet: (n) => (n === 1 ? '1 Tabellenblatt' : `${WORDS.number(n)} Tabellenblätter`),
     tree: (n) => (n === 1 ? '1 Stammbaum' : `${WORDS.number(n)} Stammbäume`),
-    nothing: (n) => `${WORDS.number(n)} weggelassen`,
-    choices: (n) => (n === 1 ? '1 Datei mit einer Auswahl' : `${WORDS.number(n)} Dateien mit einer Auswahl`),
-    others: (n) => (n === 1 ? '1, die nicht genommen werden kann' : `${WORDS.number(n)}, die nicht genommen werden können`),
+    nothing: (n) => `${WORDS.number(n)} ausgelassen`,
+    choices: (n) => (n === 1 ? '1 Datei mit Einstellungen' : `${WORDS.number(n)} Dateien mit Einstellungen`),
+    others: (n) => `${WORDS.number(n)} nicht verwendbar`,
   },
   workAt: 'Daran arbeiten',
-  takeSheets: (n) => (n === 1 ? 'Auch das Tabellenblatt als Register nehmen'
-    : `Auch die ${WORDS.number(n)} Tabellenblätter als Register nehmen`),
-  looking: 'Die Dateien werden angesehen.',
+  takeOff: 'Von der Liste nehmen',
+  startAnew: 'Neu beginnen',
+  questions: {
+    anew: () => ({ asks: 'Es gibt Tabellen, die nicht gespeichert sind. Trotzdem neu beginnen?',
+      yes: 'Verwerfen und neu beginnen', no: 'Damit weiterarbeiten' }),
+    replace: (names) => ({
+      asks: [names.length === 1 ? 'Eine Datei dieses Namens ist schon da, und ihre Tabelle ist nicht gespeichert: '
+        : 'Dateien dieser Namen sind schon da, und ihre Tabellen sind nicht gespeichert: ', own(names.join(', ')), '.'],
+      yes: names.length === 1 ? 'Die neue Datei an ihre Stelle setzen' : 'Die neuen Dateien an ihre Stelle setzen',
+      no: 'Alles lassen, wie es ist' }),
+  },
+  takeSheets: (n) => (n === 1 ? 'Auch das Tabellenblatt als Register behandeln'
+    : `Auch die ${WORDS.number(n)} Tabellenblätter als Register behandeln`),
+  looking: 'Die Dateien werden geprüft.',
 
   // ---- Registers ----
   register: 'Register',
   registerIs: 'Ein Register hat die Kopfzeile `id,calendar,date` und in jedem weiteren Eintrag eine Kennung, den Namen eines ' +
     'Kalenders und ein Datum. Eines mit der Kopfzeile `id,calendar,date,note` ist versiegelt: es endet mit der Zeile `END,N` ' +
     'für seine N Einträge, und eines, das ganze Einträge verlor, bricht ab; nur eines, das in einem Eintrag mit der Kennung ' +
-    '`END` abgeschnitten wurde, kann ganz aussehen.',
+    '`END` abgeschnitten wurde, kann vollständig aussehen.',
   delimiter: 'Zwischen zwei Feldern steht',
   comma: 'ein Komma',
   semicolon: 'ein Strichpunkt',
   tab: 'ein Tabulator',
   delimiters: { 44: 'Kommas', 59: 'Strichpunkte', 9: 'Tabulatoren' },
   columns: 'Spalten der Tabelle',
-  columnsIs: 'Sie kommen in der Folge, in der Sie sie ankreuzen.',
+  columnsIs: 'Sie erscheinen in der Reihenfolge, in der Sie sie ankreuzen.',
   all: 'Alle',
   none: 'Keine',
-  order: (names) => `In dieser Folge: ${names.join(', ')}.`,
+  order: (names) => `In dieser Reihenfolge: ${names.join(', ')}.`,
   noColumns: 'Keine Spalten außer Tagesnummer und Wochentag.',
   convert: 'Umrechnen',
   stop: 'Anhalten',
   tables: 'Tabellen',
-  listCaption: (n) => `${WORDS.number(n)} Register`,
+  listCaption: (n, all) => (n === all ? `${WORDS.number(n)} Register` : `${WORDS.number(n)} Register unter ${WORDS.number(all)} Dateien`),
+  leftOut: (words) => ['Ausgelassen: ', words],
   listHeads: { name: 'Register', form: 'Art', rows: 'Zeilen', refused: 'Abgelehnt', state: 'Stand', table: 'Tabelle' },
   formOf: (between, isSealed) => (isSealed ? `${between}, versiegelt` : between),
-  isWhole: 'ganz',
+  isWhole: 'vollständig',
   beginsWith: (line) => (line === '' ? 'Die erste Zeile ist leer.' : ['Die erste Zeile ist „', own(line), '“.']),
   saveShort: (size) => `Speichern, ${size}`,
   savePartShort: (size) => `Teil speichern, ${size}`,
@@ -179,19 +196,19 @@ export const WORDS = {
   chooseAgain: 'Neu wählen',
   chooseAgainLabel: (name) => ['Neu wählen: ', own(name)],
   makeArchive: (whole, all) => `In ein Archiv packen: ${WORDS.ofAllTables(whole, all)}`,
-  makingArchive: 'Das Archiv wird gemacht',
+  makingArchive: 'Das Archiv wird erstellt',
   saveArchive: (whole, all, size) => `Archiv speichern: ${WORDS.ofAllTables(whole, all)}, ${size}`,
   ofAllTables: (whole, all) => {
-    if (whole === all) return `${WORDS.number(all)} Tabellen, alle ganz`;
-    return whole === 1 ? `die eine ganze von ${WORDS.number(all)}`
-      : `die ${WORDS.number(whole)} ganzen von ${WORDS.number(all)}`;
+    if (whole === all) return `${WORDS.number(all)} Tabellen, alle vollständig`;
+    return whole === 1 ? `die eine vollständige von ${WORDS.number(all)}`
+      : `die ${WORDS.number(whole)} vollständigen von ${WORDS.number(all)}`;
   },
   archiveName: (whole, all) => (whole < all ? `tabellen-${whole}-von-${all}.zip` : `tabellen-alle-${all}.zip`),
-  archiveSays: (whole, all) => (whole === all ? `${all} Tabellen, alle ganz` : `die ${whole} ganzen Tabellen von ${all}`),
+  archiveSays: (whole, all) => (whole === all ? `${all} vollstaendige Tabellen` : `die ${whole} vollstaendigen Tabellen von ${all}`),
   archiveTooLarge: 'die Tabellen sind zu groß für ein Archiv; speichern Sie jede einzeln',
   chosen: (name, size) => [own(name), `, ${size}`],
-  folders: (names) => ['Ein Ordner kann nicht genommen werden: ', own(names.join(', ')), '. Öffnen Sie ihn, und wählen Sie ' +
-    'seine Dateien.'],
+  folders: (names) => ['Ordner werden nicht angenommen: ', own(names.join(', ')), '. Öffnen Sie den Ordner, und wählen Sie ' +
+    'seine Dateien aus.'],
   stopFirst: 'Es wird gerade umgerechnet: Halten Sie das zuerst an.',
   bytes: (n) => {
     const units = [{ unit: 1, name: 'Byte' }, { unit: 1e3, name: 'KB' }, { unit: 1e6, name: 'MB' },
@@ -203,22 +220,28 @@ export const WORDS = {
   progress: 'Fortschritt',
   converting: (done, all, seconds) => `${done} von ${all} umgerechnet, nach ${seconds} s.`,
   waiting: 'Wartet, bis es an der Reihe ist.',
+  notYet: 'Noch nicht umgerechnet.',
   running: (seconds) => `Wird umgerechnet, bisher ${seconds} s.`,
   stopped: 'Angehalten.',
   stoppedAfter: (done) => `Angehalten. ${done === 0 ? 'Nichts wurde umgerechnet.' : `${done} vorher umgerechnet.`}`,
   endedOne: (name, words) => [own(name), ': ', words],
-  ended: (whole, broken) => [whole && `${whole} ganz umgerechnet`, broken && `${broken} abgebrochen`]
-    .filter(Boolean).join(', ') + '.',
+  ended: (whole, broken, waits, left) => {
+    const of = left ? ` von ${whole + broken + waits + left} Dateien` : '';
+    return [(whole || of) && `${whole}${of} vollständig umgerechnet`, broken && `${broken} abgebrochen`,
+      waits && `${waits} noch nicht umgerechnet`, left && `${left} ausgelassen`].filter(Boolean).join(', ') + '.';
+  },
   rows: (n) => (n === 1 ? '1 Zeile' : `${WORDS.number(n)} Zeilen`),
   refused: (n) => (n === 0 ? 'keine abgelehnt' : `${WORDS.number(n)} abgelehnt`),
-  whole: (rows, refused) => `${WORDS.rows(rows)}, ${WORDS.refused(refused)}.`,
+  empty: (n) => (n ? `, ${WORDS.number(n)} leer` : ''),
+  refusedShort: (refused, empty) => WORDS.number(refused) + WORDS.empty(empty),
+  whole: (rows, refused, empty = 0) => `${WORDS.rows(rows)}, ${WORDS.refused(refused)}${WORDS.empty(empty)}.`,
   counts: {
     records: {
       caption: 'Abgelehnte Einträge nach dem Grund', count: 'Einträge', reason: 'Der Eintrag ist abgelehnt, denn',
       advice: 'Was zu tun ist',
     },
     dates: {
-      caption: 'Abgelehnte Daten nach dem Grund', count: 'Daten', reason: 'Das Datum ist abgelehnt, denn',
+      caption: 'Abgelehnte Datumsangaben nach dem Grund', count: 'Anzahl', reason: 'Das Datum ist abgelehnt, denn',
       advice: 'Was zu tun ist',
     },
   },
@@ -237,36 +260,55 @@ export const WORDS = {
   formulas: (n, example) => [n === 1 ? 'Ein Feld ist wie eine Formel: ' : `${WORDS.number(n)} Felder sind wie Formeln, zuerst `,
     '„', own(example), '“. Eine Tabellenkalkulation, die die Tabelle öffnet, kann sie ausrechnen und etwas anderes zeigen: ' +
     'Lassen Sie sie die Spalten als Text übernehmen. Wie eine Formel ist ein Feld, das mit `=`, `+`, `-` oder `@` ' +
-    'beginnt, einen Buchstaben oder eine Ziffer hat und weder eine Zahl noch ein Datum ist, wie es Register haben.'],
+    'beginnt, einen Buchstaben oder eine Ziffer hat und weder eine Zahl noch ein Datum ist, wie es Register haben, noch ' +
+    '`@I1@` aus einem Stammbaum.'],
   formulasShort: (n) => (n === 1 ? 'Ein Feld ist wie eine Formel' : `${WORDS.number(n)} Felder sind wie Formeln`),
   brokeOff: (cause, words) => `Abgebrochen, Ursache ${cause}: ${words}.`,
   hasNothing: 'Es gibt keine Tabelle.',
   notDone: (words) => ['Nicht umgerechnet: ', words, '.'],
-  tooLarge: (most) => `die Datei hat über ${WORDS.bytes(most)}, mehr als die Seite nimmt; teilen Sie sie, oder nehmen Sie das ` +
+  tooLarge: (most) => `die Datei hat über ${WORDS.bytes(most)}, mehr als die Seite annimmt; teilen Sie sie, oder verwenden Sie das ` +
     'Programm `register`',
   noMemory: 'der Speicher reicht nicht; schließen Sie andere Seiten oder Programme und versuchen Sie es noch einmal, ' +
     'oder teilen Sie die Datei',
-  otherColumns: 'die Datei hat andere Spalten als bei der Wahl und ist neu gelesen: Wählen Sie sie noch einmal',
-  workbook: 'die Datei ist kein Text, sondern eine Arbeitsmappe oder gepackt (.xlsx, .ods, .xls, .docx, .zip); ' +
-    'speichern Sie ihre Tabelle als CSV UTF-8, oder kopieren Sie ihre Zellen und fügen Sie sie in „Dateien“ ' +
-    'ein',
+  otherColumns: 'die Datei hat jetzt andere Spalten und wurde neu gelesen: Wählen Sie die Spalten noch einmal aus',
+  workbook: 'die Datei ist kein Text, sondern gepackt, und hat keine Tabelle, die hier gelesen wird (.docx, .zip); ' +
+    'speichern Sie ihre Tabelle als CSV UTF-8, oder kopieren Sie ihre Zellen und fügen Sie sie unter „Dateien“ ein',
+  book: 'die Datei ist eine Arbeitsmappe; geben Sie sie unter „Dateien“ an, dann gilt sie als Tabellenblatt',
+  xlsb: 'die Datei ist eine binäre Arbeitsmappe (.xlsb); speichern Sie sie als .xlsx, .ods oder CSV UTF-8, oder kopieren Sie ' +
+    'ihre Zellen und fügen Sie sie unter „Dateien“ ein',
+  locked: 'die Arbeitsmappe ist mit einem Kennwort geschützt; speichern Sie sie ohne Kennwort, oder kopieren Sie ihre Zellen ' +
+    'und fügen Sie sie unter „Dateien“ ein',
+  cutWorkbook: 'die Arbeitsmappe oder gepackte Datei ist abgeschnitten oder beschädigt; kopieren Sie sie noch einmal, oder ' +
+    'öffnen und speichern Sie sie neu',
+  oldWorkbook: 'die Datei ist eine alte oder geschützte Arbeitsmappe (.xls); speichern Sie sie als .xlsx oder .ods ohne ' +
+    'Kennwort oder als CSV UTF-8, oder kopieren Sie ihre Zellen und fügen Sie sie unter „Dateien“ ein',
+  rtf: 'die Datei ist ein formatierter Text (RTF); kopieren Sie die Tabelle in eine Tabellenkalkulation und speichern Sie ' +
+    'sie als CSV UTF-8, oder kopieren Sie ihre Zellen und fügen Sie sie unter „Dateien“ ein',
+  html: 'die Datei ist eine Webseite (HTML), auch wenn sie .xls heißt; öffnen Sie sie in einer Tabellenkalkulation und ' +
+    'speichern Sie sie als CSV UTF-8, oder kopieren Sie ihre Zellen und fügen Sie sie unter „Dateien“ ein',
+  xml: 'die Datei ist XML (.fods, .xml); speichern Sie ihre Tabelle als .xlsx, .ods oder CSV UTF-8, oder kopieren Sie ihre ' +
+    'Zellen und fügen Sie sie unter „Dateien“ ein',
+  binary: 'die Datei ist kein Text; speichern Sie ihre Tabelle als CSV UTF-8, oder kopieren Sie ihre Zellen und fügen Sie ' +
+    'sie unter „Dateien“ ein',
   database: 'die Datei ist kein Text, sondern eine Datenbank (SQLite); speichern Sie ihre Tabelle als CSV UTF-8, ' +
     'oder kopieren Sie ihre Zellen und fügen Sie sie in „Dateien“ ein',
   pdf: 'die Datei ist kein Text, sondern ein PDF; kopieren Sie ihre Tabelle in eine Tabellenkalkulation und ' +
     'speichern Sie diese als CSV UTF-8, oder kopieren Sie ihre Zellen und fügen Sie sie in „Dateien“ ein',
-  utf16: 'die Datei ist in UTF-16 geschrieben und ein Register in UTF-8; nehmen Sie sie oben als Tabellenblatt, oder ' +
+  utf16: 'die Datei ist in UTF-16 geschrieben und ein Register in UTF-8; behandeln Sie sie oben als Tabellenblatt, oder ' +
     'speichern Sie sie als CSV UTF-8',
-  tree: 'die Datei ist ein Stammbaum (GEDCOM); nehmen Sie sie oben als Stammbaum',
+  tree: 'die Datei ist ein Stammbaum (GEDCOM); wählen Sie das oben bei der Datei',
   ansel: 'der Stammbaum ist in ANSEL geschrieben, was hier nicht gelesen wird; lassen Sie Ihr Programm ihn in UTF-8 ' +
     'speichern',
-  fault: (why) => ['die Seite versagte (', own(why), ')'],
+  ibmpc: 'der Stammbaum ist in IBMPC geschrieben, wo Buchstaben mit Akzenten keine sichere Bedeutung haben; lassen Sie Ihr ' +
+    'Programm ihn in UTF-8 speichern',
+  fault: (why) => ['auf der Seite ist ein Fehler aufgetreten (', own(why), ')'],
 
   // ---- The picture of a table ----
-  makePicture: 'Die Einträge auf einer Zeitlinie zeigen',
-  makingPicture: 'Die Zeitlinie wird gezeichnet',
-  pictureOf: (name) => ['Die Einträge von ', own(name), ' auf einer Zeitlinie'],
-  makePictureOfDates: (column) => ['Die Daten aus ', column, ' auf einer Zeitlinie zeigen'],
-  pictureOfDates: (column, name) => ['Die Daten aus ', column, ' in ', own(name), ' auf einer Zeitlinie'],
+  makePicture: 'Die Einträge auf einer Zeitleiste zeigen',
+  makingPicture: 'Die Zeitleiste wird gezeichnet',
+  pictureOf: (name) => ['Die Einträge von ', own(name), ' auf einer Zeitleiste'],
+  makePictureOfDates: (column) => ['Die Datumsangaben aus ', column, ' auf einer Zeitleiste zeigen'],
+  pictureOfDates: (column, name) => ['Die Datumsangaben aus ', column, ' in ', own(name), ' auf einer Zeitleiste'],
   savePicture: 'Das Bild speichern',
   entries: (n) => (n === 1 ? '1 Eintrag' : `${WORDS.number(n)} Einträge`),
   entriesOf: (name, n, years, refused) => [name, ': ', WORDS.entries(n),
@@ -280,8 +322,8 @@ export const WORDS = {
   pictureHeads: { row: 'Zeile', id: 'Kennung', calendar: 'Kalender', date: 'Datum', year: 'Jahr' },
   yearsAre: 'Jahre sind gregorianisch; das Jahr 0 ist 1 v. Chr. Ein viermal so hoher Balken steht für sechzehnmal so ' +
     'viele Einträge.',
-  gapIs: 'Eine Lücke ist länger als ein Jahr und fünfmal so lang, wie im Mittel zwischen zwei Einträgen liegt; ' +
-    'höchstens fünf sind gezeigt.',
+  gapIs: 'Eine Lücke ist länger als ein Jahr und mehr als fünfmal so lang wie der mittlere Abstand zweier Einträge; ' +
+    'höchstens fünf werden gezeigt.',
   farIs: 'Weit von den anderen liegt ein Eintrag, der von den mittleren vier Fünfteln weiter entfernt ist, als diese ' +
     'lang sind, und als 50 Jahre. Er kann stimmen oder ein Schreibfehler sein.',
 
@@ -291,30 +333,34 @@ export const WORDS = {
     `ein Feld ist zu lang: die Kennung über ${id} Byte, der Kalender über ${calendar}, das Datum über ${date} oder die ` +
       `Bemerkung über ${note}; \`é\` und ein hebräischer Buchstabe haben 2 Byte`,
     'ein Feld ist nicht in UTF-8',
-    'kein Kalender hat diesen Namen',
-    'das Datum ist nicht geschrieben, wie sein Kalender es verlangt',
-    'der Kalender hat kein solches Datum',
+    'kein Kalender heißt so',
+    'das Datum ist nicht so geschrieben, wie sein Kalender es verlangt',
+    'dieses Datum gibt es in seinem Kalender nicht',
     'der Tag liegt außerhalb der gregorianischen Jahre -9999 bis 9999',
   ],
   advice: [
-    'Setzen Sie ein Feld mit einem Komma in Anführungszeichen; oder nehmen Sie die Datei als Tabellenblatt, und wählen Sie ' +
-      'dessen Spalten',
+    'Setzen Sie ein Feld mit einem Komma in Anführungszeichen; oder behandeln Sie die Datei als Tabellenblatt, und wählen ' +
+      'Sie dessen Spalten aus',
     'Geben Sie kurze Kennungen, und lassen Sie Längeres im Tabellenblatt',
-    'Speichern Sie das Register als CSV UTF-8; oder nehmen Sie es als Tabellenblatt, in seiner Kodierung',
+    'Speichern Sie das Register als CSV UTF-8; oder behandeln Sie es als Tabellenblatt, in seiner Kodierung',
     'Schreiben Sie einen der Kalender aus „Ein Datum“; ein Tabellenblatt kann jedem Namen einen Kalender geben',
     'Schreiben Sie Jahr, Monat und Tag, wie `1700-02-29`; in einem Tabellenblatt kann der Tag zuerst stehen',
     'Sehen Sie im Original nach: ein Schreibfehler oder ein Datum eines anderen Kalenders',
     'Sehen Sie im Original nach: ein Schreibfehler im Jahr',
   ],
 
+  // What to do with dates of a sheet whose years are short.
+  shortAdvice: (n) => `${n === 1 ? '1 hat ein Jahr' : `${WORDS.number(n)} haben Jahre`} mit ein oder zwei Ziffern, und „solche ` +
+    'Datumsangaben weglassen“ ist gewählt: Wählen Sie anders bei „Ein- und zweistellige Jahre“',
+
   // What to do with a refused date of a sheet.
   sheetAdvice: [
-    'Sehen Sie den Eintrag an: er hat andere Felder als die übrigen',
+    'Sehen Sie sich den Eintrag an: Er hat andere Felder als die übrigen',
     'Wählen Sie die Nummer des Eintrags als Kennung; kürzen Sie ein Datum oder den Namen eines Kalenders im Tabellenblatt',
     'Wählen Sie eine andere Kodierung',
-    'Wählen Sie oben den Kalender dieses Namens, oder bessern Sie den Namen im Tabellenblatt',
-    'Geben Sie oben seinen Wörtern eine Bedeutung, oder wählen Sie, wie Daten in Zahlen geschrieben sind; oder ' +
-      'bessern Sie es im Tabellenblatt',
+    'Wählen Sie oben den Kalender dieses Namens, oder berichtigen Sie den Namen im Tabellenblatt',
+    'Geben Sie oben seinen Wörtern eine Bedeutung, oder wählen Sie eine andere Reihenfolge der Zahlen; oder ' +
+      'berichtigen Sie es im Tabellenblatt',
     'Sehen Sie im Original nach: ein Schreibfehler oder ein Datum eines anderen Kalenders',
     'Sehen Sie im Original nach: ein Schreibfehler im Jahr',
   ],
@@ -326,9 +372,8 @@ export const WORDS = {
   causeAdvice: {
     1: 'Schließen Sie andere Seiten oder Programme und versuchen Sie es noch einmal, oder teilen Sie das Register.',
     4: 'Die Tabelle braucht mehr Speicher, als es gibt: Wählen Sie weniger Spalten, oder teilen Sie das Register.',
-    5: 'Es wurde seit der Wahl oder beim Lesen geändert, oder verschoben, oder ist ein Ordner: Wählen Sie es noch ' +
-      'einmal.',
-    6: 'Hat es andere Spalten, eine Titelzeile oder eine andere Codierung? Nehmen Sie es oben als Tabellenblatt.',
+    5: 'Es wurde inzwischen geändert oder verschoben, oder ist ein Ordner: Wählen Sie es noch einmal aus.',
+    6: 'Hat es andere Spalten, eine Titelzeile oder eine andere Kodierung? Behandeln Sie es oben als Tabellenblatt.',
     7: 'Teilen Sie es, jeden Teil mit der Kopfzeile.',
     8: 'Vergleichen Sie es mit dem Original: Einträge können fehlen. Fehlen keine, so schreiben Sie das Siegel neu ' +
       'als letzte Zeile.',
@@ -342,18 +387,37 @@ export const WORDS = {
 
   // ---- From a sheet ----
   sheet: 'Ein Tabellenblatt',
-  sheetIs: 'Eine Tabelle, wie Sie sie führen, als CSV oder Text gespeichert oder aus einer Tabellenkalkulation ' +
-    'kopiert. Sagen Sie, welche ihrer Spalten Daten haben, und Sie bekommen sie zurück, mit den gewünschten Spalten ' +
-    'hinter den eigenen. Wie Daten in Worten gelesen werden, ist bewiesen; ob Ihre Wahl passt, sehen Sie daran, was ' +
-    'die Seite vor dem Umrechnen zeigt.',
+  sheetIs: 'Eine Tabelle, wie Sie sie führen. Wählen Sie, in welchen Spalten Datumsangaben stehen, und Sie bekommen sie ' +
+    'zurück, mit den gewünschten Spalten hinter den eigenen. Wie Datumsangaben in Worten gelesen werden, ist bewiesen; ob ' +
+    'die Einstellungen passen, zeigt die Vorschau vor dem Umrechnen.',
   encoding: 'Kodierung',
   encodingIs: 'Sind Buchstaben mit Akzenten unten falsch? Wählen Sie eine andere.',
-  above: 'Zeilen über den Namen',
-  aboveIs: 'Titelzeilen, die bleiben, wie sie sind. Dann kommt die Zeile mit den Namen der Spalten.',
-  titles: (lines) => ['Über den Namen: ', own(lines.join(' / ')), '.'],
-  aboveFound: (n) => (n === 1 ? '1 Zeile über den Namen' : `${WORDS.number(n)} Zeilen über den Namen`),
+  above: 'Zeilen vor den Spaltennamen',
+  aboveIs: 'Titelzeilen; sie bleiben, wie sie sind. Danach kommt die Zeile mit den Spaltennamen.',
+  wrongAbove: (above) =>
+    `Als Zeilen vor den Spaltennamen gilt eine Zahl von 0 bis 999.${above === null ? '' : ` Es bleibt bei ${above}.`}`,
+  titleLines: (n) => (n === 1 ? '1 Titelzeile' : `${n} Titelzeilen`),
+  change: 'ändern',
+  datesBy: (names, calendar) => [...names.flatMap((name, i) => [i === 0 ? '' : i === names.length - 1 ? ' und ' : ', ', name]),
+    ' nach ', calendar],
+  orders: { year: 'Jahr zuerst', day: 'Tag zuerst', month: 'Monat zuerst' },
+  behindThem: (columns) => (columns.length ? `dahinter ${columns.join(', ')}` : 'dahinter nur die Ablehnung'),
+  moreDates: (n) => (n === 1 ? 'ist 1 Datum' : `sind ${WORDS.number(n)} Datumsangaben`),
+  moreByOrder: {
+    year: (n) => `Mit dem Jahr zuerst ${WORDS.moreDates(n)} mehr lesbar`,
+    day: (n) => `Mit dem Tag zuerst ${WORDS.moreDates(n)} mehr lesbar`,
+    month: (n) => `Mit dem Monat zuerst ${WORDS.moreDates(n)} mehr lesbar`,
+  },
+  onlyByOrder: { year: 'Das Jahr steht zuerst', day: 'Der Tag steht zuerst', month: 'Der Monat steht zuerst' },
+  decides: ', wie hier zu sehen ist: ',
+  takeOrder: { year: 'Jahr zuerst', day: 'Tag zuerst', month: 'Monat zuerst' },
+  pageNamed: (name) => ['das Blatt „', own(name), '“'],
+  pageOfWorkbook: 'Blatt der Arbeitsmappe',
+  fileDates: 'Auch Datumsangaben der Datei selbst: aus ihrem Kopf, und wann ihre Einträge geändert wurden',
+  titles: (lines) => ['Vor den Spaltennamen: ', own(lines.join(' / ')), '.'],
+  aboveFound: (n) => (n === 1 ? '1 Zeile vor den Spaltennamen' : `${WORDS.number(n)} Zeilen vor den Spaltennamen`),
   aTree: 'ein Stammbaum',
-  looksLike: (what) => `Sieht aus wie ${what.join(', ')}.`,
+  looksLike: (what) => `Vorgeschlagen: ${what.join(', ')}.`,
   encodings: {
     'utf-8': 'UTF-8',
     'windows-1252': 'Westeuropa (Windows-1252)',
@@ -393,77 +457,76 @@ export const WORDS = {
   },
   notEncoded: (name) => `die Datei ist nicht in ${name} geschrieben: Wählen Sie eine andere Kodierung`,
   sheetRows: (n) => `Das Tabellenblatt, ${WORDS.first(n)}`,
-  sheetHas: (n, width) => `${WORDS.records(n)} mit ${width} ${width === 1 ? 'Spalte' : 'Spalten'} unter den Namen.`,
+  sheetHas: (n, width) => `${WORDS.records(n)} mit ${width} ${width === 1 ? 'Spalte' : 'Spalten'}.`,
   oneColumn: 'Steht ein anderes Zeichen zwischen den Feldern? Wählen Sie es oben.',
   emptySheet: 'es ist leer',
   sheetUnread: 'das Tabellenblatt konnte nicht gelesen werden',
-  noNames: 'für die Namen der Spalten bleibt keine Zeile: Lassen Sie weniger darüber stehen',
+  noNames: 'für die Spaltennamen bleibt keine Zeile: Geben Sie weniger Zeilen davor an',
   onlyFirst: (n) => `Nur die ersten ${n} Spalten können gewählt werden.`,
-  dates: 'Spalten mit Daten',
-  datesIs: 'Jede mit der Spalte, die ihre Kalender hat, oder mit einem Kalender für alle.',
+  dates: 'Datumsspalten',
+  datesIs: 'Jede mit der Spalte, in der ihre Kalender stehen, oder mit einem Kalender für alle Zeilen.',
   dateColumn: (k, all) => (all === 1 ? 'Datum' : `Datum ${k}`),
   calendarColumn: (k, all) => (all === 1 ? 'Kalender' : `Kalender ${k}`),
-  addDate: 'Noch eine Spalte mit Daten',
+  addDate: 'Weitere Datumsspalte',
   removeDate: (k) => `Datum ${k} entfernen`,
   idColumn: 'Kennung',
   idIs: 'Sie steht im Register, mit höchstens 40 Byte.',
   column: (number, name) => (name === '' ? `Spalte ${number}` : own(name)),
-  choose: 'Wählen Sie',
+  choose: 'Bitte wählen',
   rowNumber: 'die Nummer des Eintrags',
-  ofColumn: 'Wie die Spalte sagt',
+  ofColumn: 'Aus einer Spalte',
   ofAll: 'Einer für alle',
-  dayOrder: 'Daten in Zahlen sind geschrieben',
+  dayOrder: 'Reihenfolge in Datumsangaben aus Zahlen',
   yearFirst: 'das Jahr zuerst, wie `1699-11-30` oder `1699/11/30`',
   dayFirst: 'der Tag zuerst, wie `30.11.1699` oder `30/11/1699`',
   monthFirst: 'der Monat zuerst, wie `11/30/1699`',
-  dayOrderIs: 'Ein Monat mit Namen wird in jeder Folge gelesen, `30. November 1699`, `Nov. 30, 1699`, wenn das Jahr mehr als ' +
-    'zwei Ziffern hat. Sonst sagt diese Wahl, welche Zahl das Jahr ist: bei `15 Ventôse an VI` steht der Tag zuerst.',
-  short: 'Jahre mit ein oder zwei Ziffern',
-  shortIs: 'In gregorianischen und julianischen Daten, wie `12.5.82`.',
-  shortRules: { refuse: 'solche Daten weglassen', keep: 'wie geschrieben: 82 ist das Jahr 82' },
+  dayOrderIs: 'Ein Monat mit Namen wird in jeder Reihenfolge gelesen, `30. November 1699`, `Nov. 30, 1699`, wenn das Jahr mehr als ' +
+    'zwei Ziffern hat. Sonst legt diese Einstellung fest, welche Zahl das Jahr ist: bei `15 Ventôse an VI` steht der Tag zuerst.',
+  short: 'Ein- und zweistellige Jahre',
+  shortIs: 'In gregorianischen und julianischen Datumsangaben, wie `12.5.82`.',
+  shortRules: { refuse: 'solche Datumsangaben weglassen', keep: 'wie geschrieben: 82 ist das Jahr 82' },
   shortAdds: (n) => `${n} dazuzählen: 82 ist ${n + 82}`,
-  otherYears: 'Jahre hebräischer und römischer Daten',
+  otherYears: 'Jahre hebräischer und römischer Datumsangaben',
   hebrew: 'Kurze hebräische Jahre',
   hebrewIs: 'Wie `5 Tischri 507`.',
   hebrewRules: {
-    refuse: 'solche Daten weglassen', keep: 'wie geschrieben: 507 ist das Jahr 507', 5000: '5000 dazuzählen: 507 ist 5507',
+    refuse: 'solche Datumsangaben weglassen', keep: 'wie geschrieben: 507 ist das Jahr 507', 5000: '5000 dazuzählen: 507 ist 5507',
   },
   charters: 'Das Jahr eines römischen Datums ist das seines Tages',
   chartersIs: 'Dann ist `XVI. Kal. Ian. 1499` der 17. Dezember 1499. Sonst ist sein Jahr das der Kalenden, Nonen ' +
     'oder Iden, und es liegt in 1498.',
-  unknownNames: 'Namen, die kein Kalender hat',
-  unknownNamesIs: 'Wählen Sie für jeden den Kalender, oder lassen Sie ihn, und seine Einträge werden abgelehnt.',
-  unknownWords: 'Wörter in Daten, die unbekannt sind',
-  unknownWordsIs: 'Sagen Sie, was jedes bedeutet, oder lassen Sie es, und seine Daten bleiben, wie sie geschrieben ' +
-    'sind.',
+  unknownNames: 'Unbekannte Namen von Kalendern',
+  unknownNamesIs: 'Wählen Sie für jeden den Kalender; bleibt er offen, so werden seine Einträge abgelehnt.',
+  unknownWords: 'Unbekannte Wörter in Datumsangaben',
+  unknownWordsIs: 'Geben Sie an, was jedes bedeutet; bleibt es offen, so bleiben seine Datumsangaben, wie sie geschrieben sind.',
   records: (n) => `${WORDS.number(n)} ${n === 1 ? 'Eintrag' : 'Einträge'}`,
-  datesOf: (n) => `${WORDS.number(n)} ${n === 1 ? 'Datum' : 'Daten'}`,
+  datesOf: (n) => `${WORDS.number(n)} ${n === 1 ? 'Datumsangabe' : 'Datumsangaben'}`,
   unknownName: (name, n) => [own(name), n === null ? '' : `, in ${WORDS.datesOf(n)}`],
   unknownWord: (name, where, n) => [WORDS.unknownName(name, n), ` (${WORDS.calendars[where]})`],
   tooManyNames: (n) => `Weitere, in ${WORDS.datesOf(n)}, sind nicht gezeigt: Sind das die richtigen Spalten?`,
-  leave: 'lassen',
+  leave: 'offen lassen',
   passOver: 'nichts: übergehen',
   month: (n, name) => (name ? `Monat ${n}, ${name}` : `Monat ${n}`),
   aNumber: 'eine Zahl',
   numberOf: (name) => ['Die Zahl für ', own(name)],
   marks: { K: 'Kalenden', N: 'Nonen', I: 'Iden' },
-  counting: 'Die Daten werden durchgesehen.',
+  counting: 'Die Datumsangaben werden durchgesehen.',
   kept: (n) => `${WORDS.datesOf(n)} nicht lesbar, ${n === 1 ? 'bleibt' : 'bleiben'} wie geschrieben`,
   shortLeft: (n) => `${WORDS.datesOf(n)} mit kurzem Jahr, ${n === 1 ? 'wird' : 'werden'} weggelassen`,
-  allRead: 'Alle Daten sind lesbar',
+  allRead: 'Alle Datumsangaben sind lesbar',
   behind: 'Spalten hinter denen des Tabellenblatts',
-  behindIs: 'Sie kommen in der Folge, in der Sie sie ankreuzen; dahinter die Ablehnung, die leer ist, wo das Datum ' +
+  behindIs: 'Sie erscheinen in der Reihenfolge, in der Sie sie ankreuzen; dahinter die Ablehnung, die leer ist, wo das Datum ' +
     'umgerechnet wurde.',
   noneBehind: 'Keine Spalten außer der Ablehnung.',
   first: (n) => (n === 1 ? 'erster Eintrag' : `erste ${n} Einträge`),
   registerRows: (name, n) => ['Das Register, das aus ', name, ` wird, ${WORDS.first(n)}`],
-  chooseDates: 'Wählen Sie eine Spalte mit Daten und ihren Kalender.',
-  keepChoices: 'Die Auswahl speichern',
-  choicesSuffix: '.auswahl.json',
-  noChoices: 'Die Datei mit der Auswahl ist keine, die diese Seite gespeichert hat.',
-  choicesWait: 'Die Auswahl ist da. Wählen Sie das Tabellenblatt, für das sie ist.',
-  filledIn: (name) => ['Die Auswahl von ', own(name), ' ist eingetragen.'],
-  notFitting: (name, what) => ['Die Auswahl von ', own(name), ' ist eingetragen, bis auf das, was nicht passt: ',
+  chooseDates: 'Wählen Sie eine Datumsspalte und ihren Kalender.',
+  keepChoices: 'Einstellungen speichern',
+  choicesSuffix: '.einstellungen.json',
+  noChoices: 'Die Datei hat keine Einstellungen, die diese Seite gespeichert hat.',
+  choicesWait: 'Die Einstellungen sind da. Wählen Sie das Tabellenblatt aus, für das sie gelten.',
+  filledIn: (name) => ['Die Einstellungen von ', own(name), ' sind übernommen.'],
+  notFitting: (name, what) => ['Die Einstellungen von ', own(name), ' sind übernommen, außer was nicht passt: ',
     what.flatMap((it, i) => (i === 0 ? [it] : [', ', it])), '.'],
   theColumn: (name) => ['die Spalte „', own(name), '“'],
   theOther: { encoding: 'die Kodierung', delimiter: 'das Zeichen zwischen zwei Feldern' },
@@ -471,29 +534,29 @@ export const WORDS = {
   sheetConverting: 'Das Tabellenblatt wird umgerechnet.',
   sheetSaved: 'Jeder Eintrag steht in seiner Zeile, in UTF-8 mit einer Marke (BOM) davor, wie Tabellenkalkulationen ' +
     'es wollen.',
-  orderOfRecords: 'Folge der Einträge',
+  orderOfRecords: 'Reihenfolge der Einträge',
   asItStands: 'wie im Tabellenblatt',
   byDayOf: (name) => ['nach dem Tag aus ', name],
-  sorting: 'Die Einträge werden geordnet.',
-  sortedBy: (name) => ['Die Einträge stehen nach dem Tag aus ', name, '; die ohne Tag stehen am Ende.'],
+  sorting: 'Die Einträge werden sortiert.',
+  sortedBy: (name) => ['Die Einträge sind nach dem Tag aus ', name, ' sortiert; die ohne Tag stehen am Ende.'],
   sheetJoined: (n) => `Das Tabellenblatt mit seinen Tagen, ${WORDS.first(n)}`,
   sheetBack: (n) => `Das Tabellenblatt, wie es zurückkommt, ${WORDS.first(n)}`,
   why: 'abgelehnt, denn',
   record: 'Eintrag',
   columnName: 'Spalte',
   written: 'Wie geschrieben',
-  splitSheet: 'Teilen Sie es, jeden Teil mit der Zeile der Namen.',
+  splitSheet: 'Teilen Sie es, jeden Teil mit den Spaltennamen.',
   wholeSheet: (rows, refused) => [`${WORDS.rows(rows)}. `,
-    refused.map(([name, n], i) => [i === 0 ? '' : ', ', name, ': ', WORDS.refused(n)]), '.'],
+    refused.map(([name, n, empty], i) => [i === 0 ? '' : '; ', name, ': ', WORDS.refused(n), WORDS.empty(empty)]), '.'],
   refusedDates: (n, all) =>
-    (n < all ? `Die ersten ${n} abgelehnten Daten` : n === 1 ? 'Das abgelehnte Datum' : `Die ${n} abgelehnten Daten`),
-  makeRegister: (name) => ['Das Register machen aus ', name],
-  makingRegister: (name) => ['Das Register aus ', name, ' wird gemacht'],
+    (n < all ? `Die ersten ${n} abgelehnten Datumsangaben` : n === 1 ? 'Das abgelehnte Datum' : `Die ${n} abgelehnten Datumsangaben`),
+  makeRegister: (name) => ['Register erstellen aus ', name],
+  makingRegister: (name) => ['Das Register aus ', name, ' wird erstellt'],
   saveRegister: (name, size) => ['Das Register speichern, ', own(name), `, ${size}`],
   sheetFaults: {
     2: 'ein Name, der eine Bedeutung bekam, kann nicht in einer Namensliste stehen',
-    3: 'diese Wahl passt nicht zusammen',
-    4: 'für die Namen der Spalten bleibt keine Zeile: Lassen Sie weniger darüber stehen',
+    3: 'diese Einstellungen passen nicht zusammen',
+    4: 'für die Spaltennamen bleibt keine Zeile: Geben Sie weniger Zeilen davor an',
   },
   sheetSuffix: '.tage.csv',
   registerSuffix: '.register.csv',

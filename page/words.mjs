@@ -31,14 +31,15 @@ export const WORDS = {
   languages: 'Language',
   title: 'register: historical dates from calendar to calendar',
   name: 'register',
-  about: 'Converts historical dates from calendar to calendar: one, or a whole register. Nothing that you type or ' +
-    'choose leaves this machine.',
+  about: 'Converts historical dates from calendar to calendar: one, or a whole register, which is a table with an id, a ' +
+    'calendar and a date in each line. Nothing of it leaves this machine.',
   noScript: 'This page needs JavaScript and WebAssembly, which are switched off here.',
   noModule: 'The converter could not be started in this browser:',
   parts: 'Parts of this page',
 
   // ---- What is proved ----
   proved: 'What is proved',
+  provedShort: 'The tables are proved, but not that a choice fits: this says what exactly.',
   provedOfRegisters: 'The program in this page was proved before the page was made. The table of a register has a ' +
     'row for each record, in their order, with the day that its calendar gives, or the reason why there is none; and ' +
     'it has these bytes and no others.',
@@ -65,6 +66,8 @@ export const WORDS = {
   readAs: (read) => (read === '' ? '' : `; read as \`${read}\``),
   dateInWords: 'Dates in words are read too, and numbers with the day first: `30. November 1699`, `30.11.1699`, ' +
     '`15 Ventôse an VI`.',
+  unknownInDate: (words) => (words.length === 1 ? `“${words[0]}” is not known in such a date`
+    : `these are not known in such a date: ${words.map((it) => `“${it}”`).join(', ')}`),
   isTooLong: `the date is over ${date} bytes`,
   noCell: 'before its first day',
   calendars: {
@@ -83,11 +86,14 @@ export const WORDS = {
     hebrew: ['Nisan', 'Iyyar', 'Sivan', 'Tammuz', 'Av', 'Elul', 'Tishri', 'Marheshvan', 'Kislev', 'Tevet', 'Shevat',
       'Adar (in a leap year Adar I)', 'Adar II'],
   },
+  // The last months of a Hebrew year with thirteen, or with twelve.
+  adar: (isLeap) => (isLeap ? 'Adar I' : 'Adar'),
   // A date with its month by name; none before year 1, and in calendars whose months have no names here.
-  inWords: (calendar, date) => {
+  inWords: (calendar, date, isLeap = false) => {
     const [, year, month, day] = /^(\d+)-(\d+)-(\d+)$/.exec(date) || [];
-    const names = WORDS.months[calendar];
-    return names && Number(year) > 0 ? `${Number(day)} ${names[Number(month) - 1]} ${Number(year)}` : '';
+    const names = WORDS.months[calendar], isAdar = calendar === 'hebrew' && Number(month) === 12;
+    const name = isAdar ? WORDS.adar(isLeap) : names && names[Number(month) - 1];
+    return names && Number(year) > 0 ? `${Number(day)} ${name} ${Number(year)}` : '';
   },
   forms: {
     gregorian: 'Year, month, day: `1699-11-30`. The year 0 is 1 BC.',
@@ -117,16 +123,16 @@ export const WORDS = {
 
   // ---- Files ----
   files: 'Files',
-  filesAre: 'Tables, workbooks saved as CSV or text, family trees (GEDCOM) and choices that you saved: the page looks ' +
-    'what each is.',
-  chooseFiles: 'Files',
-  dropFiles: 'Choose as many as you like, or drop them on this page.',
+  filesAre: 'Tables (CSV, .xlsx, .ods), family trees (GEDCOM), registers, saved choices: the page looks what each is.',
+  chooseFiles: 'Choose files',
+  dropFiles: 'As many as you like; or drop them on this page.',
   pasteCells: 'Or cells of a spreadsheet',
-  pasteCellsIs: 'Copy them, with the line that has the names, and paste them here.',
+  pasteCellsIs: 'Copy them with the names of their columns, and paste them here.',
   pasted: 'pasted.csv',
   takenFor: (name) => [name, ' is taken for'],
   isRegister: (sealed, between) => `${sealed ? 'a sealed register' : 'a register'} with ${between}`,
   isSheet: (line) => (line === '' ? 'a sheet' : ['a sheet, which begins with “', own(line), '”']),
+  isWorkbook: 'a workbook',
   isKind: { register: 'a register', sheet: 'a sheet', tree: 'a family tree', nothing: 'nothing: it is left out',
     choices: 'choices for a sheet' },
   countOf: {
@@ -138,6 +144,17 @@ export const WORDS = {
     others: (n) => `${WORDS.number(n)} that cannot be taken`,
   },
   workAt: 'Work at it',
+  takeOff: 'Take it off the list',
+  startAnew: 'Start anew',
+  questions: {
+    anew: () => ({ asks: 'Tables are there that were not saved. Start anew all the same?', yes: 'Throw them away and start anew',
+      no: 'Go on with them' }),
+    replace: (names) => ({
+      asks: [names.length === 1 ? 'A file of this name is there, and its table was not saved: '
+        : 'Files of these names are there, and their tables were not saved: ', own(names.join(', ')), '.'],
+      yes: names.length === 1 ? 'Take the new file in its place' : 'Take the new files in their place',
+      no: 'Leave it as it is' }),
+  },
   takeSheets: (n) => (n === 1 ? 'Take the sheet for a register too' : `Take the ${WORDS.number(n)} sheets for registers too`),
   looking: 'The files are being looked at.',
 
@@ -160,7 +177,9 @@ export const WORDS = {
   convert: 'Convert',
   stop: 'Stop',
   tables: 'Tables',
-  listCaption: (n) => `${WORDS.number(n)} registers`,
+  listCaption: (n, all) => (n === all ? `${WORDS.number(n)} registers`
+    : `${WORDS.number(n)} ${n === 1 ? 'register' : 'registers'} of ${WORDS.number(all)} files`),
+  leftOut: (words) => ['Left out: ', words],
   listHeads: { name: 'Register', form: 'Kind', rows: 'Rows', refused: 'Refused', state: 'State', table: 'Table' },
   formOf: (between, isSealed) => (isSealed ? `${between}, sealed` : between),
   isWhole: 'whole',
@@ -194,15 +213,21 @@ export const WORDS = {
   progress: 'Progress',
   converting: (done, all, seconds) => `${done} of ${all} converted, after ${seconds} s.`,
   waiting: 'Waits for its turn.',
+  notYet: 'Not converted yet.',
   running: (seconds) => `Is being converted, ${seconds} s so far.`,
   stopped: 'Stopped.',
   stoppedAfter: (done) => `Stopped. ${done === 0 ? 'Nothing was converted.' : `${done} converted before.`}`,
   endedOne: (name, words) => [own(name), ': ', words],
-  ended: (whole, broken) => [whole && `${whole} converted to the end`, broken && `${broken} broke off`]
-    .filter(Boolean).join(', ') + '.',
+  ended: (whole, broken, waits, left) => {
+    const of = left ? ` of ${whole + broken + waits + left} files` : '';
+    return [(whole || of) && `${whole}${of} converted to the end`, broken && `${broken} broke off`,
+      waits && `${waits} not converted yet`, left && `${left} left out`].filter(Boolean).join(', ') + '.';
+  },
   rows: (n) => (n === 1 ? '1 row' : `${WORDS.number(n)} rows`),
   refused: (n) => (n === 0 ? 'none refused' : `${WORDS.number(n)} refused`),
-  whole: (rows, refused) => `${WORDS.rows(rows)}, ${WORDS.refused(refused)}.`,
+  empty: (n) => (n ? `, ${WORDS.number(n)} empty` : ''),
+  refusedShort: (refused, empty) => WORDS.number(refused) + WORDS.empty(empty),
+  whole: (rows, refused, empty = 0) => `${WORDS.rows(rows)}, ${WORDS.refused(refused)}${WORDS.empty(empty)}.`,
   counts: {
     records: {
       caption: 'Refused records, by the reason', count: 'Records', reason: 'The record is refused because',
@@ -227,7 +252,7 @@ export const WORDS = {
   formulas: (n, example) => [n === 1 ? 'A field is like a formula: ' : `${WORDS.number(n)} fields are like formulas, first `,
     '“', own(example), '”. A spreadsheet that opens the table may compute them, and show something else: let it take the ' +
     'columns in as text. A field is like a formula that begins with `=`, `+`, `-` or `@`, has a letter or a digit, ' +
-    'and is no number and no date that registers have.'],
+    'and is no number, no date that registers have and no `@I1@` of a family tree.'],
   formulasShort: (n) => (n === 1 ? 'A field is like a formula' : `${WORDS.number(n)} fields are like formulas`),
   brokeOff: (cause, words) => `Broke off, cause ${cause}: ${words}.`,
   hasNothing: 'There is no table.',
@@ -236,8 +261,22 @@ export const WORDS = {
     'program `register`',
   noMemory: 'memory ran out; close other pages or programs and try again, or split the file',
   otherColumns: 'the file has other columns than when it was chosen, so it is read anew: choose them again',
-  workbook: 'the file is no text but a workbook or a packed file (.xlsx, .ods, .xls, .docx, .zip); save its table as ' +
-    'CSV UTF-8, or copy its cells and paste them in “Files”',
+  workbook: 'the file is no text but a packed file without a table that can be read here (.docx, .zip); save its table ' +
+    'as CSV UTF-8, or copy its cells and paste them in “Files”',
+  book: 'the file is a workbook; give it in “Files”, and it is taken for a sheet',
+  xlsb: 'the file is a binary workbook (.xlsb); save it as .xlsx, .ods or CSV UTF-8, or copy its cells and paste them in ' +
+    '“Files”',
+  locked: 'the workbook is locked by a password; save it without one, or copy its cells and paste them in “Files”',
+  cutWorkbook: 'the file is a workbook or a packed file that is cut or damaged; copy it here anew, or open it and save it again',
+  oldWorkbook: 'the file is an old or a protected workbook (.xls); save it as .xlsx or .ods without a password, or as CSV ' +
+    'UTF-8, or copy its cells and paste them in “Files”',
+  rtf: 'the file is a formatted text (RTF); copy its table into a spreadsheet and save that as CSV UTF-8, or copy its ' +
+    'cells and paste them in “Files”',
+  html: 'the file is a page of the web (HTML), also where it is called .xls; open it in a spreadsheet and save it as CSV ' +
+    'UTF-8, or copy its cells and paste them in “Files”',
+  xml: 'the file is XML (.fods, .xml); save its table as .xlsx, .ods or CSV UTF-8, or copy its cells and paste them in ' +
+    '“Files”',
+  binary: 'the file is no text; save its table as CSV UTF-8, or copy its cells and paste them in “Files”',
   database: 'the file is no text but a database (SQLite); save its table as CSV UTF-8, or copy its cells and paste ' +
     'them in “Files”',
   pdf: 'the file is no text but a PDF; copy its table into a spreadsheet and save that as CSV UTF-8, or copy its ' +
@@ -246,6 +285,8 @@ export const WORDS = {
     'UTF-8',
   tree: 'the file is a family tree (GEDCOM); take it for one, above',
   ansel: 'the family tree is written in ANSEL, which cannot be read here; let your program save it in UTF-8',
+  ibmpc: 'the family tree is written in IBMPC, whose letters with accents have no certain meaning; let your program save it ' +
+    'in UTF-8',
   fault: (why) => ['the page failed (', own(why), ')'],
 
   // ---- The picture of a table ----
@@ -284,6 +325,10 @@ export const WORDS = {
     'Look at the original: a slip in the year',
   ],
 
+  // What to do with dates of a sheet whose years are short.
+  shortAdvice: (n) => `${n === 1 ? '1 has a year' : `${WORDS.number(n)} have years`} of one or two digits, and “leave such ` +
+    'dates out” is chosen: choose otherwise at “Years of one or two digits”',
+
   // What to do with a refused date of a sheet.
   sheetAdvice: [
     'Look at the record: it has other fields than the others',
@@ -316,17 +361,36 @@ export const WORDS = {
 
   // ---- From a sheet ----
   sheet: 'A sheet',
-  sheetIs: 'A table of your own, saved as CSV or text or copied from a spreadsheet. Say which of its columns have ' +
-    'dates, and you get it back with the columns that you want behind its own. How dates in words are read is ' +
-    'proved; whether your choices fit is for you to see, in what the page shows before you convert.',
+  sheetIs: 'A table of your own. Say which of its columns have dates, and you get it back with the columns that you want ' +
+    'behind its own. How dates in words are read is proved; whether your choices fit is for you to see, in what the page ' +
+    'shows before you convert.',
   encoding: 'Encoding',
   encodingIs: 'Are letters with accents wrong below? Choose another.',
   above: 'Lines above the names',
   aboveIs: 'Title lines, which stay as they are. Then comes the line with the names of the columns.',
+  wrongAbove: (above) => `The lines above the names are a number from 0 to 999. ${above === null ? '' : `It is ${above} still.`}`,
+  titleLines: (n) => (n === 1 ? '1 title line' : `${n} title lines`),
+  change: 'change',
+  datesBy: (names, calendar) => [...names.flatMap((name, i) => [i === 0 ? '' : i === names.length - 1 ? ' and ' : ', ', name]),
+    ' by ', calendar],
+  orders: { year: 'year first', day: 'day first', month: 'month first' },
+  behindThem: (columns) => (columns.length ? `with ${columns.join(', ')} behind them` : 'with the refusal alone behind them'),
+  moreDates: (n) => (n === 1 ? '1 more date' : `${WORDS.number(n)} more dates`),
+  moreByOrder: {
+    year: (n) => `${WORDS.moreDates(n)} can be read with the year first`,
+    day: (n) => `${WORDS.moreDates(n)} can be read with the day first`,
+    month: (n) => `${WORDS.moreDates(n)} can be read with the month first`,
+  },
+  onlyByOrder: { year: 'The year stands first', day: 'The day stands first', month: 'The month stands first' },
+  decides: ', as this one shows: ',
+  takeOrder: { year: 'Year first', day: 'Day first', month: 'Month first' },
+  pageNamed: (name) => ['the sheet “', own(name), '”'],
+  pageOfWorkbook: 'Sheet of the workbook',
+  fileDates: 'Dates of the file itself too: of its header, and when its records were changed',
   titles: (lines) => ['Above the names: ', own(lines.join(' / ')), '.'],
   aboveFound: (n) => (n === 1 ? '1 line above the names' : `${WORDS.number(n)} lines above the names`),
   aTree: 'a family tree',
-  looksLike: (what) => `Looks like ${what.join(', ')}.`,
+  looksLike: (what) => `Proposed: ${what.join(', ')}.`,
   encodings: {
     'utf-8': 'UTF-8',
     'windows-1252': 'Western Europe (Windows-1252)',
@@ -453,7 +517,7 @@ export const WORDS = {
   written: 'As written',
   splitSheet: 'Split it, each part with the line of the names.',
   wholeSheet: (rows, refused) => [`${WORDS.rows(rows)}. `,
-    refused.map(([name, n], i) => [i === 0 ? '' : ', ', name, ': ', WORDS.refused(n)]), '.'],
+    refused.map(([name, n, empty], i) => [i === 0 ? '' : '; ', name, ': ', WORDS.refused(n), WORDS.empty(empty)]), '.'],
   refusedDates: (n, all) =>
     (n < all ? `The first ${n} refused dates` : n === 1 ? 'The refused date' : `The ${n} refused dates`),
   makeRegister: (name) => ['Make the register of ', name],

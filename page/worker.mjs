@@ -2,19 +2,21 @@
 
 import { TooLarge, archiveOf } from './archive.mjs';
 import { CALENDARS, TARGETS } from './calendars.mjs';
-import { choicesOf, columnNumbers } from './choices.mjs';
+import { choicesOf, columnNumbers, noPicks, numbersOf as numbersOfChoice } from './choices.mjs';
 import { ChangedFile, NoReading, checkUnchanged, readFile } from './files.mjs';
 import { formulasAmong, mayHaveFormula } from './formulas.mjs';
-import { NoMemory, expectedLength, instantiate } from './module.mjs';
+import { NO_DAY, NoMemory, expectedLength, instantiate } from './module.mjs';
 import {
-  isAnsel, isDelimiterOf, isJson, isObject, isTree, kindOf, likelyAbove, likelyDelimiter, likelyEncodings, markedEncoding,
+  isAnsel, isDelimiterOf, isIbmPc, isJson, isObject, isTree, kindOf, likelyAbove, likelyDelimiter, likelyEncodings, markedEncoding,
 } from './proposals.mjs';
-import { EVERY, LOOKED_AT, REFUSED_SHOWN, SHOWN, Table, range, rowsOf } from './tables.mjs';
+import { EVERY, LOOKED_AT, REFUSED_SHOWN, SHOWN, Table, isOfEmpty, range, rowsOf } from './tables.mjs';
+import { NoArchive, filesIn } from './packed.mjs';
 import { timelineOf } from './timeline.mjs';
 import { FACTS } from './unbuilt-facts.mjs';
 import { NAMES } from './unbuilt-names.mjs';
+import { NoWorkbook, cellsOf, kindOfBook } from './workbook.mjs';
 
-const COMMA = 44;
+const COMMA = 44, TAB = 9;
 const PIECE = 2 ** 22;
 // More columns or names than these are not offered.
 const MOST_COLUMNS = 200, MOST_NAMES = 200;
@@ -23,10 +25,17 @@ const MOST_COLUMNS = 200, MOST_NAMES = 200;
 const MOST_CUT = 1000, MOST_CHOICES = 1e6, FRONT = 2 ** 16;
 // The cause of a register without its header; how long one may be, in bytes; how much is shown of a first line, in letters.
 const NO_HEADER = 6, HEADER = 256, LINE_SHOWN = 100;
+// Where a register has its dates; where a choice has its first column of dates.
+const DATE_AT = 2, DATES_AT = 7;
+// Refusals that a record without a date can have: its calendar is not known, or the date is not written as it wants.
+const NO_SUCH_NAME = 4, NOT_WRITTEN = 5;
 // How registers can be written.
 const FORMS = [false, true].flatMap((sealed) => [44, 59, 9].map((delimiter) => ({ delimiter, sealed })));
 // The byte of the digit 0; fields that are looked through at once.
 const DIGIT_0 = 48, FIELDS_AT_ONCE = 2 ** 22;
+
+// Events of a family tree that tell of its file alone: when a record was changed, or made.
+const OF_FILE = ['CHAN', '_CHAN', 'CREA', '_CREA'], LONGEST = 5;
 
 class NotEncoded extends Error {}
 
@@ -76,8 +85,26 @@ async function date({ compiled, calendar, text }) {
   const setup = { columns: numbersOf(TARGETS), delimiter: COMMA, sealed: false };
   const { ending, table } = module.convert(register, setup, expectedLength(register.length, 2, TARGETS.length));
   if (ending !== 0) return { ending, written };
-  const { heading, rows } = new Table(module, table, COMMA).firstRows();
-  return { ending, written, heading, row: rows[0] };
+  const { heading, rows: [row] } = new Table(module, table, COMMA).firstRows();
+  const isRead = Number(row[heading.indexOf('refusal')]) !== NOT_WRITTEN;
+  return { ending, written, heading, row, isLeap: hasThirteenMonths(module, row[heading.indexOf('hebrew')]),
+    unknown: isRead ? [] : unknownOfDate(module, calendar, text) };
+}
+
+// Whether the year of a Hebrew date has thirteen months, as the module knows it.
+function hasThirteenMonths(module, hebrew) {
+  const [, year] = /^(\d+)-/.exec(hebrew) || [];
+  if (year === undefined) return false;
+  const last = module.write(['id', 'calendar', 'date', '1', 'hebrew', `${year}-13-1`], 3, COMMA);
+  return module.convert(last, { columns: [], delimiter: COMMA, sealed: false }, FRONT).refused === 0;
+}
+
+// The words of a date that are not known, as a sheet of this date alone has them.
+function unknownOfDate(module, calendar, text) {
+  const choice = numbersOfChoice({ delimiter: COMMA, above: 0 },
+    { ...noPicks(), dates: [{ date: '0', calendar }], order: 'day', short: 'keep', hebrew: 'keep' });
+  const { ending, list } = module.unknownNames(module.write(['date', text], 1, COMMA), choice, NAMES, SHOWN);
+  return ending === 0 ? module.pick(list, COMMA, [0], EVERY).fields.slice(1) : [];
 }
 
 // ---- A register ----
@@ -128,19 +155,29 @@ function formOf(module, bytes) {
   return found;
 }
 
+// What an archive is: a workbook that can be read is a sheet.
+async function lookOfBook(file) {
+  try {
+    const kind = kindOfBook(filesIn(new Uint8Array(await file.arrayBuffer())));
+    return kind === null || kind === 'xlsb' ? { kind: kind || 'workbook' } : { kind: 'sheet', firstLine: '', isWorkbook: true };
+  } catch (fault) {
+    return { kind: fault instanceof NoArchive ? 'cutWorkbook' : 'noReading' };
+  }
+}
+
 // What a file looks like, by its first bytes and lines.
 async function lookOf(module, file) {
   const bytes = await file.slice(0, FRONT).arrayBuffer().then((it) => new Uint8Array(it), () => null);
   if (bytes === null) return { kind: 'noReading' };
-  const kind = kindOf(bytes), marked = markedEncoding(bytes);
-  if (kind !== null) return { kind };
+  const kind = kindOf(bytes), marked = markedEncoding(bytes), form = marked === null ? formOf(module, bytes) : null;
+  if (kind === 'workbook') return lookOfBook(file);
+  if (kind !== null && form === null) return { kind };
   const text = beginningOf(bytes);
   if (isTree(text)) return { kind: 'tree' };
   if (isJson(file.name) || isObject(text)) {
     if (file.size <= MOST_CHOICES && choicesOf(await file.text()) !== null) return { kind: 'choices' };
     if (isJson(file.name)) return { kind: 'noChoices' };
   }
-  const form = marked === null ? formOf(module, bytes) : null;
   return form === null ? { kind: 'sheet', firstLine: firstLineOf(text) } : { kind: 'register', ...form };
 }
 
@@ -161,9 +198,10 @@ async function register({ compiled, file, columns, isTold }, tell) {
     for (let i = 0; i < piece.length; i += 1) if (piece[i] === 10 || piece[i] === 13) lines += 1;
   });
   const bytes = bytesAt(0, text.length), kind = kindOf(bytes) || (markedEncoding(bytes) && 'utf16');
-  if (kind !== null) throw new OtherKind(kind);
+  const form = formOf(module, bytesAt(0, text.length));
+  if (kind !== null && form === null) throw new OtherKind(kind === 'workbook' ? 'book' : kind);
   if (isTree(frontOf(module, text))) throw new OtherKind('tree');
-  const { delimiter, sealed } = formOf(module, bytesAt(0, text.length)) || FORMS[0];
+  const { delimiter, sealed } = form || FORMS[0];
   const setup = { columns: numbersOf(columns), delimiter, sealed };
   const told = isTold ? await blobOf(module, text) : null;
   if (told) tell({ text: told, delimiter, sealed });
@@ -174,9 +212,19 @@ async function register({ compiled, file, columns, isTold }, tell) {
   if (answer.table.length === 0) return { ...answer, table: null };
   const table = new Table(module, answer.table, delimiter);
   const first = table.firstRows(), refused = answer.ending === 0 && answer.refused === 0 ? null : table.refusedRows();
+  const counted = withoutEmpty(module, answer.table, delimiter, answer, [table.column('date'), table.column('refusal')]);
   const formulas = formulasOf(module, text, answer.table, delimiter, first.from, answer.rows);
   const own = told || await blobOf(module, text), made = await blobOf(module, answer.table, MARK);
-  return { ...answer, first, refusedRows: refused, formulas, text: own, table: made };
+  return { ...answer, ...counted, first, refusedRows: refused, formulas, text: own, table: made };
+}
+
+// The refusals of a register without those of records that have no date.
+function withoutEmpty(module, table, delimiter, { rows, refused, counts }, columns) {
+  if (counts[NO_SUCH_NAME - 1] + counts[NOT_WRITTEN - 1] === 0) return { empty: 0 };
+  const fields = 2 * (rows + 1), guess = { fields, bytes: 4096 + 8 * fields };
+  const { counts: [now], empty: [empty] } = module.pickAll(table, delimiter, columns, guess,
+    (bytes, lengths) => countsAmong(bytes, lengths, 1, 0));
+  return { refused: refused - empty, counts: now, empty };
 }
 
 /** An archive of files, with a comment. */
@@ -189,7 +237,20 @@ async function picture({ compiled, text, delimiter, sealed }) {
   const module = await instantiate(compiled), own = await partOf(module, text);
   const entries = module.registerDays(own, delimiter, sealed);
   if (entries.ending === 1) throw new NoMemory();
-  return timelineOf(module, own, delimiter, entries);
+  const empty = emptyAmong(module, own, delimiter, DATE_AT, 1, entries.days);
+  return timelineOf(module, own, delimiter, { ...entries, empty });
+}
+
+// Which of these days are those of records without a date, which stands in this column; or null where each has a day.
+function emptyAmong(module, text, delimiter, column, head, days) {
+  if (!days.includes(NO_DAY)) return null;
+  const fields = head + days.length + 1, empty = new Uint8Array(days.length);
+  return module.pickAll(text, delimiter, [column], { fields, bytes: 4096 + 8 * fields }, (bytes, lengths) => {
+    for (let i = 0, at = 0; i < lengths.length && i < head + days.length; at += lengths[i], i += 1) {
+      if (i >= head && isBlank(bytes, at, at + lengths[i])) empty[i - head] = 1;
+    }
+    return empty;
+  });
 }
 
 // ---- Sheets ----
@@ -198,7 +259,7 @@ async function picture({ compiled, text, delimiter, sealed }) {
  * What a sheet is read from: `number` is that of the reading. An encoding, a delimiter or a number of records above the
  * names that is null is to be proposed, by `kept` choices where they fit, and so is whether it is a family tree.
  * @typedef {{ compiled: WebAssembly.Module, number: number, file: File, isTree?: boolean | null, encoding: string | null,
- *   delimiter: number | null, above: number | null, kept: any }} Source
+ *   delimiter: number | null, above: number | null, kept: any, hasFileDates?: boolean, page?: number | null }} Source
  */
 
 // The sheet that was read last, in the module's memory.
@@ -271,32 +332,70 @@ function delimiterOf(front, { delimiter, kept }) {
   return delimiter ?? (isKept ? kept.delimiter : likelyDelimiter(front));
 }
 
+// A sheet of a workbook, as a text in which a tab stands between two cells, as in cells that are copied.
+async function readBook(module, { raw, bytesAt }, { number, file, page }) {
+  const { pages, width, fields } = await cellsOf(module.bytes(raw).slice(), page || 0);
+  const text = fields.length ? module.write(fields, width, TAB) : module.put(new Uint8Array());
+  sheet = { number, file, bytesAt, module, text, front: frontOf(module, text), encoding: 'utf-8', delimiter: TAB, isOfTree: false,
+    book: { pages, page: page || 0 }, counted: null };
+  return sheet;
+}
+
 /** @param {Source} source */
 async function readSheet({ compiled, number, file, encoding: chosen, ...source }) {
   sheet = null;
   const module = await instantiate(compiled), read = await rawOf(module, file);
   const kind = kindOf(read.bytesAt(0, read.raw.length));
+  if (kind === 'workbook') return readBook(module, read, { number, file, page: source.page });
   if (kind !== null) throw new OtherKind(kind);
   const { encoding, text: own } = textOf(module, read, chosen, source.kept), beginning = frontOf(module, own);
   const isOfTree = source.isTree ?? isTree(beginning);
   if (isOfTree && !read.isAscii && isAnsel(beginning)) throw new OtherKind('ansel');
-  const text = isOfTree ? module.treeDates(own) : own, front = isOfTree ? frontOf(module, text) : beginning;
+  if (isOfTree && !read.isAscii && chosen === null && isIbmPc(beginning)) throw new OtherKind('ibmpc');
+  const text = isOfTree ? datesOfTree(module, own, source.hasFileDates) : own;
+  const front = isOfTree ? frontOf(module, text) : beginning;
   const delimiter = isOfTree ? COMMA : delimiterOf(front, source);
   const { bytesAt } = read, how = { number, file, bytesAt, module, text, front, encoding, delimiter, isOfTree };
   sheet = { ...how, counted: null };
   return sheet;
 }
 
+// The dates of a family tree: without those of the file itself, of its header and of when its records were changed, unless
+// they are wanted too.
+function datesOfTree(module, tree, hasFileDates) {
+  const dates = module.treeDates(tree);
+  if (hasFileDates) return dates;
+  const place = module.pick(dates, COMMA, range(MOST_COLUMNS), 1).fields.indexOf('event');
+  const guess = Math.ceil(dates.length / 8) + 64;
+  const indices = module.pickAll(dates, COMMA, [0, place], { fields: guess, bytes: guess }, ownDates);
+  const own = module.sheetRecords(dates, COMMA, indices);
+  module.free(dates);
+  return own;
+}
+
+// The records, from 0, of a heading and of dates that are no file's own: each has the number of what it is in, which the
+// header of the file has none of, and an event.
+function ownDates(bytes, lengths) {
+  const found = [];
+  for (let at = 0, i = 0; i < lengths.length; i += 2) {
+    const event = at + lengths[i], end = event + lengths[i + 1];
+    const isOfFile = end - event <= LONGEST && OF_FILE.includes(String.fromCharCode(...bytes.subarray(event, end)));
+    if (i === 0 || (lengths[i] > 0 && !isOfFile)) found.push(i / 2);
+    at = end;
+  }
+  return found;
+}
+
 // The sheet of this reading, which a new worker reads again.
 const sheetOf = async (source) => (sheet && sheet.number === source.number ? sheet : readSheet(source));
 
 // The first records and columns of a sheet under its names, and what stands above these.
-function begins({ module, text, encoding, delimiter, isOfTree }, above, records, widest) {
+function begins({ module, text, encoding, delimiter, isOfTree, book = {} }, above, records, widest) {
   const width = Math.max(1, Math.min(widest, MOST_COLUMNS));
   const first = rowsOf(module.pick(text, delimiter, range(width), above + SHOWN + 1).fields, width);
   const titles = first.slice(0, Math.min(above, SHOWN)).map((fields) => fields.filter(Boolean).join(' '));
   const [heading = [], ...rows] = first.slice(above);
-  return { encoding, delimiter, above, records, widest, heading, rows, titles, isOfTree };
+  return { encoding, delimiter, above, records, widest, heading, rows, titles, isOfTree, ...book };
 }
 
 // The records above the names, so many as were chosen, or kept where a column that was kept has its name below, or are
@@ -340,6 +439,38 @@ async function unknownNames({ choice, names, ...source }) {
   if (ending === 0) module.free(list);
   const found = rowsOf(fields, 3).slice(1).map(([name, where, count]) => ({ name, where, count: Number(count) }));
   return { ending, names: found, more, short, kept };
+}
+
+// How many dates another order of numbers reads, of which the first is decided by a number over 12: a proposal, for which
+// so much of a text is looked at, and so many dates of it.
+const ORDERS_LOOKED_AT = 2 ** 21, DATES_LOOKED_AT = 20000, ORDER_AT = 3, MONTHS = 12;
+const THREE_NUMBERS = /^\D*(\d{1,2})\D+(\d{1,2})\D+\d{3,4}\D*$/;
+
+// Which order a date in numbers with the year last has, where one of its numbers is no month: 1 for the day first, 2 for the
+// month first; else 0.
+function decidedOrder(date) {
+  const [, first, second] = (THREE_NUMBERS.exec(date) || []).map(Number);
+  if (first > MONTHS && second <= MONTHS) return 1;
+  return second > MONTHS && first <= MONTHS ? 2 : 0;
+}
+
+/**
+ * For each order of the numbers of dates, how many more dates it reads than the one that is chosen, and the first date that
+ * decides for it, or null.
+ */
+async function orders({ choice, dates, names, ...source }) {
+  const { module, text, delimiter } = await sheetOf(source), { above } = source;
+  const front = { ...text, length: Math.min(text.length, ORDERS_LOOKED_AT) }, list = namesWith(names);
+  const unread = (order) => {
+    const other = choice.map((number, i) => (i === ORDER_AT ? order : number));
+    const { ending, list: found, short, kept } = module.unknownNames(front, other, list, 0);
+    module.free(found);
+    return ending === 0 ? kept + short : Infinity;
+  };
+  const fields = module.pick(front, delimiter, dates, above + 1 + DATES_LOOKED_AT).fields.slice((above + 1) * dates.length);
+  const now = unread(choice[ORDER_AT]);
+  return { orders: [0, 1, 2].map((order) => ({ more: order === choice[ORDER_AT] ? 0 : Math.max(0, now - unread(order)),
+    decides: order === 0 ? null : fields.find((date) => decidedOrder(date) === order) || null })) };
 }
 
 /**
@@ -386,7 +517,7 @@ async function preview({ choice, dates, columns, names, ...source }) {
 
 /**
  * The dates that were refused first: the number of the record, which column of dates, the calendar where the sheet has
- * one, the date, and the refusal.
+ * one, the date, and the refusal. Where there is no date, nothing is refused.
  */
 function refusedDates(module, table, delimiter, { above, dates, places, own }, width) {
   for (let most = LOOKED_AT / 16; ; most *= 4) {
@@ -396,24 +527,68 @@ function refusedDates(module, table, delimiter, { above, dates, places, own }, w
     // The last record may be cut.
     if (front.length < table.length) rows.pop();
     const found = rows.flatMap((row, i) => rowsOf(row, 3).flatMap(([date, calendar, refusal], k) =>
-      (refusal === '' ? [] : [{ number: i + 1, place: k, calendar, date, refusal: Number(refusal) }])));
+      (refusal === '' || isOfEmpty(refusal, date) ? []
+        : [{ number: i + 1, place: k, calendar, date, refusal: Number(refusal) }])));
     if (found.length || front.length === table.length || most >= LOOKED_AT) return found.slice(0, REFUSED_SHOWN);
   }
 }
 
-// How many dates were refused of each column of dates, by the reason.
-function refusalCounts(module, table, delimiter, { above, dates, own, rows }, width) {
-  const counts = range(dates).map(() => FACTS.refusals.map(() => 0));
-  const columns = range(dates).map((k) => own + (k + 1) * width - 1), names = (above + 1) * dates;
-  const fields = names + rows * dates;
-  module.pickAll(table, delimiter, columns, { fields, bytes: 4096 + 2 * fields }, (bytes, lengths) => {
-    let at = 0;
-    lengths.forEach((length, i) => {
-      if (length && i >= names) counts[i % dates][bytes[at] - DIGIT_0 - 1] += 1;
-      at += length;
+// Whether nothing but blanks stands in these bytes.
+function isBlank(bytes, from, to) {
+  for (let i = from; i < to; i += 1) if (bytes[i] !== 32 && bytes[i] !== 9) return false;
+  return true;
+}
+
+// Counts refusals: each of them is a field behind that of its date, of which a blank one is empty and not refused. The
+// records where all dates are empty come beside them, from 0.
+function countsAmong(bytes, lengths, dates, above) {
+  const counts = range(dates).map(() => FACTS.refusals.map(() => 0)), empty = range(dates).map(() => 0), without = [];
+  const records = lengths.length / (2 * dates);
+  for (let record = 0, at = 0, i = 0; record < records; record += 1) {
+    let isWithout = record > above;
+    for (let k = 0; k < dates; k += 1, i += 2) {
+      const end = at + lengths[i], isEmpty = isBlank(bytes, at, end), isRefused = lengths[i + 1] > 0 && record > above;
+      const refusal = isRefused ? bytes[end] - DIGIT_0 : 0;
+      if (isEmpty && (refusal === NO_SUCH_NAME || refusal === NOT_WRITTEN)) empty[k] += 1;
+      else if (isRefused) counts[k][refusal - 1] += 1;
+      isWithout &&= isEmpty;
+      at = end + lengths[i + 1];
+    }
+    if (isWithout) without.push(record);
+  }
+  return { counts, empty, without };
+}
+
+// How many of these records have blank fields alone: so many columns at most are looked at once.
+function blankAmong(module, text, delimiter, records, width) {
+  const most = Math.max(1, Math.floor(FIELDS_AT_ONCE / width));
+  let blank = 0;
+  for (let from = 0; from < records.length; from += most) {
+    const some = module.sheetRecords(text, delimiter, records.slice(from, from + most));
+    const guess = { fields: most * width, bytes: some.length + 64 };
+    blank += module.pickAll(some, delimiter, range(width), guess, (bytes, lengths) => {
+      const full = new Set();
+      let at = 0;
+      lengths.forEach((length, i) => {
+        if (!isBlank(bytes, at, at + length)) full.add(Math.floor(i / width));
+        at += length;
+      });
+      return lengths.length / width - full.size;
     });
-  });
-  return counts;
+    module.free(some);
+  }
+  return blank;
+}
+
+// Of each column of dates, how many were refused by the reason, and how many are empty; and how many lines are blank, of
+// which nothing is said.
+function refusalCounts({ module, text, delimiter }, table, { above, dates, places, own, rows }, width) {
+  const columns = range(dates).flatMap((k) => [places[k][0], own + (k + 1) * width - 1]);
+  const fields = (above + 1 + rows) * 2 * dates;
+  const { counts, empty, without } = module.pickAll(table, delimiter, columns, { fields, bytes: 4096 + 8 * fields },
+    (bytes, lengths) => countsAmong(bytes, lengths, dates, above));
+  const blank = without.length ? blankAmong(module, text, delimiter, without, own) : 0;
+  return { counts, empty: empty.map((count) => count - blank), blank };
 }
 
 // Whether the sheet has other names of columns than these.
@@ -437,7 +612,8 @@ async function convertSheet({ choice, places, columns, names, heading, records, 
   const { ending, rows, refused, table } =
     module.convertSheet(text, choice, columnNumbers(columns), namesWith(names), guess);
   await checkUnchanged(read.file, read.bytesAt);
-  const whole = { ending, rows, refused: refused.slice(0, dates), first: null, refusedDates: [], counts: [], table: null };
+  const whole = { ending, rows, refused: refused.slice(0, dates), first: null, refusedDates: [], counts: [], table: null,
+    empty: range(dates).map(() => 0), blank: 0 };
   if (ending !== 0) return whole;
   const first = firstJoined(module, table, delimiter, above, behind), { own: width } = first;
   const found = foundOf(read, table, { above, dates, places, own: width, rows }, refused, columns.length + 1);
@@ -450,8 +626,9 @@ async function convertSheet({ choice, places, columns, names, heading, records, 
 function foundOf({ module, text, delimiter }, table, made, refused, width) {
   const formulas = formulasOf(module, text, table, delimiter, made.own, made.above + made.rows);
   if (!refused.some(Boolean)) return { formulas };
-  const counts = refusalCounts(module, table, delimiter, made, width);
-  return { formulas, counts, refusedDates: refusedDates(module, table, delimiter, made, width) };
+  const counted = refusalCounts({ module, text, delimiter }, table, made, width);
+  const refusedNow = counted.counts.map((ofReason) => ofReason.reduce((sum, count) => sum + count, 0));
+  return { formulas, ...counted, refused: refusedNow, refusedDates: refusedDates(module, table, delimiter, made, width) };
 }
 
 // Throws where a call of the module was not ended as it should.
@@ -482,12 +659,13 @@ async function datedOf({ compiled, conversion, text }) {
 }
 
 // The days of one column of dates, and what a picture of them shows, by its register.
-function gathered({ module, text }, { choice, place, names, delimiter }) {
+function gathered({ module, text }, { choice, place, names, delimiter, above }) {
   const { ending, table: register } = module.sheetRegister(text, choice, place, namesWith(names));
   checkEnding('sheet_register', ending);
   const entries = module.registerDays(register, delimiter, false);
   checkEnding('register_days', entries.ending);
-  const picture = timelineOf(module, register, delimiter, entries);
+  const empty = emptyAmong(module, text, delimiter, choice[DATES_AT + 3 * place], above + 1, entries.days);
+  const picture = timelineOf(module, register, delimiter, { ...entries, empty });
   module.free(register);
   return { days: entries.days, picture };
 }
@@ -507,7 +685,7 @@ const sheetPicture = async (words) => (await daysOf(words)).picture;
  * behind its own.
  */
 async function sortedSheet({ table, behind, delimiter, above, ...words }) {
-  const { days } = await daysOf({ ...words, delimiter }), head = above + 1;
+  const { days } = await daysOf({ ...words, delimiter, above }), head = above + 1;
   const module = await instantiate(words.compiled), own = await partOf(module, table.slice(MARK_LENGTH));
   const indices = new Uint32Array(head + days.length);
   indices.set(range(head));
@@ -520,12 +698,12 @@ async function sortedSheet({ table, behind, delimiter, above, ...words }) {
 }
 
 const TASKS = {
-  date, looks, register, archive, picture, choices, beginning, unknownNames, preview, convertSheet, sheetRegister, sheetPicture,
+  date, looks, register, archive, picture, choices, beginning, unknownNames, orders, preview, convertSheet, sheetRegister, sheetPicture,
   sortedSheet,
 };
 
 function faultOf(fault) {
-  if (fault instanceof OtherKind) return fault.message;
+  if (fault instanceof OtherKind || fault instanceof NoWorkbook) return fault.message;
   if (fault instanceof NoReading) return 'noReading';
   if (fault instanceof ChangedFile) return 'changedFile';
   if (fault instanceof NotEncoded) return 'notEncoded';

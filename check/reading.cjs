@@ -31,8 +31,9 @@ for (let n = 1; n < 4000; n += 1) {
   ROMAN.set("M".repeat(n / 1000 | 0) + tens + digit(n % 10, "I", "V", "X"), n);
 }
 
-// A number is `{value, digits}`, with 0 digits if it is a Roman one or a name, and `isNamed` for a name. Other items
-// have what they mean: `{month}`, `{mark}`, `{weekday}`, `{decade}`, `{relation}`, `{feast}`, `{season}`.
+// A number is `{value, digits}`, with 0 digits if it is a Roman one or a name, and `isNamed` for a name; `isYear` behind
+// a word for year, `isDay` beside a word for day. Other items have what they mean: `{month}`, `{mark}`, `{weekday}`,
+// `{decade}`, `{relation}`, `{feast}`, `{season}`, `{yearWord}`, `{dayWord}`.
 function numberOf(part) {
   if (/^[0-9]/.test(part)) return part.length > 9 ? null : { value: Number(part), digits: part.length };
   return ROMAN.has(part) ? { value: ROMAN.get(part), digits: 0, isNamed: false } : null;
@@ -62,20 +63,36 @@ function itemsOf(text, names) {
 const addsTo = (a, b) => a.value >= 1000 && a.value % 1000 === 0 && b.value < 1000
   || a.value >= 100 && a.value % 100 === 0 && b.value < 100;
 
-// Numbers by name that stand directly behind one another add up.
+const isLong = n => n.isYear || n.digits >= 3 || n.digits === 0 && n.value >= 100;
+
+// What a number is beside a word for year or for day, or null where they do not belong together.
+function besideWord(number, word, isBehind) {
+  if (word.yearWord) return isBehind ? { ...number, isYear: true } : isLong(number) ? number : null;
+  return isLong(number) ? null : { ...number, isDay: true };
+}
+
+// The one item that two items are, or null. A word for day before a weekday or a feast says nothing more.
+function togetherOf(a, b) {
+  if ("value" in a && "value" in b) return a.isNamed && b.isNamed && addsTo(a, b) ? { ...a, value: a.value + b.value } : null;
+  if ("value" in b && (a.yearWord || a.dayWord)) return besideWord(b, a, true);
+  if ("value" in a && (b.yearWord || b.dayWord)) return besideWord(a, b, false);
+  return a.dayWord && ("weekday" in b || "feast" in b) ? b : null;
+}
+
+// Numbers by name that stand directly behind one another add up, and words for year and day belong to their numbers.
 function added(items) {
   const all = [];
   for (const item of items) {
-    const last = all[all.length - 1], isSum = last && last.isNamed && item.isNamed && addsTo(last, item);
-    if (isSum) all[all.length - 1] = { ...last, value: last.value + item.value };
+    const together = all.length > 0 ? togetherOf(all[all.length - 1], item) : null;
+    if (together !== null) all[all.length - 1] = together;
     else all.push(item);
   }
   return all;
 }
 
-const isLong = n => n.digits >= 3 || n.digits === 0 && n.value >= 100;
 const LETTERS = {
-  value: "n", month: "m", mark: "k", weekday: "w", decade: "d", relation: "r", feast: "f", season: "s",
+  value: "n", month: "m", mark: "k", weekday: "w", decade: "d", relation: "r", feast: "f", season: "s", yearWord: "y",
+  dayWord: "t",
 };
 const letterOf = item => LETTERS[Object.keys(LETTERS).find(key => key in item)];
 const formOf = items => items.map(letterOf).join("");
@@ -148,7 +165,7 @@ function feastFinder(calendar, number, weekday, relation, { feast, season }) {
   const ofFeast = year => feast.sunday ? sundayOf(calendar, year, ...feast.sunday) : placed(calendar, year, feast.day);
   if (number !== null) {
     const of = season || relation === "after" && SEASONS[String(feast.day)];
-    if (!of || isLong(number) || season && relation !== null) return null;
+    if (!of || isLong(number) || number.isDay || season && relation !== null) return null;
     return year => sundayOf(calendar, year, of, number.value);
   }
   if (season) return null;

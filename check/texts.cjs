@@ -70,6 +70,7 @@ class Texts {
     this.kinds = {
       m: saying("month"), k: saying("mark"), w: saying("weekday"), a: saying("decade"), r: saying("relation"),
       f: saying("feast"), s: saying("season"), n: saying("value"), o: names.filter(it => it.item === null),
+      y: saying("yearWord"), t: saying("dayWord"),
     };
   }
 
@@ -96,6 +97,12 @@ class Texts {
     if (meaning(value).length > 0) return changed(one(meaning(value)).text);
     if (parts.some(it => it.length === 0)) return String(value);
     return parts.map(it => changed(one(it).text)).join(one([" ", "-", " "]));
+  }
+
+  // A number, now and then beside a word for year or for day.
+  besideWord(kind, text) {
+    if (this.kinds[kind].length === 0 || !chance(8)) return text;
+    return chance(4) ? `${text} ${this.name(kind)}` : `${this.name(kind)} ${text}`;
   }
 
   year() {
@@ -131,7 +138,8 @@ class Texts {
   date() {
     const year = this.year(), month = this.month(), day = this.day(), order = one(ORDERS);
     const parts = {
-      y: this.number(year), m: this.name("m", it => it.month === month), n: this.number(month), d: this.number(day),
+      y: this.besideWord("y", this.number(year)), m: this.name("m", it => it.month === month), n: this.number(month),
+      d: this.besideWord("t", this.number(day)),
       r: romanOf(month), w: this.beside(year, month, day),
     };
     const odd = one([`w${order}w`, `${order[0]}w${order.slice(1)}`]);
@@ -187,7 +195,8 @@ class Texts {
 
   sunday() {
     const feasts = this.kinds.f.filter(it => NUMBERED.includes(String(it.item.feast.day)));
-    const season = one([...this.kinds.s, ...feasts]), number = this.number(from(1, chance(4) ? 28 : 6));
+    const season = one([...this.kinds.s, ...feasts]);
+    const number = this.besideWord("t", this.number(from(1, chance(4) ? 28 : 6)));
     if (season === undefined) return this.weekdayInMonth();
     const weekday = chance(2) ? [this.name("w", it => it.weekday === 0 || chance(20))] : [];
     const after = season.item.feast ? [this.name("r", it => it.relation === "after")] : [];

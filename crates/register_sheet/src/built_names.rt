@@ -731,25 +731,27 @@ regorian julian\nPaschatis,easter 0,gregorian julian\nPaschatos,easter 0,gregori
 an julian\nHimmelfahrtstag,easter 39,gregorian julian\nFronleichnamstag,easter 60,gregorian julian\nChristmas Eve,feas\
 t 12-24,gregorian julian\nNew Year's Day,feast 1-1,gregorian julian\nNew Year’s Day,feast 1-1,gregorian julian\nNeujahr\
 stag,feast 1-1,gregorian julian\nInnocentium,feast 12-28,gregorian julian\nante,,roman\nante diem,,roman\na,,roman\nden\
-,,\nder,,\ndes,,\ndem,,\nam,,\nvom,,\nim,,\nin,,\nanno,,\nanno domini,,\nao,,\nAD,,\nA D,,\nthe,,\nof,,\non,,\nday,,\nl\
-e,,\nla,,\ndu,,\nde,,\nl'an,,\nl’an,,\nan,,\nannée,,\nl'année,,\nl’année,,\nen,,\nil,,\ndel,,\ndell'anno,,\ndell’anno,,\
-\nel,,\ndía,,\ndel año,,\naño,,\ndnia,,\nroku,,\nr,,\ndne,,\ndie,,\nde dato,,\nvan,,\nhet,,\ner,,\nère,,\nere,,\nème,,\
-\neme,,\nre,,\nst,,\nnd,,\nrd,,\nth,,\nte,,\nter,,gregorian julian hebrew islamic french republican\nsten,,\nste,,\ntes\
-,,\nens,,\nº,,\nª,,\no,,\ne,,\nster,,\nyear,,\nyear of our Lord,,\nof our Lord,,\nour Lord,,\nJahr,,\nJahre,,\nJahres,,\
-\nnach Christi Geburt,,\nn Chr,,\nanno Dni,,\nanno salutis,,\nanni,,\nannus,,\nAo Dni,,\nA°,,\nAº,,\njaar,,\njaer,,\nd\
-o ano,,\nano,,\nannée de grâce,,\nl'an de grâce,,\nl’an de grâce,,\nl'an de grace,,\nl’an de grace,,\nгода,,\nгоду,,\nг\
-одъ,,\nгода от Рождества Христова,,\nг,,\nлета,,\når,,\naar,,\nár,,\nAnno Christi,,\nnell'anno,,\nnell’anno,,\nго,,\nог\
-о,,\nye,,\njour de,,\nдня,,\nчисла,,\ndag,,\nTag des,,\ndì,,\na dì,,\nadì,,\naddì,,\nde la République,,french republica\
-n\nde la Republique,,french republican\nde la République française,,french republican\nde la République francaise,,fren\
-ch republican\nde la République françoise,,french republican\nde la Republique francaise,,french republican\nde la Repu\
-blique françoise,,french republican\nde la Republique francoise,,french republican\nde la République une et indivisible\
-,,french republican\nde la République française une et indivisible,,french republican\nder Republik,,french republican\
-\nder fränkischen Republik,,french republican\nder französischen Republik,,french republican\nder fränk. Republik,,fren\
-ch republican\nder frz. Republik,,french republican\nrépublicain,,french republican\nrépublicaine,,french republican\nd\
-e l'ère républicaine,,french republican\nde l’ère républicaine,,french republican\nfestum,,gregorian julian\nfesti,,gre\
-gorian julian\nfest,,gregorian julian\nfeast of,,gregorian julian\nfête de,,gregorian julian\ndivi,,gregorian julian\nd\
-ivae,,gregorian julian\nbeate,,gregorian julian\nsancte,,gregorian julian\nfesto,,gregorian julian\nin festo,,gregoria\
-n julian\nin die,,gregorian julian\nS,,gregorian julian\nSankt,,gregorian julian\nsancti,,gregorian julian\nsanctae,,gr\
-egorian julian\nbeati,,gregorian julian\nbeatae,,gregorian julian\napostoli,,gregorian julian\napostolorum,,gregorian j\
-ulian\nevangelistae,,gregorian julian\narchangeli,,gregorian julian\nten jare,,\n\
+,,\nder,,\ndes,,\ndem,,\nam,,\nvom,,\nim,,\nin,,\nanno,year,\nanno domini,year,\nao,year,\nAD,year,\nA D,year,\nthe,,\n\
+of,,\non,,\nday,day,\nle,,\nla,,\ndu,,\nde,,\nl'an,year,\nl’an,year,\nan,year,\nannée,year,\nl'année,year,\nl’année,yea\
+r,\nen,,\nil,,\ndel,,\ndell'anno,year,\ndell’anno,year,\nel,,\ndía,day,\ndel año,year,\naño,year,\ndnia,day,\nroku,year\
+,\nr,year,\ndne,day,\ndie,day,\nde dato,,\nvan,,\nhet,,\ner,,\nère,,\nere,,\nème,,\neme,,\nre,,\nst,,\nnd,,\nrd,,\nth,,\
+\nte,,\nter,,gregorian julian hebrew islamic french republican\nsten,,\nste,,\ntes,,\nens,,\nº,,\nª,,\no,,\ne,,\nster,,\
+\nyear,year,\nyear of our Lord,year,\nof our Lord,year,\nour Lord,year,\nJahr,year,\nJahre,year,\nJahres,year,\nnach Ch\
+risti Geburt,year,\nn Chr,year,\nanno Dni,year,\nanno salutis,year,\nanni,year,\nannus,year,\nAo Dni,year,\nA°,year,\nA\
+º,year,\njaar,year,\njaer,year,\ndo ano,year,\nano,year,\nannée de grâce,year,\nl'an de grâce,year,\nl’an de grâce,year\
+,\nl'an de grace,year,\nl’an de grace,year,\nгода,year,\nгоду,year,\nгодъ,year,\nгода от Рождества Христова,year,\nг,ye\
+ar,\nлета,year,\når,year,\naar,year,\nár,year,\nAnno Christi,year,\nnell'anno,year,\nnell’anno,year,\nго,,\nого,,\nye,,\
+\njour de,day,\nдня,day,\nчисла,day,\ndag,day,\nTag des,day,\ndì,day,\na dì,day,\nadì,day,\naddì,day,\nde la République\
+,,french republican\nde la Republique,,french republican\nde la République française,,french republican\nde la Républiq\
+ue francaise,,french republican\nde la République françoise,,french republican\nde la Republique francaise,,french repu\
+blican\nde la Republique françoise,,french republican\nde la Republique francoise,,french republican\nde la République \
+une et indivisible,,french republican\nde la République française une et indivisible,,french republican\nder Republik,,\
+french republican\nder fränkischen Republik,,french republican\nder französischen Republik,,french republican\nder frän\
+k. Republik,,french republican\nder frz. Republik,,french republican\nrépublicain,,french republican\nrépublicaine,,fre\
+nch republican\nde l'ère républicaine,,french republican\nde l’ère républicaine,,french republican\nfestum,,gregorian j\
+ulian\nfesti,,gregorian julian\nfest,,gregorian julian\nfeast of,,gregorian julian\nfête de,,gregorian julian\ndivi,,gr\
+egorian julian\ndivae,,gregorian julian\nbeate,,gregorian julian\nsancte,,gregorian julian\nfesto,,gregorian julian\ni\
+n festo,,gregorian julian\nin die,day,gregorian julian\nS,,gregorian julian\nSankt,,gregorian julian\nsancti,,gregoria\
+n julian\nsanctae,,gregorian julian\nbeati,,gregorian julian\nbeatae,,gregorian julian\napostoli,,gregorian julian\napo\
+stolorum,,gregorian julian\nevangelistae,,gregorian julian\narchangeli,,gregorian julian\nten jare,year,\n\
 ";

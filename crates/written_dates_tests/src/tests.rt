@@ -43,7 +43,7 @@ Kal|K|roman
 Non|N|roman
 Id|I|roman
 pridie|2|roman
-an||
+an|year|
 er||
 den||
 le||
@@ -104,8 +104,12 @@ nd||
 de||
 e||
 du||
-anno||
-anno domini||
+anno|year|
+anno domini|year|
+roku|year|
+die|day|
+day|day|
+Tag des|day|
 ";
 
 /// The number that a text is, or 0.
@@ -164,6 +168,8 @@ fn meaning_of(text: &str) -> Meaning {
         "morrow" => Meaning::Relation(Relation::Morrow),
         "octave" => Meaning::Relation(Relation::Octave),
         "" => Meaning::Nothing,
+        "year" => Meaning::YearWord,
+        "day" => Meaning::DayWord,
         "K" => Meaning::Mark(Mark::Kalends),
         "N" => Meaning::Mark(Mark::Nones),
         "I" => Meaning::Mark(Mark::Ides),
@@ -794,8 +800,32 @@ primidi 20 Brumaire an VIII|=
 2 décadi Brumaire an VIII|=
 quintidi 5 jours complémentaires an VII|=
 5 jours complémentaires an VII|7-13-5
+12 Brumaire VIII an|=
 18 Brumaire an IIII|4-2-18
 18 Brumaire 1799|=
+#republican year refuse refuse day-of-mark
+18 Brumaire an VIII|8-2-18
+18 Brumaire an 8|8-2-18
+an 8 Brumaire 18|8-2-18
+8 Brumaire 18|8-2-18
+18.2. an 8|=
+#julian day refuse refuse day-of-mark
+die 3 Martii 1712|1712-3-3
+3 die Martii 1712|1712-3-3
+3 p. Trin. 1723|1723-6-30
+die 3 p. Trin. 1723|=
+3. Tag des Advent 1712|=
+3. Advent 1712|1712-12-14
+die Michaelis 1389|1389-9-29
+die Montag, 12. 5. 1806|=
+die Samstag, 12. 5. 1806|1806-5-12
+die 1806 Mai 12|=
+12 Mai 1806 roku|1806-5-12
+12 Mai roku 1806|1806-5-12
+12.5. anno 1806|1806-5-12
+12. Mai anno 6|
+anno 1712 Ostern|=
+Ostern anno 1712|1712-4-20
 #french day refuse refuse day-of-mark
 décadi 20 ventôse an 6|6-6-20
 primidi 20 ventôse an 6|=

@@ -52,13 +52,20 @@ function cellsOf(heading, row, isLeap) {
     : [[WORDS.calendars[name] || name, row[i], WORDS.inWords(name, row[i], isLeap)]]));
 }
 
+// Why a date is not read. A word that is not known is shown with the digits beside it, as in `18o6`.
+function stopWords({ reason, blamed, weekday }, text) {
+  if (reason !== null) return WORDS.dateStops[reason](blamed, WORDS.weekdays[weekday]);
+  const whole = text.split(/\s+/).find((part) => part.includes(blamed)) || blamed;
+  return /[0-9]/.test(whole) && /^[\p{L}0-9]+$/u.test(whole) ? WORDS.isNoNumber(whole) : WORDS.unknownInDate(blamed);
+}
+
 /** What is shown: a line, what kind of line it is, and the cells, each with its name and its date in words. */
 export function shown(state) {
   if (isEmpty(state)) return { line: WORDS.waits, kind: 'empty', cells: [] };
   if (!hasResult(state)) return { line: '', kind: 'empty', cells: [] };
   const { answer, fault, why } = state.result.reply;
   if (fault) return { line: WORDS.fault(why), kind: 'wrong', cells: [] };
-  const { ending, heading, row, written, isLeap, unknown = [] } = answer;
+  const { ending, heading, row, written, isLeap, stop } = answer;
   // The date as it was read, where that is not how it was typed.
   const read = written === state.choice.text.trim() ? '' : written;
   if (ending !== 0) {
@@ -67,7 +74,7 @@ export function shown(state) {
   const of = (name) => row[heading.indexOf(name)];
   const refusal = Number(of('refusal'));
   if (refusal) {
-    const why = unknown.length ? WORDS.unknownInDate(unknown) : WORDS.refusals[refusal - 1];
+    const why = stop ? stopWords(stop, state.choice.text) : WORDS.refusals[refusal - 1];
     const reason = refusal === TOO_LONG ? WORDS.isTooLong : why;
     return { line: WORDS.isNoDay(reason, read), kind: 'wrong', cells: [] };
   }

@@ -510,6 +510,13 @@ export function sheetOrder(state) {
   return { choices, chosen: String(sorted.place), words };
 }
 
+// How many dates stay as they are written, and why.
+function keptDates({ stopped, reasons }) {
+  const counts = [...(stopped ? [WORDS.keptByNames(stopped)] : []),
+    ...Object.entries(reasons).flatMap(([reason, n]) => (n === 0 ? [] : [WORDS.keptFor[reason](n)]))];
+  return counts.length === 0 ? [] : [WORDS.keptDates(counts)];
+}
+
 /** What is shown of a conversion that ended, or null. */
 export function sheetReport(state) {
   const run = sheet.shownRun(state);
@@ -522,7 +529,8 @@ export function sheetReport(state) {
   const ofEach = names.map((it, k) => [it, refused[k], empty[k]]), said = rows - blank;
   const words = names.length === 1 ? WORDS.whole(said, refused[0], empty[0]) : WORDS.wholeSheet(said, ofEach);
   return {
-    title, number: 0, kind: 'done', words, advice: [], counts: dateCountRows(state, counts, names), countsOf: 'dates',
+    title, number: 0, kind: 'done', words, advice: keptDates(answer), counts: dateCountRows(state, counts, names),
+    countsOf: 'dates',
     tables: [joinedTable(WORDS.sheetJoined(first.rows.length), first, names, run.picks),
       ...refusedDatesTable(answer, run.picks, names)],
     links: [{ words: WORDS.save(name, WORDS.bytes(table.size)), blob: table, name, isTable: true },

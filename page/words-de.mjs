@@ -70,8 +70,31 @@ export const WORDS = {
   readAs: (read) => (read === '' ? '' : `; gelesen als \`${read}\``),
   dateInWords: 'Auch Datumsangaben in Worten werden gelesen, und Zahlen mit dem Tag zuerst: `30. November 1699`, ' +
     '`30.11.1699`, `15 Ventôse an VI`.',
-  unknownInDate: (words) => (words.length === 1 ? `„${words[0]}“ ist in einem solchen Datum unbekannt`
-    : `in einem solchen Datum unbekannt: ${words.map((it) => `„${it}“`).join(', ')}`),
+  unknownInDate: (word) => `„${word}“ ist in einem solchen Datum unbekannt`,
+  isNoNumber: (word) => `„${word}“ ist keine Zahl`,
+  dateStops: {
+    noCalendar: () => 'kein Kalender',
+    character: () => 'darin steht ein Zeichen, das kein Datum hat',
+    minus: () => 'ein Strich vor einer Zahl kann ein Minus sein',
+    otherWeekday: (date, weekday) =>
+      (weekday === undefined ? `es nennt ${date}, das es in seinem Kalender nicht gibt` : `${date} war ein ${weekday}`),
+    noDay: () => 'der Tag fehlt',
+    noYear: () => 'das Jahr fehlt',
+    noSuchYear: () => 'ein solches Jahr hatte die Republik nicht',
+    noDate: () => WORDS.refusals[4],
+  },
+  keptDates: (counts) => `Unverändert bleiben Datumsangaben: ${counts.join('; ')}.`,
+  keptByNames: (n) => (n === 1 ? '1 mit einem unbekannten Namen' : `${n} mit unbekannten Namen`),
+  keptFor: {
+    noCalendar: (n) => `${n} ohne Kalender`,
+    character: (n) => `${n} mit einem Zeichen, das kein Datum hat`,
+    minus: (n) => `${n} mit einem Strich vor einer Zahl, der ein Minus sein kann`,
+    otherWeekday: (n) => `${n} mit einem anderen Wochentag`,
+    noDay: (n) => `${n} ohne Tag`,
+    noYear: (n) => `${n} ohne Jahr`,
+    noSuchYear: (n) => `${n} mit einem Jahr, das die Republik nicht hatte`,
+    noDate: (n) => (n === 1 ? '1, das es in seinem Kalender nicht gibt' : `${n}, die es in ihren Kalendern nicht gibt`),
+  },
   isTooLong: `das Datum hat über ${date} Byte`,
   noCell: 'vor seinem ersten Tag',
   calendars: {

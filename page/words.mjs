@@ -66,8 +66,33 @@ export const WORDS = {
   readAs: (read) => (read === '' ? '' : `; read as \`${read}\``),
   dateInWords: 'Dates in words are read too, and numbers with the day first: `30. November 1699`, `30.11.1699`, ' +
     '`15 Ventôse an VI`.',
-  unknownInDate: (words) => (words.length === 1 ? `“${words[0]}” is not known in such a date`
-    : `these are not known in such a date: ${words.map((it) => `“${it}”`).join(', ')}`),
+  unknownInDate: (word) => `“${word}” is not known in such a date`,
+  isNoNumber: (word) => `“${word}” is no number`,
+  dateStops: {
+    noCalendar: () => 'no calendar',
+    character: () => 'a character stands in it that no date has',
+    minus: () => 'a dash before a number may be a minus',
+    otherWeekday: (date, weekday) =>
+      (weekday === undefined ? `it says ${date}, which its calendar does not have` : `${date} was a ${weekday}`),
+    noDay: () => 'it has no day',
+    noYear: () => 'it has no year',
+    noSuchYear: () => 'the Republic had no such year',
+    noDate: () => WORDS.refusals[4],
+  },
+  keptDates: (counts) => `Dates that stay as they are written: ${counts.join('; ')}.`,
+  keptByNames: (n) => (n === 1 ? '1 has a name that is not known' : `${n} have names that are not known`),
+  keptFor: {
+    noCalendar: (n) => (n === 1 ? '1 has no calendar' : `${n} have no calendar`),
+    character: (n) => (n === 1 ? '1 has a character that no date has' : `${n} have a character that no date has`),
+    minus: (n) => (n === 1 ? '1 has a dash before a number, which may be a minus'
+      : `${n} have a dash before a number, which may be a minus`),
+    otherWeekday: (n) => (n === 1 ? '1 names another weekday' : `${n} name another weekday`),
+    noDay: (n) => (n === 1 ? '1 has no day' : `${n} have no day`),
+    noYear: (n) => (n === 1 ? '1 has no year' : `${n} have no year`),
+    noSuchYear: (n) => (n === 1 ? '1 has a year that the Republic did not have'
+      : `${n} have years that the Republic did not have`),
+    noDate: (n) => (n === 1 ? '1 is no date of its calendar' : `${n} are no dates of their calendars`),
+  },
   isTooLong: `the date is over ${date} bytes`,
   noCell: 'before its first day',
   calendars: {

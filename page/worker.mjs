@@ -2,10 +2,10 @@
 
 import { TooLarge, archiveOf } from './archive.mjs';
 import { CALENDARS, TARGETS } from './calendars.mjs';
-import { choicesOf, columnNumbers, noPicks, numbersOf as numbersOfChoice } from './choices.mjs';
+import { choicesOf, columnNumbers } from './choices.mjs';
 import { ChangedFile, NoReading, checkUnchanged, readFile } from './files.mjs';
 import { formulasAmong, mayHaveFormula } from './formulas.mjs';
-import { NO_DAY, NoMemory, expectedLength, instantiate } from './module.mjs';
+import { NO_DAY, NoMemory, REASONS, expectedLength, instantiate } from './module.mjs';
 import {
   isAnsel, isDelimiterOf, isIbmPc, isJson, isObject, isTree, kindOf, likelyAbove, likelyDelimiter, likelyEncodings, markedEncoding,
 } from './proposals.mjs';
@@ -88,7 +88,7 @@ async function date({ compiled, calendar, text }) {
   const { heading, rows: [row] } = new Table(module, table, COMMA).firstRows();
   const isRead = Number(row[heading.indexOf('refusal')]) !== NOT_WRITTEN;
   return { ending, written, heading, row, isLeap: hasThirteenMonths(module, row[heading.indexOf('hebrew')]),
-    unknown: isRead ? [] : unknownOfDate(module, calendar, text) };
+    stop: isRead ? null : stopOfDate(module, calendar, text) };
 }
 
 // Whether the year of a Hebrew date has thirteen months, as the module knows it.
@@ -99,12 +99,21 @@ function hasThirteenMonths(module, hebrew) {
   return module.convert(last, { columns: [], delimiter: COMMA, sealed: false }, FRONT).refused === 0;
 }
 
-// The words of a date that are not known, as a sheet of this date alone has them.
-function unknownOfDate(module, calendar, text) {
-  const choice = numbersOfChoice({ delimiter: COMMA, above: 0 },
-    { ...noPicks(), dates: [{ date: '0', calendar }], order: 'day', short: 'keep', hebrew: 'keep' });
-  const { ending, list } = module.unknownNames(module.write(['date', text], 1, COMMA), choice, NAMES, SHOWN);
-  return ending === 0 ? module.pick(list, COMMA, [0], EVERY).fields.slice(1) : [];
+// Why a date is not read: a reason, or null for a name that is not known; what is to blame; and the weekday of the date
+// that the text says beside another one.
+function stopOfDate(module, calendar, text) {
+  const { stop, blamed } = module.dateStop(text, CALENDARS.indexOf(calendar), NAMES);
+  if (stop === 0) return null;
+  const reason = REASONS[stop - 1] || null;
+  return { reason, blamed, weekday: reason === 'otherWeekday' ? weekdayOf(module, calendar, blamed) : '' };
+}
+
+// The weekday of a date as registers have it; empty where its calendar does not have it.
+function weekdayOf(module, calendar, date) {
+  const register = module.write(['id', 'calendar', 'date', '1', calendar, date], 3, COMMA);
+  const { table } = module.convert(register, { columns: [], delimiter: COMMA, sealed: false }, FRONT);
+  const { heading, rows: [row] } = new Table(module, table, COMMA).firstRows();
+  return row[heading.indexOf('weekday')];
 }
 
 // ---- A register ----
@@ -609,11 +618,11 @@ async function convertSheet({ choice, places, columns, names, heading, records, 
   const told = isTold ? await blobOf(module, text) : null;
   if (told) tell({ text: told });
   const dates = places.length, behind = behindOf(dates, columns), guess = expectedLength(text.length, records, behind);
-  const { ending, rows, refused, table } =
+  const { ending, rows, refused, table, stopped, reasons } =
     module.convertSheet(text, choice, columnNumbers(columns), namesWith(names), guess);
   await checkUnchanged(read.file, read.bytesAt);
   const whole = { ending, rows, refused: refused.slice(0, dates), first: null, refusedDates: [], counts: [], table: null,
-    empty: range(dates).map(() => 0), blank: 0 };
+    empty: range(dates).map(() => 0), blank: 0, stopped, reasons };
   if (ending !== 0) return whole;
   const first = firstJoined(module, table, delimiter, above, behind), { own: width } = first;
   const found = foundOf(read, table, { above, dates, places, own: width, rows }, refused, columns.length + 1);

@@ -2,6 +2,7 @@
 
 ghost use Rattle.std.specs.Prelude.{◌≡◌, ◌++◌, ◌∷◌, [], ◌==◌, IfErr, IfOk, OnOk, false, if◌then◌else◌};
 ghost use Rattle.std.specs.Fmt.{decimal};
+ghost use Rattle.sheet_app.specs.Lines.{line_of_dates as dates_line};
 ghost use Rattle.sheet_app.specs.Lines.{fault_text, head_of, kept_lines, lines_on, missing_lines, more_line, other_lines};
 ghost use Rattle.sheet_app.specs.Lines.{reason_line, reason_lines, reason_words, short_line, sign_lines, stopped_line};
 ghost use Rattle.sheet_app.specs.Lines.{summary_line};
@@ -144,6 +145,25 @@ fn words_of(reason: Reason) -> (&'static [u8], &'static [u8])
     }
 }
 
+/// Reports so many dates of a sheet, if there are some: in these words for one of them, and in those for more.
+fn report_dates<E: Output>(
+    alloc: Global,
+    errors: &mut E,
+    name: &str,
+    count: u64,
+    one: &[u8],
+    more: &[u8],
+) -> bool
+    ensures line { Says E.Output errors.old errors.new result (dates_line one.now more.now name.now count) }
+    ensures mark { E.own_mark errors.new ≡ E.own_mark errors.old }
+{
+    if count == 0 {
+        return true;
+    }
+    let line = line_of_dates(alloc, name, count, one, more);
+    send_line(errors, line)
+}
+
 /// Reports the dates of a sheet that were stopped by names that are not known, if there are some.
 fn report_stopped<E: Output>(alloc: Global, errors: &mut E, name: &str, count: u64) -> bool
     ensures line { Says E.Output errors.old errors.new result (stopped_line name.now count) }
@@ -192,11 +212,8 @@ fn report_reason<E: Output>(
     ensures mark { E.own_mark errors.new ≡ E.own_mark errors.old }
 {
     let count = counts.count(reason);
-    if count == 0 {
-        return true;
-    }
     let (one, more) = words_of(reason);
-    send_line(errors, line_of_dates(alloc, name, count as u64, one, more))
+    report_dates(alloc, errors, name, count as u64, one, more)
 }
 
 /// Reports the dates of a sheet that say too little.

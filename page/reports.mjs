@@ -511,7 +511,7 @@ export function sheetOrder(state) {
 }
 
 // How many dates stay as they are written, and why.
-function keptDates({ stopped, reasons }) {
+function keptDates({ stopped = 0, reasons = {} }) {
   const counts = [...(stopped ? [WORDS.keptByNames(stopped)] : []),
     ...Object.entries(reasons).flatMap(([reason, n]) => (n === 0 ? [] : [WORDS.keptFor[reason](n)]))];
   return counts.length === 0 ? [] : [WORDS.keptDates(counts)];

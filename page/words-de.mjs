@@ -504,7 +504,7 @@ export const WORDS = {
   dayFirst: 'der Tag zuerst, wie `30.11.1699` oder `30/11/1699`',
   monthFirst: 'der Monat zuerst, wie `11/30/1699`',
   dayOrderIs: 'Ein Monat mit Namen wird in jeder Reihenfolge gelesen, `30. November 1699`, `Nov. 30, 1699`, wenn das Jahr mehr als ' +
-    'zwei Ziffern hat. Sonst legt diese Einstellung fest, welche Zahl das Jahr ist: bei `15 Ventôse an VI` steht der Tag zuerst.',
+    'zwei Ziffern hat. Sonst legt diese Einstellung fest, welche Zahl das Jahr ist: bei `15 Ventôse 6` steht der Tag zuerst.',
   short: 'Ein- und zweistellige Jahre',
   shortIs: 'In gregorianischen und julianischen Datumsangaben, wie `12.5.82`.',
   shortRules: { refuse: 'solche Datumsangaben weglassen', keep: 'wie geschrieben: 82 ist das Jahr 82' },

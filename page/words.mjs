@@ -479,7 +479,7 @@ export const WORDS = {
   dayFirst: 'day first, as `30.11.1699` or `30/11/1699`',
   monthFirst: 'month first, as `11/30/1699`',
   dayOrderIs: 'A month by its name is read in any order, `30. November 1699`, `Nov. 30, 1699`, where the year has more than ' +
-    'two digits. Else this choice says which number is the year: for `15 Ventôse an VI` the day stands first.',
+    'two digits. Else this choice says which number is the year: for `15 Ventôse 6` the day stands first.',
   short: 'Years of one or two digits',
   shortIs: 'Of Gregorian and Julian dates, as `12.5.82`.',
   shortRules: { refuse: 'leave such dates out', keep: 'as written: 82 is the year 82' },

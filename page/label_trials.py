@@ -258,7 +258,7 @@ class LabelTrials:
         self.is_saved("by keys")
 
     def try_print(self):
-        """What is printed is no wider than the paper, and has tables alone."""
+        """What is printed fits on a sheet, and is tables alone."""
         self.open()
         head, row = ",".join(f"Spalte mit Namen {i}" for i in range(14)), ",".join(["ein Wort und noch eines"] * 13)
         self.sheet(self.file("wide.csv", f"D,{head}\n1700-1-1,{row},x\n1700-2-30,{row},y\n"), "utf-8", 44, -1, "julian", 0)

@@ -52,11 +52,11 @@ function cellsOf(heading, row, isLeap) {
     : [[WORDS.calendars[name] || name, row[i], WORDS.inWords(name, row[i], isLeap)]]));
 }
 
-// Why a date is not read. A word that is not known is shown with the digits beside it, as in `18o6`.
+// Why a date is not read: letters between digits, as in `18o6`, are told first where nothing else is known of it.
 function stopWords({ reason, blamed, weekday }, text) {
-  if (reason !== null) return WORDS.dateStops[reason](blamed, WORDS.weekdays[weekday]);
-  const whole = text.split(/\s+/).find((part) => part.includes(blamed)) || blamed;
-  return /[0-9]/.test(whole) && /^[\p{L}0-9]+$/u.test(whole) ? WORDS.isNoNumber(whole) : WORDS.unknownInDate(blamed);
+  const mixed = /[0-9]+\p{L}+[0-9]+/u.exec(text);
+  if (mixed !== null && (reason === null || reason === 'noDate')) return WORDS.isNoNumber(mixed[0]);
+  return reason === null ? WORDS.unknownInDate(blamed) : WORDS.dateStops[reason](blamed, WORDS.weekdays[weekday]);
 }
 
 /** What is shown: a line, what kind of line it is, and the cells, each with its name and its date in words. */

@@ -257,8 +257,12 @@ function missing(items) {
   return hasNoDay || form === "n" && isLong(items[0]) ? "no day" : "no date";
 }
 
+// A Gregorian or Julian year in words is written whole.
+const isHalfYear = (year, calendar) => CHURCHES.includes(calendar) && year.isNamed === true && year.value < 100;
+
 // The date that a reading names, if all weekdays and days of decades in the text are its.
 function dated(text, calendar, choice, items, { rule, year: number, find }) {
+  if (isHalfYear(number, calendar)) return stays(text, "no date");
   const year = byYear(number, choice, calendar);
   if (year === null) return stays("", "short year");
   if (REPUBLICAN.includes(calendar) && year > 99) return stays(text, "no such year");

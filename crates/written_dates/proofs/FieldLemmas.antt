@@ -92,7 +92,8 @@ pub twofold_here : (names : List CalendarName) (at : ℕ) (name : CalendarName) 
     → first_twofold at (map entry (drop at names)) ≡ Some at
 twofold_here names at name there has = rw (there, has) refl
 
-pub twofold_later : (names : List CalendarName) (at : ℕ) (name : CalendarName) → drop at names ≡ name ∷ drop (at + 1) names
+pub twofold_later : (names : List CalendarName) (at : ℕ) (name : CalendarName)
+    → drop at names ≡ name ∷ drop (at + 1) names
     → list_any (is_other (entry name)) (map entry (drop (at + 1) names)) ≡ false
     → first_twofold (at + 1) (map entry (drop (at + 1) names)) ≡ first_twofold at (map entry (drop at names))
 twofold_later names at name there has = rw (there, has) refl

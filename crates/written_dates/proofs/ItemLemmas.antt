@@ -44,7 +44,8 @@ and_false : (b : Bool) → (b && false) ≡ false
 and_false true = refl
 and_false false = refl
 
-not_all : (p : ℕ → Bool) (xs : List ℕ) (i : ℕ) → i < length xs → p (get_or xs i 0) ≡ false → list_all p xs ≡ false
+not_all : (p : ℕ → Bool) (xs : List ℕ) (i : ℕ) → i < length xs → p (get_or xs i 0) ≡ false
+    → list_all p xs ≡ false
 not_all p [] i h none = absurd (omega arith)
 not_all p (x ∷ xs) zero h none = rw none refl
 not_all p (x ∷ xs) (suc i) h none = rw (not_all p xs i (omega arith) none) (and_false (p x))

@@ -76,8 +76,10 @@ skip_by : {A : Type 0} (f : List Name → A) (k : ℕ) (names : List Name)
     → f (drop (ahead k names) names) ≡ f names
 skip_by f k [] out = refl
 skip_by f k (name ∷ names) out =
-    let skip : (x : Bool) → (key name == k) ≡ x → f (drop (cond x 0 (suc (ahead k names))) (name ∷ names)) ≡ f (name ∷ names)
-    = λ x. elim x as (λ x. (key name == k) ≡ x → f (drop (cond x 0 (suc (ahead k names))) (name ∷ names)) ≡ f (name ∷ names)) [
+    let skip : (x : Bool) → (key name == k) ≡ x
+    → f (drop (cond x 0 (suc (ahead k names))) (name ∷ names)) ≡ f (name ∷ names)
+    = λ x. elim x as (λ x. (key name == k) ≡ x
+    → f (drop (cond x 0 (suc (ahead k names))) (name ∷ names)) ≡ f (name ∷ names)) [
       | true ↦ λ e. refl
       | false ↦ λ e. skip_by f k names out ∙ sym (out name names e)
     ] in
@@ -99,7 +101,8 @@ skip f k names from out =
 has_key_by : (k : ℕ) (names : List Name) (name : Name) → slice_get names (ahead k names) ≡ Some name → key name ≡ k
 has_key_by k [] name e = absurd (cc)
 has_key_by k (first ∷ names) name e =
-    let found : (x : Bool) → (key first == k) ≡ x → slice_get (first ∷ names) (cond x 0 (suc (ahead k names))) ≡ Some name
+    let found : (x : Bool) → (key first == k) ≡ x
+    → slice_get (first ∷ names) (cond x 0 (suc (ahead k names))) ≡ Some name
     → key name ≡ k
     = λ x. elim x as (λ x. (key first == k) ≡ x → slice_get (first ∷ names) (cond x 0 (suc (ahead k names))) ≡ Some name
     → key name ≡ k) [
@@ -136,7 +139,8 @@ no_name_at = record {
   calendars = record { held = [] };
 }
 
-pub some_at : (names : List Name) (place : ℕ) → place < length names → (name : Name) × (slice_get names place ≡ Some name)
+pub some_at : (names : List Name) (place : ℕ) → place < length names
+    → (name : Name) × (slice_get names place ≡ Some name)
 some_at [] place h = absurd (omega arith)
 some_at (name ∷ names) zero h = (name, refl)
 some_at (name ∷ names) (suc place) h = some_at names place (omega arith)
@@ -163,7 +167,8 @@ one_first text calendar best name names =
     let first : (x : Bool) → longest text best (cond x (name ∷ names_in calendar names) (names_in calendar names))
     ≡ longest text (longest text best (cond x (name ∷ []) [])) (names_in calendar names)
     = λ x. elim x as (λ x. longest text best (cond x (name ∷ names_in calendar names) (names_in calendar names))
-    ≡ longest text (longest text best (cond x (name ∷ []) [])) (names_in calendar names)) [ true ↦ refl | false ↦ refl ] in
+    ≡ longest text (longest text best (cond x (name ∷ []) [])) (names_in calendar names))
+    [ true ↦ refl | false ↦ refl ] in
     first (holds calendar name)
 
 pub next_same : (text : List Piece) (calendar : Calendar) (best better : ℕ × Meaning) (names : List Name) (place next : ℕ)
@@ -179,7 +184,8 @@ next_same text calendar best better names place next name there is keyed at =
 -- ---- the index grows from the back
 pub indexed_more : (names : List Name) (firsts nexts : List ℕ) (from place k next : ℕ) (name : Name)
     → slice_get names from ≡ Some name → k ≡ key name → k < 16384 → next ≡ get_or firsts k 0
-    → place ≡ from + 1 → IsIndexed names firsts nexts place → IsIndexed names (set firsts k from) (set nexts from next) from
+    → place ≡ from + 1 → IsIndexed names firsts nexts place
+    → IsIndexed names (set firsts k from) (set nexts from next) from
 indexed_more names firsts nexts from place k next name there is few at before g = record {
   keys = length-set firsts k from ∙ h.keys;
   as_many = length-set nexts from next ∙ h.as_many;
@@ -192,7 +198,8 @@ indexed_more names firsts nexts from place k next name there is few at before g 
   here : drop from names ≡ name ∷ drop (from + 1) names
   here = at_place names from name there
 
-  first_by : (j : ℕ) → j < 16384 → (x : Bool) → (key name == j) ≡ x → get_or (set firsts k from) j 0 ≡ place_from j names from
+  first_by : (j : ℕ) → j < 16384 → (x : Bool) → (key name == j) ≡ x
+      → get_or (set firsts k from) j 0 ≡ place_from j names from
   first_by j less true e =
       let same : j ≡ k = (let s : key name ≡ j = grind (arith, nat_tests) in omega (arith, s, is)) in
       let got : get_or (set firsts k from) j 0 ≡ from
@@ -211,7 +218,8 @@ indexed_more names firsts nexts from place k next name there is few at before g 
       let same : place ≡ from = grind (arith, nat_tests) in
       let within : from < length nexts = omega (arith, slice_get_within names from name there, h.as_many) in
       let one : other ≡ name = (let got : slice_get names from ≡ Some other = rw (← same) e in cc) in
-      rw (same, one) (get_or-set_same nexts from next 0 within ∙ at ∙ h.first k few ∙ ap (λ j. place_from j names (from + 1)) is)
+      rw (same, one)
+      (get_or-set_same nexts from next 0 within ∙ at ∙ h.first k few ∙ ap (λ j. place_from j names (from + 1)) is)
   next_by place other least e false t =
       let differ : place ≢ from = λ s. (let yes : (place == from) ≡ true = grind (arith, nat_tests) in cc) in
       get_or-set_other nexts from place next 0 differ ∙ h.next place other (omega (arith, differ)) e

@@ -112,9 +112,11 @@ long_kept choice Hebrew year long = grind (arith, nat_tests)
 long_kept choice _ year long = refl
 
 digits_by : (b : Bool) (value : ℕ) (text : List ℕ) (year : Number)
-    → cond b (Some (record { value = value; digits = length text; named = false; year = false; day = false })) None ≡ Some year → length text ≡ year.digits
+    → cond b (Some (record { value = value; digits = length text; named = false; year = false; day = false })) None
+    ≡ Some year → length text ≡ year.digits
 digits_by true value text year e =
-    let same : record { value = value; digits = length text; named = false; year = false; day = false } ≡ year = cc in ap (λ (n : Number). n.digits) same
+    let same : record { value = value; digits = length text; named = false; year = false; day = false } ≡ year
+    = cc in ap (λ (n : Number). n.digits) same
 digits_by false value text year e = absurd (cc)
 
 digits_counted : (text : List ℕ) (year : Number) → number_of_digits text ≡ Some year → length text ≡ year.digits

@@ -81,10 +81,12 @@ sink_lower c (d ∷ ds) =
     elim (cases_Bool (is_reorderable c d)) [
       | inl past ↦
           ap str_to_ascii_lowercase (sink-past c d ds past) ∙ ap (λ l. to_ascii_lowercase d ∷ l) (sink_lower c ds)
-          ∙ sym (sink-past (to_ascii_lowercase c) (to_ascii_lowercase d) (str_to_ascii_lowercase ds) (reorder_lower c d ∙ past))
+          ∙ sym (sink-past (to_ascii_lowercase c) (to_ascii_lowercase d) (str_to_ascii_lowercase ds)
+          (reorder_lower c d ∙ past))
       | inr stays ↦
           ap str_to_ascii_lowercase (sink-stays c d ds stays)
-          ∙ sym (sink-stays (to_ascii_lowercase c) (to_ascii_lowercase d) (str_to_ascii_lowercase ds) (reorder_lower c d ∙ stays))
+          ∙ sym (sink-stays (to_ascii_lowercase c) (to_ascii_lowercase d) (str_to_ascii_lowercase ds)
+          (reorder_lower c d ∙ stays))
     ]
 
 order_lower : (cs : List ℕ) → str_to_ascii_lowercase (canonical_order cs) ≡ canonical_order (str_to_ascii_lowercase cs)
@@ -160,7 +162,8 @@ lower_them (x ∷ xs) h = ap₂ ◌∷◌ (lower_large x (h.at 0 (omega arith)))
 encode_lower : (c : ℕ) → str_to_ascii_lowercase (encode_utf8 c) ≡ encode_utf8 (to_ascii_lowercase c)
 encode_lower c =
     elim (cases_lt c 128) [
-      | inl small ↦ ap str_to_ascii_lowercase (encode_ascii c small) ∙ sym (encode_ascii (to_ascii_lowercase c) (lower_small c small))
+      | inl small ↦ ap str_to_ascii_lowercase (encode_ascii c small)
+          ∙ sym (encode_ascii (to_ascii_lowercase c) (lower_small c small))
       | inr large ↦ lower_them (encode_utf8 c) (large_bytes c large) ∙ ap encode_utf8 (sym (lower_large c large))
     ]
 
@@ -234,7 +237,8 @@ one_part front c is e =
       | inr large ↦ subst IsUtf8 (sym (only_they front (encode_utf8 c) e (large_bytes c large))) (IsUtf8-encode c is)
     ]
 
-utf8_back : (ds word : List ℕ) → all_scalars ds ≡ true → str_to_ascii_lowercase word ≡ encode_utf8_all ds → IsUtf8 word
+utf8_back : (ds word : List ℕ) → all_scalars ds ≡ true → str_to_ascii_lowercase word ≡ encode_utf8_all ds
+    → IsUtf8 word
 utf8_back [] [] are e = IsUtf8-nil
 utf8_back [] (x ∷ word) are e = absurd (cc)
 utf8_back (d ∷ ds) word are e =
@@ -251,7 +255,8 @@ is_utf8_lower word =
     (λ e. is_utf8-from_IsUtf8 (str_to_ascii_lowercase word) (utf8_lower word (IsUtf8-from_is_utf8 word e)))
 
 -- ---- words
-by_text : (x y z : Bool) (a b c d : Bool) → x ≡ y → (y ≡ true → (a ≡ c) × (b ≡ d)) → ((x && a) && b) ≡ ((y && c) && d)
+by_text : (x y z : Bool) (a b c d : Bool) → x ≡ y → (y ≡ true → (a ≡ c) × (b ≡ d))
+    → ((x && a) && b) ≡ ((y && c) && d)
 by_text x true z a b c d e h = rw (e, (h refl).0, (h refl).1) refl
 by_text x false z a b c d e h = rw e refl
 

@@ -19,4 +19,5 @@ pub mod UseLemmas
 pub mod LawLemmas
 pub mod MinusLemmas
 pub mod ReadLawLemmas
+pub mod WeekdayLawLemmas
 pub mod NameLawLemmas

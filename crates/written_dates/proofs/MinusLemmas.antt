@@ -50,7 +50,8 @@ letters_part false true = refl
 letters_part false false = refl
 
 not_between : (c : ℕ) → (c == 32) ≡ false → (c == 9) ≡ false → (c == 10) ≡ false → (c == 13) ≡ false
-    → (c == 45) ≡ false → (c == 44) ≡ false → (c == 46) ≡ false → (c == 47) ≡ false → is_between (kind_of c) ≡ false
+    → (c == 45) ≡ false → (c == 44) ≡ false → (c == 46) ≡ false → (c == 47) ≡ false
+    → is_between (kind_of c) ≡ false
 not_between c a b d f g i j k = rw (a, b, d, f, g, i, j, k) (letters_part _ _)
 
 low_if : (b : Bool) (c : ℕ) → nat_le 128 c ≡ b → is_between (kind_of c) ≡ true → c < 128
@@ -87,7 +88,8 @@ no_join Digit = refl
 no_join Letter = refl
 no_join _ = refl
 
-alone_in_front : (p q : Piece) (rest : List Piece) → joins p.kind q.kind ≡ false → in_front p (q ∷ rest) ≡ p ∷ q ∷ rest
+alone_in_front : (p q : Piece) (rest : List Piece) → joins p.kind q.kind ≡ false
+    → in_front p (q ∷ rest) ≡ p ∷ q ∷ rest
 unfolding in_front
 alone_in_front p q rest h = rw h refl
 

@@ -21,7 +21,8 @@ abbrev better : List Piece → ℕ × Meaning → Name → ℕ × Meaning
 better text best name =
     of_two (stands (parts name.text.now) text && nat_lt best.0 (size name)) (size name, name.meaning) best
 
-no_worse_by : (best name : ℕ × Meaning) (s t : Bool) → nat_lt best.0 name.0 ≡ t → best.0 ≤ (of_two (s && t) name best).0
+no_worse_by : (best name : ℕ × Meaning) (s t : Bool) → nat_lt best.0 name.0 ≡ t
+    → best.0 ≤ (of_two (s && t) name best).0
 no_worse_by best name false t e = omega arith
 no_worse_by best name true true e = let less : best.0 < name.0 = grind (arith, nat_tests) in omega arith
 no_worse_by best name true false e = omega arith

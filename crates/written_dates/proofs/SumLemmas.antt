@@ -60,7 +60,8 @@ some_summed x [] = omega arith
 some_summed x (y ∷ rest) = some_by x y (joined_item x y) (λ z. summed_from z rest) (λ z. some_summed z rest)
 
 pub none_first : (old new found : List Item) (item : Item) (rest : List Item) → old ≡ new ++ []
-    → (0 < length old → false ≡ true) → found ≡ new ++ item ∷ [] → resumed old (item ∷ rest) ≡ resumed found rest
+    → (0 < length old → false ≡ true) → found ≡ new ++ item ∷ []
+    → resumed old (item ∷ rest) ≡ resumed found rest
 none_first [] new found item rest was none is =
     let empty : new ≡ [] = sym (was ∙ append-nil new) in rw (is, empty) (first_resumed item rest)
 none_first (x ∷ xs) new found item rest was none is = absurd (true≢false (sym (none (omega arith))))
@@ -138,7 +139,8 @@ summed_if true a c next rest h =
     h (Number (record { value = a.value + c.value; digits = 0; named = true; year = a.year; day = a.day })) ∙ omega arith
 summed_if false a c next rest h = ap (λ n. a.value + n) (h (Number c))
 
-year_if : (b : Bool) (a : Numeral) (next : Item → List Item) (rest : ℕ) → ((z : Item) → total (next z) ≡ value_of z + rest)
+year_if : (b : Bool) (a : Numeral) (next : Item → List Item) (rest : ℕ)
+    → ((z : Item) → total (next z) ≡ value_of z + rest)
     → Kept (cond b (Some (Number a)) None) (Number a) YearWord next rest
 year_if true a next rest h = h (Number a) ∙ omega arith
 year_if false a next rest h = ap (λ n. a.value + n) (h YearWord)

@@ -58,7 +58,8 @@ IsPlace-end chars c place e = rw e (record {
 split_at : (chars : List ℕ) (q : ℕ) → q < length chars → take (q + 1) chars ≡ take q chars ++ get_or chars q 0 ∷ []
 split_at [] q h = absurd (omega arith)
 split_at (x ∷ xs) zero h = refl
-split_at (x ∷ xs) (suc q) h = let e : suc q + 1 ≡ suc (q + 1) = omega arith in rw e (ap (λ l. x ∷ l) (split_at xs q (omega arith)))
+split_at (x ∷ xs) (suc q) h =
+    let e : suc q + 1 ≡ suc (q + 1) = omega arith in rw e (ap (λ l. x ∷ l) (split_at xs q (omega arith)))
 
 drop_at : (chars : List ℕ) (q : ℕ) → q < length chars → drop q chars ≡ get_or chars q 0 ∷ drop (q + 1) chars
 drop_at [] q h = absurd (omega arith)
@@ -109,7 +110,8 @@ ordered_in (x ∷ y ∷ ys) (suc (suc p)) c w o b last =
 
 pub IsPlace-found : (chars : List ℕ) (c place : ℕ) → IsPlace chars c place
     → ((q : ℕ) → place ≡ suc q → is_reorderable (get_or chars q 0) c ≡ false)
-    → (xs : List ℕ) → chars ≡ canonical_order xs → take place chars ++ c ∷ drop place chars ≡ canonical_order (xs ++ c ∷ [])
+    → (xs : List ℕ) → chars ≡ canonical_order xs
+    → take place chars ++ c ∷ drop place chars ≡ canonical_order (xs ++ c ∷ [])
 IsPlace-found chars c place h last xs e =
     let o : is_ordered chars ≡ true = ap is_ordered e ∙ is_ordered-canonical_order xs in
     sym (canonical_order-ordered _ (ordered_in chars place c h.within o (h.behind o) last)) ∙ h.same
@@ -123,7 +125,8 @@ in_parts (x ∷ xs) zero c h e = ap (λ y. y ∷ xs) (sym e)
 in_parts (x ∷ xs) (suc n) c h e =
     let s : suc n + 1 ≡ suc (n + 1) = omega arith in rw s (ap (λ l. x ∷ l) (in_parts xs n c (omega arith) e))
 
-pub one_more : (all : List ℕ) (n c : ℕ) → n < length all → c ≡ get_or all n c → take (n + 1) all ≡ take n all ++ c ∷ []
+pub one_more : (all : List ℕ) (n c : ℕ) → n < length all → c ≡ get_or all n c
+    → take (n + 1) all ≡ take n all ++ c ∷ []
 one_more [] n c h e = absurd (omega arith)
 one_more (x ∷ xs) zero c h e = ap (λ y. y ∷ []) (sym e)
 one_more (x ∷ xs) (suc n) c h e =
@@ -235,8 +238,10 @@ is_folded-longer word long = third_none (is_utf8 word) (is_short (nfd (chars wor
 pub is_folded-bytes : (word : List ℕ) → ¬ (IsUtf8 word) → is_folded word ≡ false
 unfolding is_folded
 is_folded-bytes word none =
-    let told : (x : Bool) → is_utf8 word ≡ x → ((x && is_short (nfd (chars word))) && is_short (canonical_key (chars word))) ≡ false
-    = λ x. elim x as (λ x. is_utf8 word ≡ x → ((x && is_short (nfd (chars word))) && is_short (canonical_key (chars word))) ≡ false) [
+    let told : (x : Bool) → is_utf8 word ≡ x
+    → ((x && is_short (nfd (chars word))) && is_short (canonical_key (chars word))) ≡ false
+    = λ x. elim x as (λ x. is_utf8 word ≡ x
+    → ((x && is_short (nfd (chars word))) && is_short (canonical_key (chars word))) ≡ false) [
       | true ↦ λ e. absurd (none (IsUtf8-from_is_utf8 word e))
       | false ↦ λ e. refl
     ] in
@@ -310,7 +315,8 @@ same_ascii r a b left right test =
     let of_b = folded-ascii b right in
     by_cases r (same_word a b)
     (λ e. (let same = test.0 e in
-    let long : length a ≡ length b = sym (length-map a to_ascii_lowercase) ∙ ap length same ∙ length-map b to_ascii_lowercase in
+    let long : length a ≡ length b
+    = sym (length-map a to_ascii_lowercase) ∙ ap length same ∙ length-map b to_ascii_lowercase in
     d.1 (is_folded-ascii a left ∙ ap (λ n. nat_le n 64) long ∙ sym (is_folded-ascii b right), of_a ∙ same ∙ sym of_b)))
     (λ e. test.1 (sym of_a ∙ (d.0 e).1 ∙ of_b))
 

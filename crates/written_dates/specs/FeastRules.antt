@@ -49,7 +49,8 @@ named year feast place = Some (record { year = year; feast = feast; place = plac
 abbrev pub numbered : Numeral → Numeral → Option Season → Option Naming
 numbered n year None = None
 numbered n year (Some season) =
-    if not (is_long n) && not n.day && nat_le n.value 255 then named year (feasts.Sunday season n.value) (places.Days (pos 0)) else None
+    if not (is_long n) && not n.day && nat_le n.value 255
+    then named year (feasts.Sunday season n.value) (places.Days (pos 0)) else None
 
 -- with a relation: the eve, the morrow or the octave of a feast; a weekday after or before it; or the Sunday of a number
 -- after it

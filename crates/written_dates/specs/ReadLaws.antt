@@ -5,7 +5,7 @@ use Rattle.std.specs.List.{filter, Contains}
 use Rattle.std.specs.List.Sorted.{IsPermutation}
 use Rattle.day_numbers.specs.declared.day.Weekday.{Weekday as NamedWeekday}
 use Rattle.date_texts.specs.declared.calendar.Calendar.{Calendar}
-use Rattle.date_texts.specs.declared.calendar.Calendar.TheVariants.{French, Republican}
+use Rattle.date_texts.specs.declared.calendar.Calendar.TheVariants.{Gregorian, Julian, French, Republican}
 use Rattle.church_year.specs.declared.feasts.Place.{Place}
 use Rattle.church_year.specs.declared.feasts.Season.{Season}
 use Rattle.church_year.specs.declared.feasts.Feast.TheVariants as feasts
@@ -145,6 +145,17 @@ YearWordsNameYears =
     (n : Numeral) → IsRead choice calendar names text found year month day → Contains found (Number n) → n.year ≡ true
     → (in_year : InYear)
     × (date_by_rule (short_rule choice calendar n) calendar n.value in_year ≡ Date year month day)
+
+abbrev pub IsOfChurch : Calendar → Type 0
+IsOfChurch calendar = (calendar ≡ Gregorian) ⊎ (calendar ≡ Julian)
+
+-- a Gregorian or Julian year by name is written whole: it is no number by name below 100
+abbrev pub NamedYearsAreWhole : Type 0
+NamedYearsAreWhole =
+    (choice : Choice) (calendar : Calendar) (names : List Name) (text : List ℕ) (found : List Item) (year month day : ℕ)
+    → IsOfChurch calendar → IsRead choice calendar names text found year month day
+    → (number : Numeral) × (in_year : InYear) × UsesAll found number in_year
+    × (number.named ≡ true → 100 ≤ number.value)
 
 -- a month by name is the month, wherever it stands
 abbrev pub MonthsAreMonths : Type 0

@@ -1,5 +1,5 @@
 -- What is written for a text: the rules of this project for dates as people write them.
-use Rattle.std.specs.Prelude.{ℕ, ◌+◌, Bool, true, not, ◌&&◌, ◌||◌, nat_le, nat_lt, if◌then◌else◌}
+use Rattle.std.specs.Prelude.{ℕ, ◌+◌, Bool, true, false, not, ◌&&◌, ◌||◌, nat_le, nat_lt, if◌then◌else◌}
 use Rattle.std.specs.Prelude.{List, [], ◌∷◌, ◌++◌, length, Option, Some, None}
 use Rattle.std.specs.Fmt.{decimal}
 use Rattle.std.specs.List.{list_all}
@@ -110,11 +110,23 @@ date_by_rule Refuse calendar year day = Refused
 date_by_rule Keep calendar year day = date_in calendar year day
 date_by_rule (Add more) calendar year day = date_in calendar (year + more) day
 
+-- a year by name is written whole: none below 100 is Gregorian or Julian
+abbrev pub is_half_year : Calendar → Number → Bool
+is_half_year Gregorian year = year.named && nat_lt year.value 100
+is_half_year Julian year = year.named && nat_lt year.value 100
+is_half_year calendar year = false
+
+-- a feast, where no church reckons
+abbrev pub lacks_church : Option Church → InYear → Bool
+lacks_church None (Feast feast place) = true
+lacks_church church day = false
+
 -- the date that a reading says
 abbrev pub date_of : Choice → Calendar → Option Reading → Answer
 date_of choice calendar None = Stays
 date_of choice calendar (Some (Civil year day)) =
-    date_by_rule (short_rule choice calendar year) calendar year.value day
+    if is_half_year calendar year || lacks_church (church_of calendar) day then Stays
+    else date_by_rule (short_rule choice calendar year) calendar year.value day
 date_of choice calendar (Some (Roman year month mark count)) = RomanDate year month mark count
 
 -- a weekday, or a day of a decade, that is named is that of the date

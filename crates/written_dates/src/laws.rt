@@ -2,10 +2,12 @@
 
 ghost use Rattle.written_dates.specs.Laws.{FoldedWordsMatch, LettersAreAlike};
 ghost use Rattle.written_dates.specs.Laws.{FoundIsLongest, FoundStands, MinusDatesStay, RegisterDatesStay};
-ghost use Rattle.written_dates.specs.ReadLaws.{WeekdaysAgree, WeekdaysOnlyTest, NumberedWeekdays, NothingIsLeftOver, LongNumbersAreYears};
+ghost use Rattle.written_dates.specs.ReadLaws.{WeekdaysAgree, WeekdaysOnlyTest, NumberedWeekdays, NothingIsLeftOver};
+ghost use Rattle.written_dates.specs.ReadLaws.{LongNumbersAreYears, NamedYearsAreWhole};
 ghost use Rattle.written_dates.specs.Stops.{OtherWeekdaysStop};
 ghost use Rattle.written_dates.specs.Sums.{SumsStay};
-ghost use Rattle.written_dates.specs.ReadLaws.{MonthsAreMonths, HyphensAreMinuses, MinusesAreNotRead, MinusesStay, YearsOfTheRepublic};
+ghost use Rattle.written_dates.specs.ReadLaws.{MonthsAreMonths, HyphensAreMinuses, MinusesAreNotRead, MinusesStay};
+ghost use Rattle.written_dates.specs.ReadLaws.{YearsOfTheRepublic};
 ghost use Rattle.written_dates.specs.ReadLaws.{DaysStandBehindMonths, RomanNumbersAreMonths, DecadeDaysAgree};
 ghost use Rattle.written_dates.specs.ReadLaws.{MixedSignsStay, DaysToDaysStay, YearWordsNameYears};
 
@@ -34,12 +36,14 @@ pub fn weekdays_agree()
 {}
 
 /// Each number and each month of a text of which a date is read is a part of this date; a number of four digits, or behind a
-/// word for year, is its year, and a month by name its month; behind a month the day stands before the year; a Roman number
-/// between two others is the month; and the French Republic had no year over 99.
+/// word for year, is its year, and a month by name its month; a Gregorian or Julian year by name is no number below 100;
+/// behind a month the day stands before the year; a Roman number between two others is the month; and the French Republic
+/// had no year over 99.
 pub fn nothing_is_left_over()
     ensures used { NothingIsLeftOver }
     ensures years { LongNumbersAreYears }
     ensures words { YearWordsNameYears }
+    ensures whole { NamedYearsAreWhole }
     ensures months { MonthsAreMonths }
     ensures days { DaysStandBehindMonths }
     ensures roman { RomanNumbersAreMonths }

@@ -61,11 +61,12 @@ fn missing_in(text: &[u8], names: &Names, calendar: Calendar) -> Stop
     }
 }
 
-fn stop_by(missing: Stop, answer: Answer) -> Option<Stop>
-    ensures { result ≡ by_spec missing answer }
+/// Why no date is read of a text for which this is found, without a character or a minus that stops it.
+fn stop_by(text: &[u8], names: &Names, calendar: Calendar, answer: Answer) -> Option<Stop>
+    ensures { result ≡ by_spec (missing_in_spec (found_items calendar names.now.listed.now text.now)) answer }
 {
     match answer {
-        Answer::Stays => Some(missing),
+        Answer::Stays => Some(missing_in(text, names, calendar)),
         Answer::NoSuchYear => Some(Stop::NoSuchYear),
         Answer::OtherWeekday(_, _, _) => Some(Stop::OtherWeekday),
         Answer::Refused => Some(Stop::ShortYear),
@@ -85,8 +86,12 @@ pub fn stop_of(text: &[u8], calendar: Calendar, names: &Names, choice: &Choice) 
     if minus || begins_with_dash(text) {
         return Some(Stop::Minus);
     }
-    let missing = missing_in(text, names, calendar);
-    stop_by(missing, answer_of(choice, calendar, names, text))
+    stop_by(
+        text,
+        names,
+        calendar,
+        answer_of(choice, calendar, names, text),
+    )
 }
 
 /// The year, the month and the day that a text says beside a weekday which is not theirs. The calendar may not have them.

@@ -13,8 +13,10 @@ ghost use Rattle.written_dates.specs.Written.{church_of as church_spec, feast_of
 ghost use Rattle.written_dates.specs.Written.{month_and_day as month_and_day_spec, has_year as has_year_spec};
 ghost use Rattle.written_dates.specs.Written.{date_in as date_in_spec, date_of as date_spec, agrees as agrees_spec};
 ghost use Rattle.written_dates.specs.Written.{if_agreed as agreed_spec, reading_by, items_answer as items_answer_spec};
+ghost use Rattle.written_dates.specs.Written.{is_half_year as half_spec, lacks_church as lacks_spec};
 ghost use Rattle.written_dates.specs.Written.{answer as answer_spec, answer_text};
 ghost use Rattle.church_year.specs.FeastDates.{feast_date_in};
+ghost use Rattle.written_dates.specs.declared.rules.Reading.TheVariants.{Civil};
 ghost use Rattle.written_dates.specs.Written.{written_by, written as written_spec};
 
 use crate::calendars::{Form, form_of};
@@ -246,17 +248,47 @@ fn date_in(calendar: Calendar, year: u64, day: InYear) -> Answer
     }
 }
 
+/// Whether a year stands by name and is not whole: none below 100 is Gregorian or Julian.
+fn is_half_year(calendar: Calendar, year: Number) -> bool
+    ensures { result ≡ half_spec calendar year }
+{
+    match calendar {
+        Calendar::Gregorian | Calendar::Julian => year.named && year.value < 100,
+        _ => false,
+    }
+}
+
+/// Whether a feast names a day where no church reckons.
+fn lacks_church(church: Option<Church>, day: InYear) -> bool
+    ensures { result ≡ lacks_spec church day }
+{
+    match day {
+        InYear::Feast(_, _) => church.is_none(),
+        _ => false,
+    }
+}
+
+/// The date of a year, and of a day that is named in it.
+fn civil_date(choice: &Choice, calendar: Calendar, year: Number, day: InYear) -> Answer
+    ensures { result ≡ date_spec choice.now calendar (Some (Civil year day)) }
+{
+    if is_half_year(calendar, year) || lacks_church(church_of(calendar), day) {
+        return Answer::Stays;
+    }
+    match short_rule(choice, calendar, year) {
+        Short::Refuse => Answer::Refused,
+        Short::Keep => date_in(calendar, year.value as u64, day),
+        Short::Add(more) => date_in(calendar, year.value as u64 + more as u64, day),
+    }
+}
+
 /// The date that a reading says.
 fn date_of(choice: &Choice, calendar: Calendar, reading: Option<Reading>) -> Answer
     ensures { result ≡ date_spec choice.now calendar reading }
 {
     match reading {
         None => Answer::Stays,
-        Some(Reading::Civil(year, day)) => match short_rule(choice, calendar, year) {
-            Short::Refuse => Answer::Refused,
-            Short::Keep => date_in(calendar, year.value as u64, day),
-            Short::Add(more) => date_in(calendar, year.value as u64 + more as u64, day),
-        },
+        Some(Reading::Civil(year, day)) => civil_date(choice, calendar, year, day),
         Some(Reading::Roman(year, month, mark, count)) => {
             Answer::RomanDate(year, month, mark, count)
         }

@@ -1,4 +1,5 @@
-use Rattle.written_dates.proofs.ReadLawLemmas.{decade_days_agree, weekdays_agree, weekdays_only_test, numbered_weekdays, other_weekdays_stop}
+use Rattle.written_dates.proofs.ReadLawLemmas.{decade_days_agree, weekdays_agree, weekdays_only_test}
+use Rattle.written_dates.proofs.WeekdayLawLemmas.{numbered_weekdays, other_weekdays_stop}
 use Rattle.written_dates.proofs.laws.weekdays_agree.Goals as goal
 
 pub returns-clause-agree : goal.returns-clause-agree

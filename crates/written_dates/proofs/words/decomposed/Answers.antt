@@ -17,7 +17,8 @@ returns-then-not-push_decomposed-clause-none c =
     let list = YieldsList-from_chars c.args.text.now c.utf8.text cc in
     let seen = YieldsList-so_far list c.chars.yielded _ c.chars.yielded_by in
     let turn = YieldsList-turn list c.chars.yielded _ c.chars.yielded_by _ _ _ c.in-Some.is c.next.ensures.steps in
-    let front : c.chars.yielded ≡ take (length c.chars.yielded) (chars c.args.text.now) = sym (map-id c.chars.yielded) ∙ seen in
+    let front : c.chars.yielded ≡ take (length c.chars.yielded) (chars c.args.text.now)
+    = sym (map-id c.chars.yielded) ∙ seen in
     too_long c.chars.out.items (chars c.args.text.now) (length c.chars.yielded) c.in-Some.c turn.0 turn.1
     (c.chars.invariant.same ∙ ap (λ l. canonical_order (flat_map decompose_canonical l)) front)
     (c.push_decomposed.ensures.full c.if-not-push_decomposed.true)

@@ -15,7 +15,8 @@ places-preserved c =
     = c.index-chars-place.is
     ∙ get_or_default_zero chars (c.places.place - 1) c.index-chars-place.result (omega (arith, c.places.invariant.within)) in
     let higher : ccc c.args.c < ccc (get_or chars (c.places.place - 1) 0) = omega (arith, ap ccc at) in
-    IsPlace-before c.args.chars.now c.args.c c.places.place (c.places.place - 1) (omega arith) (omega arith) higher c.places.invariant
+    IsPlace-before c.args.chars.now c.args.c c.places.place (c.places.place - 1) (omega arith) (omega arith) higher
+    c.places.invariant
 
 pub returns-else-class-canonical_combining_class-clause-ordered :
     goal.returns-else-class-canonical_combining_class-clause-ordered

@@ -19,7 +19,8 @@ pub names-preserved : goal.names-preserved
 names-preserved c =
     let names = c.args.self.now.listed.now in
     let other = get_or names c.names.other no_name_at in
-    let there : slice_get names c.names.other ≡ Some other = slice_get-get_or names c.names.other no_name_at c.names-test.true in
+    let there : slice_get names c.names.other ≡ Some other
+    = slice_get-get_or names c.names.other no_name_at c.names-test.true in
     let none : conflict c.args.name.now other ≡ false = sym c.conflict.ensures ∙ c.if-conflict.false in
     let keyed : key other ≡ key c.args.name.now = c.names.invariant.keyed other there in
     let at = c.next_behind-other-in-names.ensures.value other there in
@@ -33,7 +34,8 @@ pub returns-then-conflict : goal.returns-then-conflict
 returns-then-conflict c =
     let names = c.args.self.now.listed.now in
     let other = get_or names c.names.other no_name_at in
-    let there : slice_get names c.names.other ≡ Some other = slice_get-get_or names c.names.other no_name_at c.names-test.true in
+    let there : slice_get names c.names.other ≡ Some other
+    = slice_get-get_or names c.names.other no_name_at c.names-test.true in
     any_here c.args.name.now other names c.names.other there (sym c.conflict.ensures ∙ c.if-conflict.true)
     ∙ c.names.invariant.same
 

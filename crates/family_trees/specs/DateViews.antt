@@ -3,6 +3,7 @@ use Rattle.std.specs.Prelude.{ℕ, List, Option, map, option_map}
 use Rattle.std.specs.Borrow.{Bor}
 use Rattle.family_trees.specs.Lines.{TreeLine}
 use Rattle.family_trees.specs.LineViews.{line_seen}
+use Rattle.family_trees.specs.TextViews.{text_seen}
 use Rattle.family_trees.specs.Trees.{DateOfTree}
 use Rattle.family_trees.specs.declared.trees.Tree.{Tree}
 use Rattle.family_trees.specs.declared.dates.TreeDate.{TreeDate}
@@ -26,7 +27,7 @@ date_seen it =
       event = it.event.now;
       part = it.part.now;
       kind = it.kind.now;
-      place = it.place.now;
+      place = text_seen it.place;
       calendar = it.calendar.now;
       date = it.date.now;
     }

@@ -1,6 +1,7 @@
 pub mod Lines
 pub mod LineViews
 pub mod Trees
+pub mod TextViews
 pub mod TreeViews
 pub mod DateViews
 pub mod TreeSheets

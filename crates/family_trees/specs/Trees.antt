@@ -1,5 +1,5 @@
 -- The dates of a family tree, and what each is the date of.
-use Rattle.std.specs.Prelude.{◌==◌, ◌&&◌, ◌-◌, ℕ, Bool, List, [], ◌∷◌, Option, None, Some, codes, drop}
+use Rattle.std.specs.Prelude.{◌==◌, ◌&&◌, ◌+◌, ◌-◌, ℕ, Bool, List, [], ◌∷◌, ◌++◌, Option, None, Some, codes, drop}
 use Rattle.std.specs.Prelude.{if◌then◌else◌, length, nat_le, nat_lt, take, unwrap_or}
 use Rattle.std.specs.List.{find}
 use Rattle.std.specs.Str.{bytes_eq}
@@ -25,6 +25,35 @@ or_else text other = text
 -- the value of a line with this level and tag under the same line
 abbrev pub value_beside : ℕ → List ℕ → List TreeLine → List TreeLine → List ℕ
 value_beside level tag before behind = or_else (value_in level tag before) (value_in level tag behind)
+
+-- a line that goes on with the value of one of this level
+abbrev pub is_joined : ℕ → TreeLine → Bool
+is_joined level line = is_wanted (level + 1) (codes "CONC") line
+
+-- what the first of these lines join to the value of a line of this level
+abbrev pub joined_to : ℕ → List TreeLine → List ℕ
+joined_to level [] = []
+joined_to level (line ∷ lines) = if is_joined level line then line.value ++ joined_to level lines else []
+
+-- the whole value of the first of these lines with this level and tag, of those before one of a lower level
+abbrev pub whole_in : ℕ → List ℕ → List TreeLine → List ℕ
+whole_in level tag [] = []
+whole_in level tag (line ∷ lines) =
+    if nat_lt line.level level then []
+    else if is_wanted level tag line then line.value ++ joined_to level lines
+    else whole_in level tag lines
+
+-- the same of the lines before those behind, the nearest first
+abbrev pub whole_before : ℕ → List ℕ → List TreeLine → List TreeLine → List ℕ
+whole_before level tag [] behind = []
+whole_before level tag (line ∷ before) behind =
+    if nat_lt line.level level then []
+    else if is_wanted level tag line then line.value ++ joined_to level behind
+    else whole_before level tag before (line ∷ behind)
+
+-- the whole value of a line with this level and tag under the same line as the first of those from it on
+abbrev pub whole_beside : ℕ → List ℕ → List TreeLine → List TreeLine → List TreeLine → List ℕ
+whole_beside level tag before from behind = or_else (whole_before level tag before from) (whole_in level tag behind)
 
 -- the name of the first record with this number, its first one
 abbrev pub name_of : List ℕ → List TreeLine → Option (List ℕ)
@@ -102,8 +131,8 @@ tag_over over level before = if nat_lt over level then tag_in (line_over over be
 abbrev pub part_over : ℕ → List TreeLine → List ℕ
 part_over level before = if nat_lt 2 level then tag_in (line_over (level - 1) before) else []
 
-abbrev pub date_at : List TreeLine → List TreeLine → TreeLine → List TreeLine → DateOfTree
-date_at tree before line behind =
+abbrev pub date_with : List TreeLine → List TreeLine → TreeLine → List TreeLine → List ℕ → DateOfTree
+date_with tree before line behind place =
     record {
       number = number_in (line_over 0 before);
       name = name_in tree (first_person (line_over 0 before) before behind);
@@ -111,10 +140,15 @@ date_at tree before line behind =
       event = tag_over 1 line.level before;
       part = part_over line.level before;
       kind = value_beside line.level (codes "TYPE") before behind;
-      place = value_beside line.level (codes "PLAC") before behind;
+      place = place;
       calendar = (dated marks (unindented line.value)).0;
       date = (dated marks (unindented line.value)).1;
     }
+
+-- the date on a line, and its place
+abbrev pub date_at : List TreeLine → List TreeLine → TreeLine → List TreeLine → DateOfTree
+date_at tree before line behind =
+    date_with tree before line behind (whole_beside line.level (codes "PLAC") before (line ∷ behind) behind)
 
 -- a line is a date where its tag says so and it is in a record
 abbrev pub is_date : TreeLine → Bool

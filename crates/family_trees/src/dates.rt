@@ -4,15 +4,17 @@ ghost use Rattle.std.specs.Prelude.{◌≡◌, ◌<◌, ◌+◌, IfOk, drop, get
 ghost use Rattle.family_trees.specs.DateViews.{date_seen, lines_in, mark_seen, over_seen};
 ghost use Rattle.family_trees.specs.LineViews.{line_seen};
 ghost use Rattle.family_trees.specs.declared.lines.Line.{Line as LineValue};
-ghost use Rattle.family_trees.specs.Trees.{date_at, dated, first_person, is_date, is_family, marks, name_in};
+ghost use Rattle.family_trees.specs.TextViews.{text_seen};
+ghost use Rattle.family_trees.specs.Trees.{date_at, date_with, dated, first_person, is_date, is_family, marks, name_in};
 ghost use Rattle.family_trees.specs.Trees.{part_over, second_person, tag_over, tree_dates, value_beside};
 
 use crate::lines::{Line, lines_of, unindented};
 use crate::trees::{Tree, line_over, names_of, value_before, value_in};
+use crate::values::{Text, whole_beside};
 use std::alloc::{AllocError, Global};
 
 /// A date of a family tree.
-#[derive(Clone, Copy)]
+#[derive(Drop)]
 pub struct TreeDate<'a> {
     /// The number of the record that has it, as `@I1@`, or nothing.
     pub number: &'a [u8],
@@ -24,9 +26,10 @@ pub struct TreeDate<'a> {
     pub event: &'a [u8],
     /// The part of the event that has the date, by its tag, or nothing where it is the event itself.
     pub part: &'a [u8],
-    /// The type of that, and its place.
+    /// The type of that.
     pub kind: &'a [u8],
-    pub place: &'a [u8],
+    /// Its place, whole, also where it goes on in lines `CONC`.
+    pub place: Text<'a>,
     /// The name of the date's calendar.
     pub calendar: &'a [u8],
     /// The date, as it stands.
@@ -159,10 +162,16 @@ impl<'a> Tree<'a> {
         }
     }
 
-    /// The date on a line, by the lines before it and behind it.
-    fn date(&self, before: &[Line<'a>], line: &Line<'a>, behind: &[Line<'a>]) -> TreeDate<'a>
-        ensures { date_seen result ≡ date_at (lines_in self.now) (reverse (map line_seen before.now))
-            (line_seen line.now) (map line_seen behind.now) }
+    /// The date on a line, by the lines before it and behind it, and its place.
+    fn date(
+        &self,
+        before: &[Line<'a>],
+        line: &Line<'a>,
+        behind: &[Line<'a>],
+        place: Text<'a>,
+    ) -> TreeDate<'a>
+        ensures { date_seen result ≡ date_with (lines_in self.now) (reverse (map line_seen before.now))
+            (line_seen line.now) (map line_seen behind.now) (text_seen place.entry) }
     {
         let over = line_over(before, 0);
         let (calendar, date) = dated(unindented(line.value));
@@ -176,7 +185,7 @@ impl<'a> Tree<'a> {
             event: tag_over(before, 1, line.level),
             part: part_over(before, line.level),
             kind: value_beside(before, behind, line.level, b"TYPE"),
-            place: value_beside(before, behind, line.level, b"PLAC"),
+            place,
             calendar,
             date,
         }
@@ -184,13 +193,21 @@ impl<'a> Tree<'a> {
 }
 
 /// The date on the line at this place of a tree.
-fn date_on<'a>(tree: &Tree<'a>, lines: &[Line<'a>], place: usize) -> TreeDate<'a>
+#[tactic(auto, using(crate::proofs::TreeLemmas::first_behind))]
+fn date_on<'a>(
+    alloc: Global,
+    tree: &Tree<'a>,
+    lines: &[Line<'a>],
+    place: usize,
+) -> Result<TreeDate<'a>, AllocError>
     requires { place < length lines.now }
-    ensures { (d : LineValue) → date_seen result ≡ date_at (lines_in tree.now)
+    ensures { IfOk result (λ date. (d : LineValue) → date_seen date ≡ date_at (lines_in tree.now)
         (reverse (map line_seen (take place lines.now))) (line_seen (get_or lines.now place d))
-        (map line_seen (drop (place + 1) lines.now)) }
+        (map line_seen (drop (place + 1) lines.now))) }
 {
-    tree.date(&lines[..place], &lines[place], &lines[place + 1..])
+    let line = &lines[place];
+    let of_place = whole_beside(alloc, lines, place, line.level, b"PLAC")?;
+    Ok(tree.date(&lines[..place], line, &lines[place + 1..], of_place))
 }
 
 /// The dates of a family tree in GEDCOM 5.5.1 or 7: one for each line `DATE` of a record, in order. What is no line is
@@ -209,7 +226,8 @@ pub fn dates_of(alloc: Global, text: &[u8]) -> Result<Vec<TreeDate<'_>>, AllocEr
     let mut dates = Vec::new(alloc);
     'lines: for place in 0..lines.len() {
         if is_date(&lines[place]) {
-            dates.push(date_on(&tree, lines, place))?;
+            let date = date_on(alloc, &tree, lines, place)?;
+            dates.push(date)?;
         }
     }
     Ok(dates)

@@ -7,6 +7,8 @@ mod dates;
 mod lines;
 mod tree_sheets;
 mod trees;
+mod values;
 
 pub use dates::{TreeDate, dates_of};
 pub use tree_sheets::tree_sheet;
+pub use values::Text;

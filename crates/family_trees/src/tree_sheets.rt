@@ -41,18 +41,23 @@ fn write_head(sheet: &mut Writer<Vec<u8>>) -> Result<(), AllocError>
 }
 
 /// Appends what is known of a date.
-fn write_date(sheet: &mut Writer<Vec<u8>>, date: &TreeDate) -> Result<(), AllocError>
+fn write_date(
+    sheet: &mut Writer<Vec<u8>>,
+    date: &TreeDate,
+    place: &[u8],
+) -> Result<(), AllocError>
+    requires { place.now ≡ (date_seen date.now).place }
     ensures { OnOk result ((text : List ℕ) → Holds text sheet.old
         → Holds (text ++ row_text default_writer (date_record (date_seen date.now))) sheet.new) }
 {
-    let fields = [
+    let fields: [&[u8]; 9] = [
         date.number,
         date.name,
         date.partner,
         date.event,
         date.part,
         date.kind,
-        date.place,
+        place,
         date.calendar,
         date.date,
     ];
@@ -82,7 +87,7 @@ pub fn tree_sheet(alloc: Global, tree: &[u8]) -> Result<Vec<u8>, AllocError>
     let mut sheet = Writer::from_writer(Vec::new(alloc));
     write_head(&mut sheet)?;
     'dates: for date in &dates {
-        write_date(&mut sheet, date)?;
+        write_date(&mut sheet, date, date.place.as_slice())?;
     }
     text_of(sheet)
 }

@@ -18,7 +18,7 @@ pub(crate) struct Tree<'a> {
 }
 
 /// Whether a line has this level and tag.
-fn is_wanted(line: &Line, level: u8, tag: &[u8]) -> bool
+pub(crate) fn is_wanted(line: &Line, level: u8, tag: &[u8]) -> bool
     ensures { result ≡ is_wanted level tag.now (line_seen line.now) }
 {
     line.level == level && line.tag == tag

@@ -11,7 +11,7 @@ struct Case {
     dates: &'static str,
 }
 
-static CASES: [Case; 4] = [
+static CASES: [Case; 5] = [
     Case {
         tree: "\
 0 HEAD
@@ -73,27 +73,60 @@ static CASES: [Case; 4] = [
         dates: "|||DATED||||gregorian|\n",
     },
     Case {
+        tree: "\
+0 @I1@ INDI
+1 BIRT
+2 PLAC Neukirchen an der Plei
+3 CONC ße, Kreis
+3 CONC  Zwickau
+3 MAP
+3 CONC lost
+2 DATE 1 MAY 1801
+3 CONC none
+1 DEAT
+2 DATE 2 MAY 1801
+2 PLAC Graz
+3 CONC , Steiermark
+4 CONC none
+2 PLAC Wien
+1 BURI
+2 DATE 3 MAY 1801
+2 PLAC
+3 CONC Linz
+1 EVEN
+3 CONC none
+2 DATE 4 MAY 1801
+",
+        dates: "\
+@I1@|||BIRT|||Neukirchen an der Pleiße, Kreis Zwickau|gregorian|1 MAY 1801
+@I1@|||DEAT|||Graz, Steiermark|gregorian|2 MAY 1801
+@I1@|||BURI|||Linz|gregorian|3 MAY 1801
+@I1@|||EVEN||||gregorian|4 MAY 1801
+",
+    },
+    Case {
         tree: "",
         dates: "",
     },
 ];
 
+/// Appends a field, and a bar.
+fn push_field(lines: &mut Vec<u8>, field: &[u8]) -> Result<(), AllocError> {
+    lines.extend_from_slice(field)?;
+    lines.push(b'|')?;
+    Ok(())
+}
+
 /// Appends a date as a line.
 fn push_line(lines: &mut Vec<u8>, it: &TreeDate) -> Result<(), AllocError> {
-    let front = [
-        it.number,
-        it.name,
-        it.partner,
-        it.event,
-        it.part,
-        it.kind,
-        it.place,
-        it.calendar,
-    ];
-    for field in front {
-        lines.extend_from_slice(field)?;
-        lines.push(b'|')?;
-    }
+    push_field(lines, it.number)?;
+    push_field(lines, it.name)?;
+    push_field(lines, it.partner)?;
+    push_field(lines, it.event)?;
+    push_field(lines, it.part)?;
+    push_field(lines, it.kind)?;
+    push_field(lines, it.place.as_slice())?;
+    push_field(lines, it.calendar)?;
     lines.extend_from_slice(it.date)?;
     lines.push(b'\n')?;
     Ok(())

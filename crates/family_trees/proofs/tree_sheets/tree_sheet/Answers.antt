@@ -1,8 +1,9 @@
-use Rattle.std.proofs.Common.{◌≡◌, ◌∙◌, ◌∷◌, [], List, ap, append-nil, arith, map, refl, sym, subst, take_all, take}
+use Rattle.std.proofs.Common.{◌≡◌, ◌∙◌, ◌++◌, ◌∷◌, [], List, ap, append-nil, arith, map, refl, sym, subst, take_all, take}
 use Rattle.csv.specs.Writing.{default_writer, row_text}
 use Rattle.family_trees.specs.DateViews.{date_seen}
 use Rattle.family_trees.specs.SheetViews.{Holds}
 use Rattle.family_trees.specs.Trees.{DateOfTree}
+use Rattle.family_trees.specs.declared.dates.TreeDate.{TreeDate}
 use Rattle.family_trees.specs.TreeSheets.{date_record, records_text, tree_head}
 use Rattle.family_trees.proofs.TreeSheetLemmas.{one_date_more, text_known}
 use Rattle.family_trees.proofs.tree_sheets.tree_sheet.Goals as goal
@@ -20,9 +21,11 @@ dates-init c =
 
 pub dates-preserved : goal.dates-preserved
 dates-preserved c =
-    subst (λ text. Holds text c.write_date.new.sheet)
-    (one_date_more c.deref-date-items.result.now c.dates.date-index _ c.dates-test.true)
-    (c.in_ok-write_date.ensures _ c.dates.invariant)
+    let dates = c.deref-date-items.result.now in
+    let done = records_text (tree_head ∷ map date_record (map date_seen (take c.dates.date-index dates))) in
+    subst (λ text. Holds text c.write_date.new.sheet) (one_date_more dates c.dates.date-index _ c.dates-test.true)
+    (subst (λ (date : TreeDate). Holds (done ++ row_text default_writer (date_record (date_seen date)))
+    c.write_date.new.sheet) c.date-item.is (c.in_ok-write_date.ensures _ c.dates.invariant))
 
 pub returns : goal.returns
 returns c =

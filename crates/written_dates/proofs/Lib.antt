@@ -8,6 +8,7 @@ pub mod PartLemmas
 pub mod ItemLemmas
 pub mod SumLemmas
 pub mod UnknownLemmas
+pub mod WholeNameLemmas
 pub mod KeyLemmas
 pub mod KeyedLemmas
 pub mod FieldLemmas

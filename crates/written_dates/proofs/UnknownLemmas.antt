@@ -16,7 +16,7 @@ use Rattle.written_dates.specs.Tokens.{Piece, kind_of, tokens}
 use Rattle.written_dates.specs.Items.{alone, item_in_front, longest, number_of}
 use Rattle.written_dates.specs.Names.{names_in}
 use Rattle.written_dates.specs.Parts.{is_part, parts}
-use Rattle.written_dates.specs.SignViews.{is_letter}
+use Rattle.written_dates.specs.WholeNames.{is_letter, whole_name}
 use Rattle.written_dates.proofs.KindLemmas.{has_kind, none_of_kind, none_picked}
 use Rattle.written_dates.specs.Unknown.{first_unknown, if_letters, or_behind, unknown_word, word_in}
 
@@ -105,5 +105,5 @@ pub no_word : (calendar : Calendar) (names : List Name) (text : List ℕ)
     → list_any (λ c. is_letter (kind_of c)) text ≡ false → unknown_word calendar names text ≡ None
 unfolding unknown_word parts
 no_word calendar names text h =
-    none_anyway _ _ (no_word_found (names_in calendar names) 0 (parts text)
-    (no_word_kept (tokens 0 text) (no_letter text h)))
+    none_anyway _ _ (ap (whole_name (tokens 0 text)) (no_word_found (names_in calendar names) 0 (parts text)
+    (no_word_kept (tokens 0 text) (no_letter text h))))

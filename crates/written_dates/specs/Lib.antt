@@ -16,6 +16,7 @@ pub mod SignViews
 pub mod Fields
 pub mod Weekdays
 pub mod Written
+pub mod WholeNames
 pub mod Unknown
 pub mod Laws
 pub mod ReadLaws

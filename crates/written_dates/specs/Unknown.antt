@@ -9,6 +9,7 @@ use Rattle.written_dates.specs.declared.meanings.Name.{Name}
 use Rattle.written_dates.specs.declared.tokens.Kind.{Kind}
 use Rattle.written_dates.specs.declared.tokens.Kind.TheVariants.{Letter}
 use Rattle.written_dates.specs.Calendars.{form}
+use Rattle.written_dates.specs.WholeNames.{whole_name}
 use Rattle.written_dates.specs.Items.{item_in_front}
 use Rattle.written_dates.specs.Names.{names_in}
 use Rattle.written_dates.specs.Parts.{parts}
@@ -40,13 +41,13 @@ abbrev pub is_never_read : Form → Bool
 is_never_read forms.Other = true
 is_never_read form = false
 
--- the first part of a date that means nothing in its calendar, where this is a word; none where the date stays for
--- another reason, as a dash in front, a minus or a character that no date has
+-- the first part of a date that means nothing in its calendar, where this is a word, with the words that hyphens join to
+-- it; none where the date stays for another reason, as a dash in front, a minus or a character that no date has
 unfoldable pub unknown_word : Calendar → List Name → List ℕ → Option (List ℕ)
 unknown_word calendar names text =
     if is_never_read (form calendar) || has_other (tokens 0 text) || has_minus (tokens 0 text)
     || begins_with_dash (bare (tokens 0 text)) then None
-    else word_in (first_unknown (names_in calendar names) 0 (parts text))
+    else whole_name (tokens 0 text) (word_in (first_unknown (names_in calendar names) 0 (parts text)))
 
 -- a text that was returned, without where it lies in memory
 abbrev pub seen_text : Option (Bor (List ℕ)) → Option (List ℕ)

@@ -18,6 +18,7 @@ mod stops;
 mod tokens;
 mod unknown;
 mod weekdays;
+mod whole_names;
 mod words;
 mod written;
 

@@ -2,8 +2,8 @@
 
 ghost use Rattle.std.specs.Prelude.{◌≡◌};
 ghost use Rattle.std.specs.List.{list_any};
-ghost use Rattle.written_dates.specs.SignViews.{is_letter as is_letter_spec};
-ghost use Rattle.written_dates.specs.Tokens.{kind_of, piece};
+ghost use Rattle.written_dates.specs.WholeNames.{is_letter as is_letter_spec, whole_name as whole_spec};
+ghost use Rattle.written_dates.specs.Tokens.{kind_of, piece, tokens};
 ghost use Rattle.written_dates.specs.Names.{names_in};
 ghost use Rattle.written_dates.specs.Parts.{parts};
 ghost use Rattle.written_dates.specs.Unknown.{first_unknown, if_letters, is_never_read as never_spec, seen_text};
@@ -15,6 +15,7 @@ use crate::names::Names;
 use crate::parts::next_part;
 use crate::signs::{begins_with_dash, signs_of};
 use crate::tokens::{Kind, Token, kind_of_byte};
+use crate::whole_names::{is_letter, whole_name};
 use date_texts::Calendar;
 
 /// Whether dates of this form are never read.
@@ -23,15 +24,6 @@ fn is_never_read(form: Form) -> bool
 {
     match form {
         Form::Other => true,
-        _ => false,
-    }
-}
-
-fn is_letter(kind: Kind) -> bool
-    ensures { result ≡ is_letter_spec kind }
-{
-    match kind {
-        Kind::Letter => true,
         _ => false,
     }
 }
@@ -68,8 +60,19 @@ fn stopping_word<'a>(text: &'a [u8], names: &Names, calendar: Calendar) -> Optio
     None
 }
 
+/// The whole name in which that word stands.
+fn stopping_name<'a>(text: &'a [u8], names: &Names, calendar: Calendar) -> Option<&'a [u8]>
+    ensures { seen_text result ≡ whole_spec (tokens 0 text.now)
+        (word_in (first_unknown (names_in calendar names.now.listed.now) 0 (parts text.now))) }
+{
+    match stopping_word(text, names, calendar) {
+        Some(word) => Some(whole_name(text, word)),
+        None => None,
+    }
+}
+
 /// The first word of a date that is no name in its calendar and no Roman number, where the date stays as it is written
-/// because of this word.
+/// because of this word; with it the words that hyphens join to it, as in `Dhu-l-Hijja`.
 #[tactic(auto, unfolding(crate::specs::Unknown::unknown_word))]
 pub fn unknown_word<'a>(text: &'a [u8], names: &Names, calendar: Calendar) -> Option<&'a [u8]>
     ensures { seen_text result ≡ unknown_word calendar names.now.listed.now text.now }
@@ -81,5 +84,5 @@ pub fn unknown_word<'a>(text: &'a [u8], names: &Names, calendar: Calendar) -> Op
     if is_never_read(form_of(calendar)) || other || minus || begins_with_dash(text) {
         return None;
     }
-    stopping_word(text, names, calendar)
+    stopping_name(text, names, calendar)
 }

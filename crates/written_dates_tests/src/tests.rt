@@ -8,7 +8,7 @@ use day_numbers::Weekday;
 use std::alloc::{AllocError, Global};
 use written_dates::{
     Calendars, Choice, ListFault, Mark, Meaning, Name, NameFault, Names, NamesError, Order,
-    Relation, Short, Stop, date_beside_weekday, roman_number, stop_of, write_date,
+    Relation, Short, Stop, date_beside_weekday, roman_number, stop_of, unknown_word, write_date,
 };
 
 /// Names: a text, what it means, and the calendars in which it does, none for all.
@@ -525,4 +525,43 @@ fn roman_numbers(rt: HostRuntime) {
     for (word, number) in &NUMBERS {
         assert!(rt; roman_number(word.as_bytes()) == *number, "at {word:?}");
     }
+}
+
+/// Texts, and the name in each that is not known in the Gregorian calendar: with the words that hyphens join to it.
+static UNKNOWN: [(&str, Option<&str>); 11] = [
+    ("7 Dhu-l-Hijja 1241", Some("Dhu-l-Hijja")),
+    ("7. Dhu'l-Hijja, 1241", Some("Dhu'l-Hijja")),
+    ("12-Foo-1806", Some("Foo")),
+    ("12 Mai-Foo 1806", Some("Mai-Foo")),
+    ("12 Mai-Foo-1806", Some("Mai-Foo")),
+    ("12 Foo Mai-Bar 1806", Some("Foo")),
+    ("12 Foo\u{2013}Bar 1806", Some("Foo")),
+    ("12 Foo - Bar 1806", Some("Foo")),
+    ("Foo-Bar-", Some("Foo-Bar")),
+    ("12. Mai 1806", None),
+    ("12-5-1806", None),
+];
+
+/// The first text of these with another name.
+fn wrong_unknown(alloc: Global) -> Option<&'static str> {
+    let Ok(listed) = names_in(alloc, NAMES, '\n') else {
+        return Some("a list in memory");
+    };
+    let Ok(names) = Names::layered(alloc, listed.as_slice()) else {
+        return Some("names in memory");
+    };
+    for (text, name) in &UNKNOWN {
+        let found = unknown_word(text.as_bytes(), &names, Calendar::Gregorian);
+        let wanted = name.map(|name| name.as_bytes());
+        if found != wanted {
+            return Some(*text);
+        }
+    }
+    None
+}
+
+#[test]
+fn names_are_offered_whole(rt: HostRuntime) {
+    let wrong = wrong_unknown(rt.alloc());
+    assert!(rt; wrong.is_none(), "at {wrong:?}");
 }

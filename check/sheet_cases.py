@@ -28,6 +28,37 @@ REFUSED = {
     # The first fault in the order of the checks.
     "a a --date=1 --all=iso --to=x": "unknown column: x",
     "--skip=x --date=1 --all=iso --order=x": "unknown order: x",
+    "--order=x --all=mars --date=1": "unknown calendar: mars",
+    "--short-years=x --short-hebrew-years=y --skip=z --date=1 --all=iso": "bad short years: x",
+    "--skip=z --delimiter=y --short-hebrew-years=x --date=1 --all=iso": "bad short Hebrew years: x",
+    "--to=x --delimiter=y --skip=z --date=1 --all=iso": "bad number of records to skip: z",
+    "--register --to=x --delimiter=y --date=1 --all=iso": "unknown delimiter: y",
+    "--register --to=x --date=1 --all=iso": "unknown column: x",
+    # How a value is written.
+    "--date=1 --all=": "unknown calendar: ",
+    "--date=1 --all=iso --order=": "unknown order: ",
+    "--date=1 --all=iso --short-years=KEEP": "bad short years: KEEP",
+    "--date=1 --all=iso --short-years=": "bad short years: ",
+    "--date=1 --all=iso --short-hebrew-years=100": "bad short Hebrew years: 100",
+    "--date=1 --all=iso --skip=100000": "bad number of records to skip: 100000",
+    "--date=1 --all=iso --skip=000001": "bad number of records to skip: 000001",
+    "--date=1 --all=iso --skip=+1": "bad number of records to skip: +1",
+    "--date=1 --all=iso --skip=": "bad number of records to skip: ",
+    "--date=1 --all=iso --delimiter=Tab": "unknown delimiter: Tab",
+    "--date=1 --all=iso --to=": "unknown column: ",
+    "--date=1 --all=iso --to=weekday,Weekday,x": "column named twice: weekday",
+}
+
+# Options that are not written as they are taken: the message is clap's own, and comes before every other fault.
+MISUSED = {
+    "--bogus": "unexpected argument '--bogus' found",
+    "--date=1 --all=mars --bogus": "unexpected argument '--bogus' found",
+    "-x.csv": "unexpected argument '-x' found",
+    "--date": "a value is required for '--date <COLUMN>' but none was supplied",
+    "--order": "a value is required for '--order <year|day|month>' but none was supplied",
+    "--order day --order day": "the argument '--order <year|day|month>' cannot be used multiple times",
+    "--unknown --unknown": "the argument '--unknown' cannot be used multiple times",
+    "--register=x": "unexpected value 'x' for '--register' found; no more were expected",
 }
 
 # A sheet with a date in words and one with a name that is not known, and what comes of it in the order of day and month.
@@ -40,6 +71,9 @@ No,Calendar,Date,weekday,gregorian,refusal
 REGISTER = "id,calendar,date\n7,gregorian,1806-5-12\n8,gregorian,1 Meyo 1700\n"
 UNKNOWN = "name,means,in,count\nMeyo,?,gregorian,1\n"
 COLUMNS = "--date Date --calendar Calendar"
+
+# Options with which nothing is read.
+VERSIONS = ("--version", "-V", "--version --help", "--skip=x --version --bogus")
 
 # A date for each reason why dates stay, and a Roman one that is converted: 25 February 1944 in the Julian calendar, which is
 # 9 March in the Gregorian one, a Thursday. 12 May 1806 was a Monday.
@@ -73,6 +107,14 @@ Mai 1806,gregorian,,,5
 1944-3-K6B,roman,Thursday,1944-03-09,
 ,gregorian,,,5
 """
+# How many dates each reason has here, where there is one more and where there is one less, is said in other words.
+TWICE = [
+    "12 Mai 1806,", "Mai 1806,gregorian", "12 Mai,gregorian", "12 Mai 1806 (,gregorian", "-3 Mai 1806,gregorian",
+    '"Sonntag, 12. Mai 1806",gregorian', "18.2.1799,french", "12 Mai Mai 1806,gregorian"]
+TWICE_REASONS = [f"standard input: {line}" for line in (
+    "2 dates have no calendar", "1 date has no day", "2 dates have no year", "2 dates have a character that no date has",
+    "1 date has a minus in front of a number", "2 dates name another weekday",
+    "2 dates have a year that the French Republic did not have", "2 dates are no dates of their calendars")]
 REASONS = [f"standard input: {line}" for line in (
     "1 date has no calendar", "2 dates have no day", "1 date has no year", "1 date has a character that no date has",
     "2 dates have a minus in front of a number", "1 date names another weekday",
@@ -93,6 +135,7 @@ FILES = {
     "names.csv": "name,means,in\nMeyo,month 5,\n", "weekdays.csv": "name,means,in\nSonntag,weekday 0,\n",
     "own.csv.unknown.csv": "name,means,in\nMeyo,month 5,\n",
     "bad.csv": "name,means,in\nMeyo,month 5,\nJuni,six,\n",
+    "in.csv": "name,means,in\nMeyo,month 5,mars\n", "both.csv": "name,means,in\nMeyo,mai,mars\n",
 }
 FOLDERS = ("c.csv.dates.csv",)
 
@@ -105,9 +148,25 @@ def not_known(name):
     return f"{name}: 1 date has a name that is not known: --unknown lists it"
 
 
+def both_times():
+    """The sheet of dates that stay, one or two for a reason, the status and what comes of it."""
+    dates = [date for date in TWICE for _ in range(1 if date[0] in "M-" else 2)]
+    refused = [f"{date},,,{'4' if date.endswith(',') else '5'}\n" for date in dates]
+    return "d,c\n" + "".join(f"{date}\n" for date in dates), 0, "d,c,weekday,gregorian,refusal\n" + "".join(refused)
+
+
+def unlisted(more):
+    """A sheet with so many names more than are listed, the status and the list."""
+    letters = "bcdfghjklm"
+    names = [f"zz{a}{b}{c}" for a in letters for b in letters for c in letters] + ["zzy", "zzz"][:more]
+    sheet = "d\n" + "".join(f"1. {name} 1700\n" for name in names)
+    listed = "name,means,in,count\n" + "".join(f"{name},?,julian,1\n" for name in names[:1000])
+    return "--date 1 --all julian --order day --unknown", sheet, 0, listed
+
+
 # The arguments, standard input, the status, standard output and standard error.
 STREAMS = [
-    ("--version", "", 0, VERSION, ""),
+    *((words, "", 0, VERSION, "") for words in VERSIONS),
     (f"{COLUMNS} --order day", SHEET, 0, CONVERTED, lines(not_known("standard input"))),
     # A column by its number, one calendar for all, the columns asked, and what the user's list adds.
     ("--date=3 '--all= Gregorian' '--to=RD, iso' --names names.csv --summary", SHEET, 0,
@@ -127,12 +186,30 @@ STREAMS = [
     # Why dates stay.
     (STAYING_COLUMNS, STAYING, 0, STAYED, lines(*REASONS)),
     (f"{STAYING_COLUMNS} --unknown", STAYING, 0, "name,means,in,count\n", lines(*REASONS)),
+    (STAYING_COLUMNS, *both_times(), lines(*TWICE_REASONS)),
+    # Short years, and names that are not known, of more than one date.
+    ("--date 1 --all julian --to julian", "d\n06-5-12\n7-5-12\n", 0, "d,julian,refusal\n06-5-12,,5\n7-5-12,,5\n",
+     lines("standard input: 2 dates have short years and are left empty: see --short-years")),
+    (*unlisted(1), lines("standard input: 1 date has a name that is not among the first 1000, which are listed")),
+    (*unlisted(2), lines("standard input: 2 dates have names that are not among the first 1000, which are listed")),
+    ("--date d --all julian --order day --to julian", "d\n1. zza 1700\n2. zzb 1700\n", 0,
+     "d,julian,refusal\n1. zza 1700,,5\n2. zzb 1700,,5\n",
+     lines("standard input: 2 dates have names that are not known: --unknown lists them")),
     # Sheets that break off.
     ("--date Datum --calendar Calendar", SHEET, 1, "",
      lines("standard input: no column Datum: the columns are No, Calendar, Date")),
+    # The first ten names are told.
+    ("--date x --all iso", "a,b,c,d,e,f,g,h,i,j\n", 1, "",
+     lines("standard input: no column x: the columns are a, b, c, d, e, f, g, h, i, j")),
+    ("--date 12 --all iso", "a,b,c,d,e,f,g,h,i,j,k\n", 1, "",
+     lines("standard input: no column 12: the columns are a, b, c, d, e, f, g, h, i, j, ..")),
+    ("--date 1 --calendar Stil", "a,b\n", 1, "", lines("standard input: no column Stil: the columns are a, b")),
     ("--date 4 --all iso --skip 9", SHEET, 1, "", lines("standard input: no record with names")),
-    # Lists of names that are none.
+    # Lists of names that are none: the first fault in the order of the records, and of one record that of its means.
     ("--date 1 --all iso --names a.csv", "", 3, "", lines("not name,means,in at the head of a.csv")),
+    ("--date 1 --all iso --names in.csv", "", 3, "", lines("bad list of names in.csv: in of record 1")),
+    ("--date 1 --all iso --names both.csv", "", 3, "", lines("bad list of names both.csv: means of record 1")),
+    ("--date 1 --all iso --names none.csv", "", 3, "", lines("cannot open none.csv")),
 ]
 
 # The arguments, the status, the files that are made, and standard error.

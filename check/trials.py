@@ -1,4 +1,7 @@
 """What the checks in Python have in common: they count what they try, and show what differs."""
+import csv
+import dataclasses
+import itertools
 import json
 import os
 import pathlib
@@ -11,6 +14,40 @@ ROOT = pathlib.Path(__file__).resolve().parent.parent
 
 # What the product knows of itself. The gate compares it with what the program register_facts prints.
 FACTS = json.loads((ROOT / "crates/register_facts/stdout").read_text("utf-8"))
+
+
+@dataclasses.dataclass(frozen=True)
+class Program:
+    """A program that the checks go over, as check/programs.csv has it."""
+    name: str
+    arguments: str   # the crate of its arguments, where its page of help is
+    options: tuple   # its options, as the product has them
+    made: tuple      # the endings of what it makes of a file
+    convert: tuple   # the arguments with which it converts a register
+
+    @property
+    def crate(self):
+        return self.name.replace("-", "_")
+
+    @property
+    def built(self):
+        """What the launcher runs, once it is built."""
+        return ROOT / f"crates/{self.crate}/out/current/{self.crate}"
+
+    def help(self):
+        """The page of help, as it stands in the source."""
+        text = (ROOT / f"crates/{self.arguments}/src/help.rt").read_text("utf-8")
+        return text.split('HELP: &str = "')[1].split('\n";\n')[0].replace('\\"', '"')
+
+
+def listed_programs():
+    with open(ROOT / "check/programs.csv", encoding="utf-8", newline="") as lines:
+        for it in csv.DictReader(lines):
+            yield Program(it["name"], it["arguments"], tuple(FACTS[it["options"]]), tuple(it["made"].split()),
+                          tuple(it["convert"].split()))
+
+
+PROGRAMS = tuple(listed_programs())
 
 
 class Trials:
@@ -45,6 +82,12 @@ def program_of(path, launcher="register"):
         print(f"{program} does not run: {error}", "0 passed, 1 failed", sep="\n")
         sys.exit(1)
     return program
+
+
+def programs_of(paths):
+    """The programs at these paths, in the order of the list, or else the launchers, by the names of the programs."""
+    pairs = itertools.zip_longest(PROGRAMS, paths[:len(PROGRAMS)])
+    return {it.name: program_of(path, it.name) for it, path in pairs}
 
 
 def end_on_signals():

@@ -93,6 +93,9 @@ function dayOf(calendar, year, month, day) {
   return null;
 }
 
+// The months of a year and their days, in order; none where the calendar has no such year.
+const monthsOf = (calendar, year) => year >= 1 && year <= LAST_YEAR ? RULES[calendar][0](year) : [];
+
 // The date of a day that is in a year, or null.
 function dateIn(calendar, year, number) {
   for (const [month, days] of RULES[calendar][0](year)) {
@@ -147,4 +150,4 @@ function sundayOf(calendar, year, season, number) {
   return day < before ? day : null;
 }
 
-module.exports = { dayOf, dateIn, placed, sundayOf, weekdayOf };
+module.exports = { dayOf, dateIn, monthsOf, placed, sundayOf, weekdayOf };

@@ -33,7 +33,7 @@ for (let n = 1; n < 4000; n += 1) {
 
 // A number is `{value, digits}`, with 0 digits if it is a Roman one or a name, and `isNamed` for a name; `isYear` behind
 // a word for year, `isDay` beside a word for day. Other items have what they mean: `{month}`, `{mark}`, `{weekday}`,
-// `{decade}`, `{relation}`, `{feast}`, `{season}`, `{yearWord}`, `{dayWord}`.
+// `{decade}`, `{relation}`, `{feast}`, `{season}`, `{yearWord}`, `{dayWord}`, `{word}`, `{adar}`.
 function numberOf(part) {
   if (/^[0-9]/.test(part)) return part.length > 9 ? null : { value: Number(part), digits: part.length };
   return ROMAN.has(part) ? { value: ROMAN.get(part), digits: 0, isNamed: false } : null;
@@ -92,7 +92,7 @@ function added(items) {
 
 const LETTERS = {
   value: "n", month: "m", mark: "k", weekday: "w", decade: "d", relation: "r", feast: "f", season: "s", yearWord: "y",
-  dayWord: "t",
+  dayWord: "t", word: "o", adar: "a",
 };
 const letterOf = item => LETTERS[Object.keys(LETTERS).find(key => key in item)];
 const formOf = items => items.map(letterOf).join("");
@@ -292,4 +292,7 @@ function written(text, calendar, choice, names) {
   return { ...dated(text, calendar, choice, items, reading), isSum: items.length < found.length };
 }
 
-module.exports = { bareOf, folded, partsOf, written };
+module.exports = {
+  added, bareOf, byYear, folded, formOf, hasMixedSigns, hasOther, isBeside, isDecadeDay, isHalfYear, isLong, isOnWeekday,
+  itemsOf, ofThree, partsOf, written,
+};

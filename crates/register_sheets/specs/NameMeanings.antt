@@ -17,6 +17,8 @@ use Rattle.written_dates.specs.declared.meanings.Meaning.{Meaning}
 use Rattle.written_dates.specs.declared.meanings.Meaning.TheVariants as meaning
 use Rattle.written_dates.specs.declared.meanings.Relation.{Relation}
 use Rattle.written_dates.specs.declared.meanings.Relation.TheVariants.{After, Before, Eve, Morrow, Octave}
+use Rattle.written_dates.specs.declared.meanings.Word.{Word}
+use Rattle.written_dates.specs.declared.meanings.Word.TheVariants as words
 use Rattle.register_sheets.specs.declared.name_meanings.Means.{Means}
 use Rattle.register_sheets.specs.declared.name_meanings.Means.TheVariants as means
 
@@ -40,6 +42,13 @@ relation_name Before = codes "before"
 relation_name Eve = codes "eve"
 relation_name Morrow = codes "morrow"
 relation_name Octave = codes "octave"
+
+abbrev pub word_name : Word → List ℕ
+word_name words.About = codes "about"
+word_name words.From = codes "from"
+word_name words.To = codes "to"
+word_name words.Between = codes "between"
+word_name words.And = codes "and"
 
 abbrev pub season_name : Season → List ℕ
 season_name seasons.Epiphany = codes "epiphany"
@@ -87,6 +96,7 @@ SaysMeaning field meaning.Nothing = field ≡ []
 SaysMeaning field meaning.YearWord = field ≡ codes "year"
 SaysMeaning field meaning.DayWord = field ≡ codes "day"
 SaysMeaning field (meaning.Month month) = IsWordAndNumber (codes "month") 1 13 field month
+SaysMeaning field meaning.Adar = field ≡ codes "month 12-13"
 SaysMeaning field (meaning.Number number) = IsNumberIn 0 999_999_999 field number
 SaysMeaning field (meaning.Mark mark) = field ≡ mark_name mark
 SaysMeaning field (meaning.Weekday weekday) = field ≡ weekday_name weekday
@@ -94,6 +104,7 @@ SaysMeaning field (meaning.DecadeDay day) = IsWordAndNumber (codes "decade") 1 1
 SaysMeaning field (meaning.Relation relation) = field ≡ relation_name relation
 SaysMeaning field (meaning.Feast feast) = SaysFeast field feast
 SaysMeaning field (meaning.Sundays season) = field ≡ codes "sundays " ++ season_name season
+SaysMeaning field (meaning.Word word) = field ≡ word_name word
 
 -- the field says this of a name
 abbrev pub Says : List ℕ → Means → Type 0

@@ -3,7 +3,7 @@
 ghost use Rattle.std.specs.Prelude.{◌≡◌, ◌<◌, ◌^◌, ◌↔◌, ◌++◌, ℕ, None, IfSome, codes, true};
 ghost use Rattle.std.specs.Fmt.{decimal};
 ghost use Rattle.register_sheets.specs.NameMeanings.{IsNumberIn, IsWordAndNumber, Says};
-ghost use Rattle.register_sheets.specs.NameMeanings.{SaysMeaning, mark_name, relation_name, season_name, weekday_name};
+ghost use Rattle.register_sheets.specs.NameMeanings.{SaysMeaning, mark_name, relation_name, season_name, weekday_name, word_name};
 ghost use Rattle.register_sheets.specs.declared.name_meanings.Means.{Means as MeansValue};
 ghost use Rattle.written_dates.specs.declared.meanings.Meaning.{Meaning as MeaningValue};
 
@@ -12,7 +12,7 @@ use church_year::Season;
 use date_texts::{Calendar, calendar_named};
 use day_numbers::Weekday;
 use itoa::Buffer;
-use written_dates::{Mark, Meaning, Relation};
+use written_dates::{Mark, Meaning, Relation, Word};
 
 /// The largest number that a name can mean.
 const MAX_NUMBER: u32 = 999_999_999;
@@ -119,6 +119,21 @@ fn relation_said(field: &str) -> Option<Relation>
     }
 }
 
+/// The word of texts that say no single day.
+fn word_said(field: &str) -> Option<Word>
+    ensures some { IfSome result (λ word. field.now ≡ word_name word) }
+    ensures none { result ≡ None → (word : Word) → ¬ (field.now ≡ word_name word) }
+{
+    match field {
+        "about" => Some(Word::About),
+        "from" => Some(Word::From),
+        "to" => Some(Word::To),
+        "between" => Some(Word::Between),
+        "and" => Some(Word::And),
+        _ => None,
+    }
+}
+
 /// The season whose Sundays `sundays advent` and the like say.
 fn sundays_said(field: &str) -> Option<Season>
     ensures some { IfSome result (λ season. field.now ≡ codes "sundays " ++ season_name season) }
@@ -138,6 +153,10 @@ fn meaning_said(field: &str) -> Option<Meaning>
         Some(Meaning::YearWord)
     } else if field == "day" {
         Some(Meaning::DayWord)
+    } else if field == "month 12-13" {
+        Some(Meaning::Adar)
+    } else if let Some(word) = word_said(field) {
+        Some(Meaning::Word(word))
     } else if let Some(month) = month_said(field) {
         Some(Meaning::Month(month))
     } else if let Some(number) = number_said(field, 0, MAX_NUMBER) {

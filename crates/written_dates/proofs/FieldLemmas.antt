@@ -28,7 +28,7 @@ spelled_front a (b ∷ rest) =
     ] in
     by (joins a.kind b.kind)
 
-spelled : (more : ℕ) (text : List ℕ) → spelling (tokens more text) ≡ drop more text
+pub spelled : (more : ℕ) (text : List ℕ) → spelling (tokens more text) ≡ drop more text
 unfolding tokens
 spelled zero [] = refl
 spelled (suc more) [] = refl

@@ -24,6 +24,10 @@ pub first_resumed : (item : Item) (rest : List Item) → resumed [] (item ∷ re
 unfolding resumed
 first_resumed item rest = refl
 
+first_summed : (item : Item) (rest : List Item) → resumed [] (item ∷ rest) ≡ summed_from item rest
+unfolding resumed
+first_summed item rest = refl
+
 grown : (last item : Item) (o : Option Item) (rest : List Item) → joined_item last item ≡ o
     → summed_from last (item ∷ rest) ≡ joined_or o last item (λ z. summed_from z rest)
 unfolding summed_from
@@ -66,10 +70,17 @@ none_first [] new found item rest was none is =
     let empty : new ≡ [] = sym (was ∙ append-nil new) in rw (is, empty) (first_resumed item rest)
 none_first (x ∷ xs) new found item rest was none is = absurd (true≢false (sym (none (omega arith))))
 
--- with five items there is no room
-pub full_sum : (old new : List Item) (last item sum : Item) (rest : List Item) → old ≡ new ++ last ∷ []
-    → joined_item last item ≡ Some sum → 5 ≤ length new → 5 < length (resumed old (item ∷ rest))
-full_sum old new last item sum rest was e five =
+-- with as many items there is no room
+pub full_first : (n : ℕ) (old new : List Item) (item : Item) (rest : List Item) → old ≡ new ++ []
+    → (0 < length old → false ≡ true) → n ≤ length new → n < length (resumed old (item ∷ rest))
+full_first n [] new item rest was none full =
+    let is : resumed [] (item ∷ rest) ≡ summed_from item rest = first_summed item rest in
+    omega (arith, full, ap length was, length-append new [], ap length is, some_summed item rest)
+full_first n (x ∷ xs) new item rest was none full = absurd (true≢false (sym (none (omega arith))))
+
+pub full_sum : (n : ℕ) (old new : List Item) (last item sum : Item) (rest : List Item) → old ≡ new ++ last ∷ []
+    → joined_item last item ≡ Some sum → n ≤ length new → n < length (resumed old (item ∷ rest))
+full_sum n old new last item sum rest was e full =
     let is = sum_resumed old new (new ++ sum ∷ []) last item sum rest was refl e in
     omega (
       arith,
@@ -78,9 +89,9 @@ full_sum old new last item sum rest was e five =
       some_summed sum rest,
     )
 
-pub full_apart : (old new : List Item) (last item : Item) (rest : List Item) → old ≡ new ++ last ∷ []
-    → joined_item last item ≡ None → 4 ≤ length new → 5 < length (resumed old (item ∷ rest))
-full_apart old new last item rest was e four =
+pub full_apart : (n : ℕ) (old new : List Item) (last item : Item) (rest : List Item) → old ≡ new ++ last ∷ []
+    → joined_item last item ≡ None → n ≤ length new + 1 → n < length (resumed old (item ∷ rest))
+full_apart n old new last item rest was e full =
     let is : resumed old (item ∷ rest) ≡ old ++ summed_from item rest = rw was (apart new last item rest e) in
     omega (
       arith,
@@ -109,11 +120,11 @@ pub more_resumed : (old found front : List Item) (rest : Option (List Item))
 more_resumed old found front None h = refl
 more_resumed old found front (Some ys) h = ap Some (h ys)
 
-pub full_items : (old front all : List Item) (rest : Option (List Item))
-    → ((ys : List Item) → 5 < length (resumed old (front ++ ys)))
-    → option_map (resumed old) (before front rest) ≡ Some all → 5 < length all
-full_items old front all None h e = absurd (cc)
-full_items old front all (Some ys) h e =
+pub full_items : (n : ℕ) (old front all : List Item) (rest : Option (List Item))
+    → ((ys : List Item) → n < length (resumed old (front ++ ys)))
+    → option_map (resumed old) (before front rest) ≡ Some all → n < length all
+full_items n old front all None h e = absurd (cc)
+full_items n old front all (Some ys) h e =
     let same : resumed old (front ++ ys) ≡ all = cc in omega (arith, h ys, ap length same)
 
 pub all_items : (found : List Item) (names : List Name) (whole : Option (List Item)) (rest : List Piece)

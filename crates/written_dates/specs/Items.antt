@@ -45,6 +45,7 @@ is_long n = n.year || nat_le 3 n.digits || ((n.digits == 0) && nat_le 100 n.valu
 abbrev pub meant : Meaning → List Item
 meant meaning.Nothing = []
 meant (meaning.Month m) = item.Month m ∷ []
+meant meaning.Adar = item.Adar ∷ []
 meant (meaning.Number n) =
     item.Number (record { value = n; digits = 0; named = true; year = false; day = false }) ∷ []
 meant meaning.YearWord = item.YearWord ∷ []
@@ -55,6 +56,7 @@ meant (meaning.DecadeDay n) = item.DecadeDay n ∷ []
 meant (meaning.Relation r) = item.Relation r ∷ []
 meant (meaning.Feast f) = item.Feast f ∷ []
 meant (meaning.Sundays s) = item.Sundays s ∷ []
+meant (meaning.Word w) = item.Word w ∷ []
 
 -- of the best so far, with how many parts it has, and the names that stand in front, the one with the most parts; the
 -- first of those that have as many

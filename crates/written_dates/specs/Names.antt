@@ -8,8 +8,11 @@ use Rattle.written_dates.specs.declared.meanings.Mark.TheVariants.{Kalends, None
 use Rattle.written_dates.specs.declared.meanings.Meaning.{Meaning}
 use Rattle.written_dates.specs.declared.meanings.Meaning.TheVariants.{Nothing, Month, Number, Mark as Marked}
 use Rattle.written_dates.specs.declared.meanings.Meaning.TheVariants.{YearWord, DayWord, Weekday, DecadeDay, Relation as Related, Feast, Sundays}
+use Rattle.written_dates.specs.declared.meanings.Meaning.TheVariants.{Adar, Word as Worded}
 use Rattle.written_dates.specs.declared.meanings.Relation.{Relation}
 use Rattle.written_dates.specs.declared.meanings.Relation.TheVariants.{After, Before, Eve, Morrow, Octave}
+use Rattle.written_dates.specs.declared.meanings.Word.{Word}
+use Rattle.written_dates.specs.declared.meanings.Word.TheVariants.{About, From, To, Between, And}
 use Rattle.church_year.specs.Weekdays.{number_of}
 use Rattle.church_year.specs.Same.{number_of_season, same_feast}
 use Rattle.written_dates.specs.declared.meanings.Name.{Name}
@@ -51,11 +54,19 @@ number_of_relation Eve = 2
 number_of_relation Morrow = 3
 number_of_relation Octave = 4
 
+abbrev pub number_of_word : Word → ℕ
+number_of_word About = 0
+number_of_word From = 1
+number_of_word To = 2
+number_of_word Between = 3
+number_of_word And = 4
+
 abbrev pub same_meaning : Meaning → Meaning → Bool
 same_meaning Nothing Nothing = true
 same_meaning YearWord YearWord = true
 same_meaning DayWord DayWord = true
 same_meaning (Month a) (Month b) = a == b
+same_meaning Adar Adar = true
 same_meaning (Number a) (Number b) = a == b
 same_meaning (Marked a) (Marked b) = same_mark a b
 same_meaning (Weekday a) (Weekday b) = number_of a == number_of b
@@ -63,6 +74,7 @@ same_meaning (DecadeDay a) (DecadeDay b) = a == b
 same_meaning (Related a) (Related b) = number_of_relation a == number_of_relation b
 same_meaning (Feast a) (Feast b) = same_feast a b
 same_meaning (Sundays a) (Sundays b) = number_of_season a == number_of_season b
+same_meaning (Worded a) (Worded b) = number_of_word a == number_of_word b
 same_meaning a b = false
 
 -- one name means two things in one calendar

@@ -11,7 +11,7 @@ pub(crate) const CALENDARS: usize = Calendar::ALL.len();
 
 /// How the dates of a calendar are written.
 #[derive(Clone, Copy)]
-pub(crate) enum Form {
+pub enum Form {
     /// A year, a month and a day.
     Civil,
     /// A year, a month and a mark with a count.
@@ -21,7 +21,7 @@ pub(crate) enum Form {
 }
 
 /// How the dates of a calendar are written.
-pub(crate) fn form_of(calendar: Calendar) -> Form
+pub fn form_of(calendar: Calendar) -> Form
     ensures { result ≡ form_spec calendar }
 {
     match calendar {

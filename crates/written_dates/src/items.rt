@@ -14,7 +14,7 @@ ghost use Rattle.written_dates.specs.Sums.{before_year as before_year_spec, sum_
 ghost use Rattle.written_dates.specs.Sums.{with_day as with_day_spec, with_year as with_year_spec};
 ghost use Rattle.written_dates.specs.ItemViews.{resumed};
 
-use crate::meanings::{Mark, Meaning, Name, Relation};
+use crate::meanings::{Mark, Meaning, Name, Relation, Word};
 use crate::names::{Names, key_of_word};
 use crate::parts::{next_part, stands};
 use crate::roman::roman_number;
@@ -26,7 +26,7 @@ use day_numbers::Weekday;
 
 /// A number, and with how many digits it stands; none where it is a Roman one or a name.
 #[derive(Clone, Copy)]
-pub(crate) struct Number {
+pub struct Number {
     /// The number.
     pub value: u32,
     /// How many digits it has.
@@ -41,7 +41,7 @@ pub(crate) struct Number {
 
 /// A part of a date.
 #[derive(Clone, Copy)]
-pub(crate) enum Item {
+pub enum Item {
     /// A number.
     Number(Number),
     /// A word for year.
@@ -50,6 +50,8 @@ pub(crate) enum Item {
     DayWord,
     /// A month by name.
     Month(u8),
+    /// Adar, which is month 12, or months 12 and 13.
+    Adar,
     /// A mark.
     Mark(Mark),
     /// A day of the week.
@@ -62,6 +64,8 @@ pub(crate) enum Item {
     Feast(Feast),
     /// Sundays that are numbered.
     Sundays(Season),
+    /// A word of texts that say no single day.
+    Word(Word),
 }
 
 /// The number that one to nine digits spell.
@@ -159,7 +163,7 @@ fn longest<'a>(
 }
 
 /// Whether a number can be no day and no month.
-pub(crate) fn is_long(number: Number) -> bool
+pub fn is_long(number: Number) -> bool
     ensures { result ≡ long_spec number }
 {
     number.year || number.digits >= 3 || (number.digits == 0 && number.value >= 100)
@@ -172,6 +176,7 @@ fn item_of(meaning: Meaning) -> Option<Item>
     match meaning {
         Meaning::Nothing => None,
         Meaning::Month(month) => Some(Item::Month(month)),
+        Meaning::Adar => Some(Item::Adar),
         Meaning::Number(value) => Some(Item::Number(Number {
             value,
             digits: 0,
@@ -187,6 +192,7 @@ fn item_of(meaning: Meaning) -> Option<Item>
         Meaning::Relation(relation) => Some(Item::Relation(relation)),
         Meaning::Feast(feast) => Some(Item::Feast(feast)),
         Meaning::Sundays(season) => Some(Item::Sundays(season)),
+        Meaning::Word(word) => Some(Item::Word(word)),
     }
 }
 
@@ -319,18 +325,18 @@ fn joined_item(a: Item, b: Item) -> Option<Item>
 }
 
 /// Adds an item, and says whether there was room.
-fn try_add(found: &mut ArrayVec<Item, 5>, item: Item) -> bool
+fn try_add<const N: usize>(found: &mut ArrayVec<Item, N>, item: Item) -> bool
     ensures room { result ≡ true → found.new.items ≡ found.old.items ++ item ∷ [] }
-    ensures full { result ≡ false → 5 ≤ length found.old.items }
+    ensures full { result ≡ false → N ≤ length found.old.items }
 {
     found.try_push(item).is_ok()
 }
 
 /// Adds an item, or joins it with the last one where they belong together, and says whether there was room.
-fn push_item(found: &mut ArrayVec<Item, 5>, item: Item) -> bool
+fn push_item<const N: usize>(found: &mut ArrayVec<Item, N>, item: Item) -> bool
     ensures room { result ≡ true → (rest : List Item)
         → resumed found.old.items (item ∷ rest) ≡ resumed found.new.items rest }
-    ensures full { result ≡ false → (rest : List Item) → 5 < length (resumed found.old.items (item ∷ rest)) }
+    ensures full { result ≡ false → (rest : List Item) → N < length (resumed found.old.items (item ∷ rest)) }
 {
     let Some(last) = found.pop() else {
         return try_add(found, item);
@@ -345,11 +351,11 @@ fn push_item(found: &mut ArrayVec<Item, 5>, item: Item) -> bool
 }
 
 /// Adds an item, if there is one, and says whether there was room.
-fn add_item(found: &mut ArrayVec<Item, 5>, item: Option<Item>) -> bool
+fn add_item<const N: usize>(found: &mut ArrayVec<Item, N>, item: Option<Item>) -> bool
     ensures room { result ≡ true → (rest : List Item)
         → resumed found.old.items (option_to_list item ++ rest) ≡ resumed found.new.items rest }
     ensures full { result ≡ false → (rest : List Item)
-        → 5 < length (resumed found.old.items (option_to_list item ++ rest)) }
+        → N < length (resumed found.old.items (option_to_list item ++ rest)) }
 {
     match item {
         Some(item) => push_item(found, item),
@@ -357,14 +363,19 @@ fn add_item(found: &mut ArrayVec<Item, 5>, item: Option<Item>) -> bool
     }
 }
 
-/// The items of a text; nothing where a word is not known, or more than five items stand.
-pub(crate) fn items_of(text: &[u8], names: &Names, calendar: Calendar) -> Option<ArrayVec<Item, 5>>
+/// The items of a text in a calendar, in which those that belong together are one; `None` where a word is not known, or
+/// more than `N` items stand.
+pub fn items_of<const N: usize>(
+    text: &[u8],
+    names: &Names,
+    calendar: Calendar,
+) -> Option<ArrayVec<Item, N>>
     ensures some { IfSome result (λ found.
         found_items calendar names.now.listed.now text.now ≡ Some found.items) }
     ensures none { IfNone result ((found : List Item)
-        → found_items calendar names.now.listed.now text.now ≡ Some found → 5 < length found) }
+        → found_items calendar names.now.listed.now text.now ≡ Some found → N < length found) }
 {
-    let mut found: ArrayVec<Item, 5> = ArrayVec::new();
+    let mut found: ArrayVec<Item, N> = ArrayVec::new();
     let mut rest = text;
     'items: while let Some((part, after)) = next_part(rest) {
         let Some((item, behind)) = item_in_front(rest, part, after, names, calendar) else {

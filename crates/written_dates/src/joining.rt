@@ -1,7 +1,7 @@
 //! The signs between the numbers of a text.
 
-ghost use Rattle.std.specs.Prelude.{◌≡◌, ◌&&◌};
-ghost use Rattle.std.specs.List.{list_any};
+ghost use Rattle.std.specs.Prelude.{◌≡◌, ◌&&◌, ◌≤◌, length};
+ghost use Rattle.std.specs.List.{count_by, list_any};
 ghost use Rattle.written_dates.specs.Tokens.{Piece, piece, tokens};
 ghost use Rattle.written_dates.specs.Signs.{differ, has_bar_between as bar_between_spec, has_digits as has_digits_spec};
 ghost use Rattle.written_dates.specs.Signs.{has_mixed_signs as mixed_spec, has_two_dashes as two_dashes_spec, odd_bars};
@@ -12,7 +12,7 @@ use crate::signs::{is_dash, is_digit, is_sign};
 use crate::tokens::{Token, next_token};
 
 /// Whether a token is a dash or a slash.
-fn is_bar(token: Token) -> bool
+pub fn is_bar(token: Token) -> bool
     ensures { result ≡ bar_spec (piece token.entry) }
 {
     is_dash(token.kind) || token.text == b"/".as_slice()
@@ -81,9 +81,10 @@ fn signs_differ(text: &[u8]) -> bool
     false
 }
 
-/// Whether dashes and slashes are neither none nor two.
-fn has_odd_bars(text: &[u8]) -> bool
-    ensures { result ≡ odd_bars (tokens 0 text.now) }
+/// How many dashes and slashes a text has.
+pub fn count_bars(text: &[u8]) -> usize
+    ensures value { result ≡ count_by bar_spec (tokens 0 text.now) }
+    ensures within { result ≤ length text.now }
 {
     let mut bars: usize = 0;
     let mut rest = text;
@@ -91,14 +92,29 @@ fn has_odd_bars(text: &[u8]) -> bool
         bars += is_bar(token) as usize;
         rest = after;
     }
+    bars
+}
+
+/// Whether dashes and slashes are neither none nor two.
+fn has_odd_bars(text: &[u8]) -> bool
+    ensures { result ≡ odd_bars (tokens 0 text.now) }
+{
+    let bars = count_bars(text);
     bars != 0 && bars != 2
 }
 
+/// Whether the signs between the first digits and the last are not all the same.
+pub fn has_other_signs_between(text: &[u8]) -> bool
+    ensures { result ≡ differ (signs_between (tokens 0 text.now)) }
+{
+    signs_differ(behind_digits(text))
+}
+
 /// Whether the signs between the first digits and the last differ, or dashes and slashes are neither none nor two.
-pub(crate) fn has_mixed_signs(text: &[u8]) -> bool
+pub fn has_mixed_signs(text: &[u8]) -> bool
     ensures { result ≡ mixed_spec (tokens 0 text.now) }
 {
-    signs_differ(behind_digits(text)) || has_odd_bars(text)
+    has_other_signs_between(text) || has_odd_bars(text)
 }
 
 /// Whether a dash or a slash stands between the first digits and the last.

@@ -22,12 +22,20 @@ mod whole_names;
 mod words;
 mod written;
 
+pub use calendars::{Form, form_of};
 pub use fields::{CalendarName, CalendarNames, CalendarNamesError, without_blanks};
-pub use meanings::{Calendars, Mark, Meaning, Name, Relation};
+pub use items::{Item, Number, is_long, items_of};
+pub use joining::{count_bars, has_mixed_signs, has_other_signs_between, is_bar};
+pub use meanings::{Calendars, Mark, Meaning, Name, Relation, Word};
 pub use names::{ListFault, NameFault, Names, NamesError};
 pub use roman::roman_number;
-pub use rules::Order;
+pub use rules::{InYear, Order, Reading, beside_weekday, is_year_first, plain_of};
+pub use signs::{bare, is_blank, is_dash, runs_behind_minus, signs_of};
 pub use stops::{Stop, date_beside_weekday, stop_of};
+pub use tokens::{Kind, Token, next_token};
 pub use unknown::unknown_word;
 pub use words::is_same_word;
-pub use written::{Choice, Short, write_date};
+pub use written::{
+    Answer, Choice, Short, agrees, answer_of, has_year, is_half_year, push_answer, push_dated,
+    short_rule, standing, write_date,
+};

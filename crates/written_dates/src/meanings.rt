@@ -33,6 +33,21 @@ pub enum Relation {
     Octave,
 }
 
+/// A word of texts that say no single day.
+#[derive(Clone, Copy, PartialEq, Eq)]
+pub enum Word {
+    /// About what follows.
+    About,
+    /// From what follows on.
+    From,
+    /// Up to what follows.
+    To,
+    /// Between what follows and something else.
+    Between,
+    /// And what follows.
+    And,
+}
+
 /// What a name means in a date.
 #[derive(Clone, Copy, PartialEq, Eq)]
 pub enum Meaning {
@@ -40,6 +55,8 @@ pub enum Meaning {
     Nothing,
     /// A month.
     Month(u8),
+    /// Adar: month 12 of a Hebrew year, and month 13 too where the year has one.
+    Adar,
     /// A number.
     Number(u32),
     /// A word for year: the number behind it is the year.
@@ -58,6 +75,8 @@ pub enum Meaning {
     Feast(Feast),
     /// Sundays that are numbered.
     Sundays(Season),
+    /// A word of texts that say no single day.
+    Word(Word),
 }
 
 /// The calendars in which a name means something.

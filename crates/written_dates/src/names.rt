@@ -9,11 +9,11 @@ ghost use Rattle.written_dates.specs.Keys.{IsIndexed, ahead, place_from, key, ke
 ghost use Rattle.written_dates.specs.Names.{conflict as conflict_spec, same_name as same_name_spec};
 ghost use Rattle.written_dates.specs.Names.{share_calendar as share_spec, same_meaning as same_meaning_spec};
 ghost use Rattle.written_dates.specs.Names.{same_mark as same_mark_spec, is_meaning as is_meaning_spec};
-ghost use Rattle.written_dates.specs.Names.{number_of_relation as relation_spec};
+ghost use Rattle.written_dates.specs.Names.{number_of_relation as relation_spec, number_of_word as word_spec};
 ghost use Rattle.written_dates.specs.Names.{fault_of, first_fault};
 ghost use Rattle.written_dates.specs.Parts.{parts};
 
-use crate::meanings::{Mark, Meaning, Name, Relation};
+use crate::meanings::{Mark, Meaning, Name, Relation, Word};
 use crate::parts::{next_part, stands};
 use crate::signs::signs_of;
 use crate::words::folded_word;
@@ -139,13 +139,26 @@ fn number_of_relation(relation: Relation) -> u8
     }
 }
 
+fn number_of_word(word: Word) -> u8
+    ensures { result ≡ word_spec word }
+{
+    match word {
+        Word::About => 0,
+        Word::From => 1,
+        Word::To => 2,
+        Word::Between => 3,
+        Word::And => 4,
+    }
+}
+
 fn same_meaning(a: Meaning, b: Meaning) -> bool
     ensures { result ≡ same_meaning_spec a b }
 {
     match (a, b) {
         (Meaning::Nothing, Meaning::Nothing)
         | (Meaning::YearWord, Meaning::YearWord)
-        | (Meaning::DayWord, Meaning::DayWord) => true,
+        | (Meaning::DayWord, Meaning::DayWord)
+        | (Meaning::Adar, Meaning::Adar) => true,
         (Meaning::Month(a), Meaning::Month(b)) => a == b,
         (Meaning::Number(a), Meaning::Number(b)) => a == b,
         (Meaning::Mark(a), Meaning::Mark(b)) => same_mark(a, b),
@@ -156,6 +169,7 @@ fn same_meaning(a: Meaning, b: Meaning) -> bool
         }
         (Meaning::Feast(a), Meaning::Feast(b)) => is_same_feast(a, b),
         (Meaning::Sundays(a), Meaning::Sundays(b)) => number_of_season(a) == number_of_season(b),
+        (Meaning::Word(a), Meaning::Word(b)) => number_of_word(a) == number_of_word(b),
         _ => false,
     }
 }

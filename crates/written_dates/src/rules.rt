@@ -30,7 +30,7 @@ pub enum Order {
 
 /// How a day is named in its year.
 #[derive(Clone, Copy)]
-pub(crate) enum InYear {
+pub enum InYear {
     /// A month and a day.
     Day(u32, u32),
     /// The weekday of a number in a month: the number, the weekday and the month.
@@ -41,7 +41,7 @@ pub(crate) enum InYear {
 
 /// What a text says.
 #[derive(Clone, Copy)]
-pub(crate) enum Reading {
+pub enum Reading {
     /// A year, and a day in it.
     Civil(Number, InYear),
     /// A year, a month, a mark and a count.
@@ -55,7 +55,8 @@ fn in_digits(number: Number) -> bool
     number.digits > 0
 }
 
-pub(crate) fn is_year_first(order: Order) -> bool
+/// Whether the year is first.
+pub fn is_year_first(order: Order) -> bool
     ensures { result ≡ first_spec order }
 {
     match order {
@@ -132,7 +133,7 @@ fn three_numbers(text: &[u8], order: Order, a: Number, b: Number, c: Number) -> 
 }
 
 /// What three items of a text say as a year, a month and a day.
-fn plain_of(text: &[u8], order: Order, items: &[Item]) -> Option<Reading>
+pub fn plain_of(text: &[u8], order: Order, items: &[Item]) -> Option<Reading>
     ensures { result ≡ plain_reading (tokens 0 text.now) order items.now }
 {
     let [first, second, Item::Number(c)] = items else {
@@ -147,7 +148,7 @@ fn plain_of(text: &[u8], order: Order, items: &[Item]) -> Option<Reading>
 }
 
 /// The items behind a weekday or a day of a decade, or three items before one.
-pub(crate) fn beside_weekday(items: &[Item]) -> &[Item]
+pub fn beside_weekday(items: &[Item]) -> &[Item]
     ensures { result.now ≡ beside_spec items.now }
 {
     match items {

@@ -26,7 +26,8 @@ pub(crate) fn is_sign(kind: Kind) -> bool
     }
 }
 
-pub(crate) fn is_dash(kind: Kind) -> bool
+/// Whether a character is a dash.
+pub fn is_dash(kind: Kind) -> bool
     ensures { result ≡ dash_spec kind }
 {
     match kind {
@@ -44,7 +45,8 @@ fn is_other(kind: Kind) -> bool
     }
 }
 
-pub(crate) fn is_blank(kind: Kind) -> bool
+/// Whether a character is a blank.
+pub fn is_blank(kind: Kind) -> bool
     ensures { result ≡ blank_spec kind }
 {
     match kind {
@@ -97,7 +99,7 @@ fn is_minus(before: Kind, kind: Kind, after: &[u8]) -> bool
 }
 
 /// Whether a character stands in a text that no date has, and whether a minus may.
-pub(crate) fn signs_of(text: &[u8]) -> (bool, bool)
+pub fn signs_of(text: &[u8]) -> (bool, bool)
     ensures other { result.0 ≡ has_other (tokens 0 text.now) }
     ensures minus { result.1 ≡ has_minus (tokens 0 text.now) }
 {
@@ -116,7 +118,7 @@ pub(crate) fn signs_of(text: &[u8]) -> (bool, bool)
 
 /// The text from the first token on that is no blank.
 #[tactic(auto, using(crate::proofs::FrontLemmas::bare_already))]
-pub(crate) fn bare(text: &[u8]) -> &[u8]
+pub fn bare(text: &[u8]) -> &[u8]
     ensures { tokens 0 result.now ≡ bare_spec (tokens 0 text.now) }
 {
     if !may_be_blank(byte_at(text, 0)) {
@@ -204,7 +206,7 @@ pub(crate) fn three_runs(text: &[u8]) -> Option<(&[u8], &[u8], &[u8])>
 
 /// Three such runs behind a minus.
 #[tactic(auto, using(crate::proofs::FrontLemmas::by_steps))]
-pub(crate) fn runs_behind_minus(text: &[u8]) -> Option<(&[u8], &[u8], &[u8])>
+pub fn runs_behind_minus(text: &[u8]) -> Option<(&[u8], &[u8], &[u8])>
     ensures { seen_runs result ≡ minus_spec (tokens 0 text.now) }
 {
     runs_in_front(behind_hyphen(bare(text))?)

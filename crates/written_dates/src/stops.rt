@@ -55,7 +55,7 @@ fn missing(items: &[Item]) -> Stop
 fn missing_in(text: &[u8], names: &Names, calendar: Calendar) -> Stop
     ensures { result ≡ missing_in_spec (found_items calendar names.now.listed.now text.now) }
 {
-    match items_of(text, names, calendar) {
+    match items_of::<5>(text, names, calendar) {
         Some(found) => missing(beside_weekday(found.as_slice())),
         None => Stop::NoDate,
     }

@@ -57,7 +57,7 @@ pub struct Choice {
 
 /// What is found in a text.
 #[derive(Clone, Copy)]
-pub(crate) enum Answer {
+pub enum Answer {
     /// No date: the text stays.
     Stays,
     /// A year that the French Republic did not have: the text stays.
@@ -72,7 +72,8 @@ pub(crate) enum Answer {
     RomanDate(u64, u32, Mark, u32),
 }
 
-fn short_rule(choice: &Choice, calendar: Calendar, year: Number) -> Short
+/// What is done with a year.
+pub fn short_rule(choice: &Choice, calendar: Calendar, year: Number) -> Short
     ensures { result ≡ rule_spec choice.now calendar year }
 {
     match calendar {
@@ -107,7 +108,11 @@ fn push_joined(out: &mut Vec<u8>, year: &[u8], month: &[u8], day: &[u8]) -> Resu
 }
 
 /// Appends a year, a month and a day in plain numbers.
-fn push_dated(out: &mut Vec<u8>, year: u64, month: u32, day: u32) -> Result<(), AllocError>
+///
+/// # Errors
+///
+/// `AllocError` where `out` could not grow; then it may have gained a part.
+pub fn push_dated(out: &mut Vec<u8>, year: u64, month: u32, day: u32) -> Result<(), AllocError>
     ensures { OnOk result (out.new.items ≡ out.old.items ++ dated year month day) }
 {
     let mut year_buffer = Buffer::new();
@@ -129,7 +134,7 @@ fn is_turned(order: Order, first: &[u8], last: &[u8]) -> bool
 }
 
 /// The three runs of digits of a date that stands as registers have it.
-fn standing(order: Order, text: &[u8]) -> Option<(&[u8], &[u8], &[u8])>
+pub fn standing(order: Order, text: &[u8]) -> Option<(&[u8], &[u8], &[u8])>
     ensures { seen_runs result ≡ unless_turned order (runs_spec (tokens 0 text.now)) }
 {
     let (first, middle, last) = three_runs(text)?;
@@ -226,7 +231,7 @@ fn month_and_day(calendar: Calendar, year: u64, day: InYear) -> Option<(u32, u32
 }
 
 /// Whether a calendar can have a year in words.
-fn has_year(calendar: Calendar, year: u64) -> bool
+pub fn has_year(calendar: Calendar, year: u64) -> bool
     ensures { result ≡ has_year_spec calendar year }
 {
     match calendar {
@@ -249,7 +254,7 @@ fn date_in(calendar: Calendar, year: u64, day: InYear) -> Answer
 }
 
 /// Whether a year stands by name and is not whole: none below 100 is Gregorian or Julian.
-fn is_half_year(calendar: Calendar, year: Number) -> bool
+pub fn is_half_year(calendar: Calendar, year: Number) -> bool
     ensures { result ≡ half_spec calendar year }
 {
     match calendar {
@@ -296,7 +301,7 @@ fn date_of(choice: &Choice, calendar: Calendar, reading: Option<Reading>) -> Ans
 }
 
 /// Whether a weekday, or a day of a decade, that is named is that of a date.
-fn agrees(calendar: Calendar, year: u64, month: u32, day: u32, item: Item) -> bool
+pub fn agrees(calendar: Calendar, year: u64, month: u32, day: u32, item: Item) -> bool
     ensures { result ≡ agrees_spec calendar year month day item }
 {
     match item {
@@ -352,21 +357,25 @@ fn items_answer(choice: &Choice, calendar: Calendar, text: &[u8], items: &[Item]
 
 /// The date that a text says.
 #[tactic(auto, unfolding(crate::specs::Written::answer))]
-pub(crate) fn answer_of(choice: &Choice, calendar: Calendar, names: &Names, text: &[u8]) -> Answer
+pub fn answer_of(choice: &Choice, calendar: Calendar, names: &Names, text: &[u8]) -> Answer
     ensures { result ≡ answer_spec choice.now calendar names.now.listed.now text.now }
 {
     let (other, minus) = signs_of(text);
     if other || minus || begins_with_dash(text) {
         return Answer::Stays;
     }
-    match items_of(text, names, calendar) {
+    match items_of::<5>(text, names, calendar) {
         None => Answer::Stays,
         Some(found) => items_answer(choice, calendar, text, found.as_slice()),
     }
 }
 
 /// Appends what is written for what a text says.
-fn push_answer(out: &mut Vec<u8>, text: &[u8], answer: Answer) -> Result<(), AllocError>
+///
+/// # Errors
+///
+/// `AllocError` where `out` could not grow; then it may have gained a part.
+pub fn push_answer(out: &mut Vec<u8>, text: &[u8], answer: Answer) -> Result<(), AllocError>
     ensures { OnOk result (out.new.items ≡ out.old.items ++ answer_text text.now answer) }
 {
     match answer {

@@ -8,9 +8,9 @@ use Rattle.written_dates.specs.Sums.{found_items}
 use Rattle.written_dates.proofs.items.items_of.Given as goal
 
 abbrev pub invariant-items : goal.invariant-items
-invariant-items l =
+invariant-items g l =
     found_items l.calendar l.names.listed.now l.fn.text
     ≡ option_map (resumed l.found.items) (items (names_in l.calendar l.names.listed.now) 0 (parts l.rest))
 
 abbrev pub decreases-items : goal.decreases-items
-decreases-items l = length l.rest
+decreases-items g l = length l.rest

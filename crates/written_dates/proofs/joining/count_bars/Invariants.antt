@@ -2,7 +2,7 @@ use Rattle.std.proofs.Common.{◌≡◌, ◌≤◌, ◌+◌, length}
 use Rattle.std.specs.List.{count_by}
 use Rattle.written_dates.specs.Tokens.{tokens}
 use Rattle.written_dates.specs.Signs.{is_bar}
-use Rattle.written_dates.proofs.joining.has_odd_bars.Given as goal
+use Rattle.written_dates.proofs.joining.count_bars.Given as goal
 
 abbrev pub invariant-tokens : goal.invariant-tokens
 invariant-tokens l = record {

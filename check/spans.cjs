@@ -1,0 +1,254 @@
+// A second reading of the rules for texts that say no single day: their first and last day and their marks, by regular
+// expressions and counted days; and the text of EDTF for two days. It shares nothing with the crates.
+"use strict";
+const { dateIn, dayOf, monthsOf } = require("./day_counts.cjs");
+const {
+  added, bareOf, byYear, formOf, hasMixedSigns, hasOther, isBeside, isDecadeDay, isHalfYear, isLong, isOnWeekday, itemsOf,
+  ofThree, written,
+} = require("./reading.cjs");
+
+const REPUBLICAN = ["french", "republican"], WITHOUT_MONTHS = ["iso", "longcount", "roman"];
+const BLANK = " \\t\\r\\n\\u00a0\\u202f", DASH = "\\-\\u2010-\\u2014\\u2212", SIGN = `.,/${DASH}`;
+const pattern = (text, flags = "s") => new RegExp(text, flags);
+const MARK = pattern("^(.*)([?~%])$"), OPEN_END = pattern(`[/${DASH}][${BLANK}]*$`), OPEN_FRONT = pattern(`^[${BLANK}]*[/${DASH}]`);
+const MINUS = pattern(`(^|[${BLANK}${SIGN}])[${DASH}][0-9]`), ONLY_SLASH = pattern("^([^/]*)/([^/]*)$");
+const ONLY_DASH = pattern(`^([^${DASH}]*)[${DASH}]([^${DASH}]*)$`), WIDE_DASH = pattern(`(^|[${BLANK}])[${DASH}]`, "gs");
+const signsBetween = text => (text.replace(/^[^0-9]*|[^0-9]*$/g, "").match(pattern(`[${SIGN}]`, "g")) || [])
+  .map(it => pattern(`[${DASH}]`).test(it) ? "-" : it);
+const barsOf = text => (text.match(pattern(`[/${DASH}]`, "g")) || []).length;
+
+// ---- how much items say: `{year, from, to, day, beside}`, where a month is from one to another, and a day stands in it
+
+const isOneLetter = ({ isYear, digits, value }) => !isYear && digits === 0 && [100, 500, 1000].includes(value);
+
+function plain(items, { order, slashed, mixed }) {
+  const months = items.map(it => it.adar ? { month: 12 } : it), isAdar = items.some(it => it.adar);
+  const month = number => isAdar ? { from: 12, to: 13 } : { from: number, to: number };
+  const small = it => !isLong(it) && !it.isNamed && !it.isDay;
+  const [a, b] = months;
+  switch (formOf(months)) {
+    case "n": return { year: a };
+    case "mn": return { year: b, ...month(a.month) };
+    case "nm": return { year: a, ...month(b.month) };
+    case "nn":
+      if (order === "y") return small(b) && !slashed ? { year: a, from: b.value, to: b.value } : null;
+      return small(a) ? { year: b, from: a.value, to: a.value } : null;
+    case "nnn": if (mixed) return null;
+  }
+  const three = ofThree("", order, months);
+  if (three === null) return null;
+  const { month: number, day } = three.find();
+  return { year: three.year, ...month(number), day };
+}
+
+function parted(items) {
+  if (items.length > 0 && isBeside(items[0])) return { beside: items[0], rest: items.slice(1) };
+  return items.length === 4 && isBeside(items[3]) ? { beside: items[3], rest: items.slice(0, 3) } : { rest: items };
+}
+
+function extent(items, beside, by) {
+  const found = items.length > 0 ? plain(items, by) : null;
+  if (found === null || !isLong(found.year) || isOneLetter(found.year) || beside && !found.day && found.day !== 0) return null;
+  const isNone = REPUBLICAN.includes(by.calendar) && found.year.value > 99 || isHalfYear(found.year, by.calendar);
+  return isNone ? null : { ...found, beside };
+}
+
+const own = (items, by) => { const { beside, rest } = parted(items); return extent(rest, beside, by); };
+
+// What a left side says, if need be with what it lacks of the right one.
+function leftOf(left, right, by, shared) {
+  const alone = own(left, by);
+  if (alone !== null) return alone;
+  const { beside, rest } = parted(left), more = parted(right).rest.slice(rest.length);
+  return rest.length > 0 ? extent([...rest, ...more], beside, shared) : null;
+}
+
+// ---- sayings: a kind, and what it is said of
+
+const isWord = (item, ...words) => item !== undefined && words.includes(item.word);
+const withoutAbout = items => isWord(items[0], "about") ? items.slice(1) : items;
+const one = (kind, said) => said === null ? null : { kind, first: said, last: said };
+const two = (kind, first, last) => first === null || last === null ? null : { kind, first, last };
+
+function range(kind, left, right, byLeft, shared, byRight) {
+  const bare = withoutAbout(right);
+  return two(kind, leftOf(withoutAbout(left), bare, byLeft, shared), own(bare, byRight));
+}
+
+// What items say where the text is one side, or a word parts it.
+function byWords(items, single, double) {
+  const [first, ...rest] = items, alone = kind => one(kind, own(withoutAbout(kind === "" ? items : rest), single));
+  if (first === undefined) return null;
+  if (first.relation === "before" || first.relation === "after") return alone(first.relation);
+  if (isWord(first, "to")) return alone("to");
+  if (isWord(first, "and")) return null;
+  const between = isWord(first, "between"), whole = between || isWord(first, "from") ? rest : items;
+  const at = whole.findIndex(it => isWord(it, "to") || between && isWord(it, "and"));
+  if (at >= 0) return range(between ? "between" : "", whole.slice(0, at), whole.slice(at + 1), double, double, double);
+  return between ? null : alone(isWord(first, "from") ? "from" : "");
+}
+
+// The items of a text, in which those that belong together are one; null where there are more than sixteen.
+function words(text, names) {
+  const found = itemsOf(text, names), all = found === null ? null : added(found);
+  return all !== null && all.length <= 16 ? all : null;
+}
+
+const sideItems = (text, names) =>
+  MINUS.test(text) || OPEN_FRONT.test(text) || OPEN_END.test(text) ? null : words(text, names);
+
+function atDash(text, left, right, names, by) {
+  const before = sideItems(left, names), behind = sideItems(right, names);
+  if (before === null || behind === null) return null;
+  const byLeft = { ...by, mixed: hasMixedSigns(left) }, byRight = { ...by, mixed: hasMixedSigns(right) };
+  const shared = { ...by, mixed: byRight.mixed || barsOf(left) + barsOf(right) === 1 };
+  const kind = isWord(before[0], "between") ? "between" : "";
+  const rest = isWord(before[0], "between", "from") ? before.slice(1) : before;
+  return range(kind, rest, behind, byLeft, shared, byRight);
+}
+
+// The sides of a text at its only dash behind a blank.
+function wideSides(text) {
+  const found = [...text.matchAll(WIDE_DASH)];
+  if (found.length !== 1) return null;
+  const at = found[0].index + found[0][1].length;
+  return [text.slice(0, at), text.slice(at + 1)];
+}
+
+// ---- dual years
+
+function dualSides(text, names, by) {
+  const cut = ONLY_SLASH.exec(text);
+  if (cut === null) return null;
+  const before = sideItems(cut[1], names), behind = sideItems(cut[2], names);
+  if (before === null || behind === null || formOf(behind) !== "n") return null;
+  const left = own(withoutAbout(before), { ...by, slashed: false, mixed: hasMixedSigns(cut[1]) });
+  if (left === null || left.year.value >= 99999) return null;
+  const [next] = behind, later = left.year.value + 1;
+  const isNext = next.value === later || next.digits === 2 && next.value === later % 100;
+  return isNext ? { left, later: { ...left.year, value: later } } : null;
+}
+
+function ofDual({ left, later }, calendar) {
+  if (!left.from && left.from !== 0) return { kind: "", first: left, last: { year: later } };
+  const isBefore = left.from < 3 || left.from === 3 && left.day !== undefined && left.day < 25;
+  const isOfOld = calendar === "julian" && left.to === left.from && isBefore;
+  return isOfOld ? one("", { ...left, year: later }) : null;
+}
+
+// ---- the days
+
+// The year by the rule for short ones; null where it is refused or too large.
+function yearOf({ year }, calendar, choice) {
+  const found = byYear(year, choice, calendar);
+  return found === null || found > 99999 ? null : found;
+}
+
+const monthsIn = (calendar, year) => calendar === "gregorian" && year === 0
+  ? monthsOf(calendar, 2000) : monthsOf(calendar, year);
+const daysOf = (calendar, year, month) => (monthsIn(calendar, year).find(([number]) => number === month) || [0, 0])[1];
+
+function ends(said, calendar, year) {
+  if (said.day !== undefined) return Array(2).fill([year, said.from, said.day]);
+  if (said.from !== undefined) {
+    const last = said.to !== said.from && daysOf(calendar, year, said.to) > 0 ? said.to : said.from;
+    return [[year, said.from, 1], [year, last, daysOf(calendar, year, last)]];
+  }
+  const months = monthsIn(calendar, year), [first] = months[0] || [0], [last, days] = months[months.length - 1] || [0, 0];
+  return [[year, first, 1], [year, last, days]];
+}
+
+// Whether a day is on the weekday beside it, and in no Adar of which there are two.
+function isSo(said, calendar, year) {
+  if (said.day === undefined || year === null) return true;
+  const date = { month: said.from, day: said.day }, { beside } = said;
+  if (said.to !== said.from && daysOf(calendar, year, said.to) > 0) return false;
+  if (!beside) return true;
+  return "weekday" in beside ? isOnWeekday(calendar, year, date, beside.weekday) : isDecadeDay(calendar, date, beside.decade);
+}
+
+const numberOf = (calendar, date) => date === null ? null : dayOf(calendar, ...date);
+const padded = (number, width) => String(number).padStart(width, "0");
+
+// The date beside a day, in a register's own form.
+function beside(calendar, date, step) {
+  const number = numberOf(calendar, date);
+  if (number === null) return date.join("-");
+  for (const year of [date[0] - 1, date[0], date[0] + 1]) {
+    const found = year >= 1 ? dateIn(calendar, year, number + step) : null;
+    if (found !== null) return `${padded(year, 4)}-${padded(found.month, 2)}-${padded(found.day, 2)}`;
+  }
+  return "";
+}
+
+function datesOf({ kind, first, last }, calendar, choice) {
+  const years = [first, last].map(it => yearOf(it, calendar, choice));
+  if (![first, last].every((it, i) => isSo(it, calendar, years[i]))) return null;
+  const from = years[0] === null ? null : ends(first, calendar, years[0])[0];
+  const to = years[1] === null ? null : ends(last, calendar, years[1])[1];
+  const text = date => date === null ? "" : date.join("-");
+  switch (kind) {
+    case "before": return ["", from === null ? "" : beside(calendar, from, -1)];
+    case "after": return [to === null ? "" : beside(calendar, to, 1), ""];
+    case "from": return [text(from), ""];
+    case "to": return ["", text(to)];
+  }
+  if (from === null || to === null) return ["", ""];
+  const [n, k] = [numberOf(calendar, from), numberOf(calendar, to)];
+  return n !== null && k !== null && k < n ? null : [text(from), text(to)];
+}
+
+// ---- all of it
+
+function sayingOf(text, names, by, dual) {
+  if (hasOther(text) || OPEN_FRONT.test(text) || OPEN_END.test(text)) return null;
+  if (dual !== null) return ofDual(dual, by.calendar);
+  const items = sideItems(text, names), bars = barsOf(text), slashed = text.includes("/");
+  const all = { ...by, slashed }, differ = new Set(signsBetween(text)).size > 1;
+  const whole = items === null ? null : byWords(items, { ...all, mixed: hasMixedSigns(text) },
+    { ...all, mixed: differ || bars === 1 || bars === 2 });
+  if (whole !== null) return whole;
+  const cut = ONLY_DASH.exec(text), narrow = cut === null ? null : atDash(text, cut[1], cut[2], names, all);
+  const wide = narrow === null ? wideSides(text) : null;
+  return narrow ?? (wide === null ? null : atDash(text, ...wide, names, all));
+}
+
+// The first and the last day of a text, and its marks.
+function spanOf(text, calendar, choice, names) {
+  const stays = { first: text, last: text, marks: "unread" };
+  if (calendar === null) return stays;
+  if (WITHOUT_MONTHS.includes(calendar)) {
+    const date = written(text, calendar, choice, names).text;
+    return { first: date, last: date, marks: "" };
+  }
+  const bare = bareOf(text), found = MARK.exec(bare), isMarked = found !== null && !OPEN_END.test(found[1]);
+  const kept = isMarked ? found[1] : bare, sign = isMarked ? found[2] : "", by = { order: choice.order, calendar };
+  const dual = dualSides(kept, names, by), date = written(kept, calendar, choice, names);
+  const marksOf = (kind, isAbout) => [kind, isAbout || "~%".includes(sign) && sign ? "about" : "",
+    "?%".includes(sign) && sign ? "uncertain" : ""].filter(it => it !== "").join(" ");
+  if (dual === null && (date.rule !== null || date.reason === "short year")) {
+    return { first: date.text, last: date.text, marks: marksOf("", false) };
+  }
+  const said = sayingOf(kept, names, by, dual), dates = said === null ? null : datesOf(said, calendar, choice);
+  if (dates === null) return stays;
+  const all = words(kept, names), isAbout = all !== null && all.some(it => isWord(it, "about"));
+  return { first: dates[0], last: dates[1], marks: marksOf(said.kind, isAbout), isRange: said.first !== said.last };
+}
+
+// ---- EDTF, of days that are Gregorian texts, or empty where an end is open
+
+function edtfOf(first, last, marks, isRange) {
+  const isAbout = marks.includes("about"), isUncertain = marks.includes("uncertain");
+  const mark = isAbout && isUncertain ? "%" : isAbout ? "~" : isUncertain ? "?" : "";
+  if (first === "" && last === "") return "";
+  if (first === "") return `../${last}${mark}`;
+  if (last === "") return `${first}${mark}/..`;
+  const [a, b] = [first, last].map(it => /^(-?\d+)-(\d\d)-(\d\d)$/.exec(it).slice(1));
+  const isMonthEnd = new Date(Date.UTC(2000 + ((Number(b[0]) % 400) + 400) % 400, Number(b[1]), 0)).getUTCDate() === Number(b[2]);
+  const isFromMonth = a[2] === "01" && isMonthEnd, isFromYear = isFromMonth && a[1] === "01" && b[1] === "12";
+  const size = isFromYear ? 1 : isFromMonth ? 2 : 3, [x, y] = [a, b].map(it => it.slice(0, size).join("-"));
+  if (x === y) return `${x}${mark}`;
+  return isRange && !marks.includes("between") ? `${x}${mark}/${y}${mark}` : `[${x}${mark}..${y}${mark}]`;
+}
+
+module.exports = { edtfOf, spanOf };

@@ -1,0 +1,96 @@
+//! Names and what they mean.
+
+use date_texts::calendar_named;
+use day_numbers::Weekday;
+use std::alloc::{AllocError, Global};
+use written_dates::{Calendars, Meaning, Name, Relation, Word};
+
+/// The number that a text is, or 0.
+fn number_of(text: &str) -> u32 {
+    match text.parse() {
+        Ok(number) => number,
+        Err(_) => 0,
+    }
+}
+
+fn weekday_of(number: u32) -> Weekday {
+    match number {
+        1 => Weekday::Monday,
+        2 => Weekday::Tuesday,
+        3 => Weekday::Wednesday,
+        4 => Weekday::Thursday,
+        5 => Weekday::Friday,
+        6 => Weekday::Saturday,
+        _ => Weekday::Sunday,
+    }
+}
+
+fn word_meaning(text: &str) -> Option<Meaning> {
+    match text {
+        "" => Some(Meaning::Nothing),
+        "month 12-13" => Some(Meaning::Adar),
+        "year" => Some(Meaning::YearWord),
+        "day" => Some(Meaning::DayWord),
+        "before" => Some(Meaning::Relation(Relation::Before)),
+        "after" => Some(Meaning::Relation(Relation::After)),
+        "about" => Some(Meaning::Word(Word::About)),
+        "from" => Some(Meaning::Word(Word::From)),
+        "to" => Some(Meaning::Word(Word::To)),
+        "between" => Some(Meaning::Word(Word::Between)),
+        "and" => Some(Meaning::Word(Word::And)),
+        _ => None,
+    }
+}
+
+fn meaning_of(text: &str) -> Meaning {
+    if let Some(meaning) = word_meaning(text) {
+        return meaning;
+    }
+    if let Some(number) = text.strip_prefix("month ") {
+        return Meaning::Month((number_of(number) & 0xFF) as u8);
+    }
+    if let Some(number) = text.strip_prefix("weekday ") {
+        return Meaning::Weekday(weekday_of(number_of(number)));
+    }
+    Meaning::Number(number_of(text))
+}
+
+fn calendars_of(text: &str) -> Calendars {
+    if text.is_empty() {
+        return Calendars::ALL;
+    }
+    let mut calendars = Calendars::NONE;
+    for word in text.split(' ') {
+        if let Some(calendar) = calendar_named(word) {
+            calendars = calendars.with(calendar);
+        }
+    }
+    calendars
+}
+
+/// The name on a line.
+fn name_on(line: &str) -> Option<Name<'_>> {
+    let mut fields = line.split('|');
+    let text = fields.next()?.as_bytes();
+    let meaning = meaning_of(fields.next()?);
+    let calendars = calendars_of(fields.next()?);
+    Some(Name {
+        text,
+        meaning,
+        calendars,
+    })
+}
+
+/// The names on the lines up to an empty one.
+pub fn names_in(alloc: Global, lines: &[String]) -> Result<Vec<Name<'_>>, AllocError> {
+    let mut names = Vec::new(alloc);
+    for line in lines {
+        if line.is_empty() {
+            return Ok(names);
+        }
+        if let Some(name) = name_on(line.as_str()) {
+            names.push(name)?;
+        }
+    }
+    Ok(names)
+}

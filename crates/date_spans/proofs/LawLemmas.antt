@@ -1,0 +1,128 @@
+-- What the first and the last date of a month and of a year have between them.
+use Rattle.std.proofs.Common.{◌≡◌, ℕ, ◌+◌, ◌≤◌, refl, sym, ap, subst, arith}
+use Rattle.std.proofs.Common.{ℤ, pos, negsuc, ◌+ℤ◌, ◌-ℤ◌, ◌≤ℤ◌}
+use Rattle.std.specs.Prelude.{IsTrue}
+use Rattle.day_numbers.specs.Rules.{Rules, IsDateOf, day_number_of, days_of_month, days_before_month, are_months}
+use Rattle.day_numbers.specs.Rules.{year_start, year_length, HasYear}
+use Rattle.date_texts.specs.Calendars.{by_rules, reckoning}
+use Rattle.date_texts.specs.declared.calendar.Calendar.{Calendar}
+use Rattle.day_numbers.proofs.RulesLemmas.{date_unique, date_in_year, year_unique}
+use Rattle.day_numbers.proofs.SignedArithmeticLemmas.{signed_arith}
+use Rattle.date_spans.specs.Laws.{LastDayIsGreatest, LiesFrom, MonthIsExact, YearIsExact, YearIsForwards, MonthIsForwards}
+use Rattle.date_spans.specs.Months.{months_by, months_in, months_of, first_month, last_month}
+use Rattle.date_spans.proofs.MonthLemmas.{months_are, first_before, last_ends}
+
+pub last_greatest : (rules : Rules) → LastDayIsGreatest rules
+last_greatest rules year month h =
+    let same = months_are rules year h.0 in
+    rw same ((h.0, h.2, omega arith), λ day g. g.2)
+
+-- a day from another on lies so many days behind it
+natural : (z : ℤ) → pos 0 ≤ℤ z → (k : ℕ) × (z ≡ pos k)
+natural (pos k) h = (k, refl)
+natural (negsuc k) h = absurd (omega (arith, signed_arith))
+
+behind : (first n : ℤ) → first ≤ℤ n → (k : ℕ) × (n ≡ first +ℤ pos k)
+behind first n h =
+    let some = natural (n -ℤ first) (omega (arith, signed_arith)) in
+    let k : ℕ = some.0 in
+    let e : n -ℤ first ≡ pos k = some.1 in
+    (k, omega (arith, signed_arith, e))
+
+month_from : (rules : Rules) (year month : ℕ) (y : ℤ) (m d : ℕ)
+    → IsDateOf rules (pos year) month 1 → IsDateOf rules y m d
+    → LiesFrom rules (day_number_of rules (pos year) month 1)
+    (day_number_of rules (pos year) month (days_of_month (rules.months (pos year)) month)) y m d
+    → (y ≡ pos year) × (m ≡ month)
+month_from rules year month y m d h g lies =
+    let start = day_number_of rules (pos year) month 1 in
+    let place = behind (day_number_of rules (pos year) month 1) (day_number_of rules y m d) lies.0 in
+    let k : ℕ = place.0 in
+    let is : day_number_of rules y m d ≡ day_number_of rules (pos year) month 1 +ℤ pos k = place.1 in
+    let few : k + 1 ≤ days_of_month (rules.months (pos year)) month = omega (arith, signed_arith, is, lies.1) in
+    let there : IsDateOf rules (pos year) month (k + 1) = (h.0, omega arith, few) in
+    let same : day_number_of rules y m d ≡ day_number_of rules (pos year) month (k + 1) = omega (arith, signed_arith, is) in
+    let parts = date_unique rules y (pos year) m month d (k + 1) g there same in
+    (parts.0, parts.1)
+
+month_to : (rules : Rules) (year month : ℕ) (d : ℕ) → IsDateOf rules (pos year) month d
+    → LiesFrom rules (day_number_of rules (pos year) month 1)
+    (day_number_of rules (pos year) month (days_of_month (rules.months (pos year)) month)) (pos year) month d
+month_to rules year month d g = (omega (arith, signed_arith, g.1), omega (arith, signed_arith, g.2))
+
+pub month_exact : (rules : Rules) → MonthIsExact rules
+month_exact rules year month h y m d g =
+    let same = months_are rules year h.0 in
+    rw same (
+      month_from rules year month y m d h g,
+      λ e.
+          subst (λ (z : ℤ). LiesFrom rules (day_number_of rules (pos year) month 1)
+          (day_number_of rules (pos year) month (days_of_month (rules.months (pos year)) month)) z m d) (sym e.0)
+          (subst (λ (k : ℕ). LiesFrom rules (day_number_of rules (pos year) month 1)
+          (day_number_of rules (pos year) month (days_of_month (rules.months (pos year)) month)) (pos year) k d) (sym e.1)
+          (month_to rules year month d
+          (subst (λ (z : ℤ). IsDateOf rules z month d) e.0 (subst (λ (k : ℕ). IsDateOf rules y k d) e.1 g)))),
+    )
+
+pub month_forwards : (rules : Rules) → MonthIsForwards rules
+month_forwards rules year month h =
+    let same = months_are rules year h.0 in rw same (omega (arith, signed_arith, h.2))
+
+-- the first and the last day of a year, as its start and length say
+year_first : (rules : Rules) (y : ℤ) → day_number_of rules y (first_month (rules.months y)) 1 ≡ year_start rules y
+year_first rules y =
+    let none : days_before_month (rules.months y) (first_month (rules.months y)) ≡ 0 = first_before (rules.months y) in
+    omega (arith, signed_arith, none)
+
+year_last : (rules : Rules) (y : ℤ) → IsTrue (are_months (rules.months y))
+    → (day_number_of rules y (last_month (rules.months y)) (days_of_month (rules.months y) (last_month (rules.months y))))
+    +ℤ pos 1 ≡ year_start rules y +ℤ pos (year_length rules y)
+year_last rules y h = omega (arith, signed_arith, last_ends (rules.months y) h)
+
+year_from : (rules : Rules) (year y : ℤ) (m d : ℕ) (first last : ℤ) → first ≡ year_start rules year
+    → (last +ℤ pos 1) ≡ year_start rules year +ℤ pos (year_length rules year)
+    → HasYear rules.years year → IsDateOf rules y m d
+    → (first ≤ℤ day_number_of rules y m d) × (day_number_of rules y m d ≤ℤ last) → y ≡ year
+year_from rules year y m d first last e f has g lies =
+    let within = date_in_year rules y m d g in
+    year_unique rules.years rules.epoch (year_length rules) y year (day_number_of rules y m d) g.0 has within.0 within.1
+    (omega (arith, signed_arith, e, lies.0)) (omega (arith, signed_arith, f, lies.1))
+
+year_to : (rules : Rules) (year : ℤ) (m d : ℕ) (first last : ℤ) → first ≡ year_start rules year
+    → (last +ℤ pos 1) ≡ year_start rules year +ℤ pos (year_length rules year) → IsDateOf rules year m d
+    → (first ≤ℤ day_number_of rules year m d) × (day_number_of rules year m d ≤ℤ last)
+year_to rules year m d first last e f g =
+    let within = date_in_year rules year m d g in
+    (omega (arith, signed_arith, e, within.0), omega (arith, signed_arith, f, within.1))
+
+pub year_exact : (rules : Rules) (year : ℕ) → IsTrue (are_months (months_in rules year)) → YearIsExact rules year
+year_exact rules year ordered h l y m d g =
+    let same = months_are rules year h.0 in
+    let ordered' : IsTrue (are_months (rules.months (pos year))) = rw same at ordered in
+    let first = year_first rules (pos year) in
+    let last = year_last rules (pos year) ordered' in
+    rw same (
+      year_from rules (pos year) y m d _ _ first last h.0 g,
+      λ e.
+          let g' : IsDateOf rules (pos year) m d = subst (λ (z : ℤ). IsDateOf rules z m d) e g in
+          subst (λ (z : ℤ). LiesFrom rules (day_number_of rules (pos year) (first_month (rules.months (pos year))) 1)
+          (day_number_of rules (pos year) (last_month (rules.months (pos year)))
+          (days_of_month (rules.months (pos year)) (last_month (rules.months (pos year))))) z m d) (sym e)
+          (year_to rules (pos year) m d _ _ first last g'),
+    )
+
+pub year_forwards : (rules : Rules) (year : ℕ) → IsTrue (are_months (months_in rules year)) → YearIsForwards rules year
+year_forwards rules year ordered h l =
+    let same = months_are rules year h.0 in
+    let ordered' : IsTrue (are_months (rules.months (pos year))) = rw same at ordered in
+    let first = year_first rules (pos year) in
+    let last = year_last rules (pos year) ordered' in
+    let l' : IsDateOf rules (pos year) (last_month (rules.months (pos year)))
+    (days_of_month (rules.months (pos year)) (last_month (rules.months (pos year)))) = rw same at l in
+    let within = date_in_year rules (pos year) _ _ l' in
+    rw same (omega (arith, signed_arith, first, within.0))
+
+-- the months of a calendar are those of its rules
+pub by_reckoning : (calendar : Calendar) (rules : Rules) (year : ℕ) → reckoning calendar ≡ by_rules rules
+    → months_of calendar year ≡ months_in rules year
+by_reckoning calendar rules year e = ap (λ r. months_by r year) e

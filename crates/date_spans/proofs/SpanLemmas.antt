@@ -1,0 +1,115 @@
+-- What is read today is its own span.
+use Rattle.std.proofs.Common.{◌≡◌, ℕ, Bool, true, false, List, ◌&&◌, ◌||◌, refl, subst, ap}
+use Rattle.std.specs.Prelude.{Option, Some, None, is_some, not}
+use Rattle.date_texts.specs.declared.calendar.Calendar.{Calendar}
+use Rattle.written_dates.specs.declared.calendars.Form.{Form}
+use Rattle.written_dates.specs.declared.calendars.Form.TheVariants.{Civil}
+use Rattle.written_dates.specs.declared.meanings.Name.{Name}
+use Rattle.written_dates.specs.declared.written.Choice.{Choice}
+use Rattle.written_dates.specs.Calendars.{form}
+use Rattle.written_dates.specs.Signs.{three_runs, runs_behind_minus}
+use Rattle.written_dates.specs.Tokens.{tokens}
+use Rattle.written_dates.specs.Written.{answer, answer_text, unless_turned, written, written_by}
+use Rattle.date_spans.specs.declared.spans.Marks.{Marks}
+use Rattle.date_spans.specs.Cuts.{unmarked}
+use Rattle.date_spans.specs.Laws.{AreWrittenToday, DatesAreTheirOwnSpans, IsReadToday, RegisterDatesAreTheirOwnSpans, StandsToday}
+use Rattle.date_spans.specs.Spans.{IsSpanByForm, IsSpanOfText, is_date, is_dual, is_known, is_read, stands}
+
+date_of : (d s r : Bool) → d ≡ false → (s || r) ≡ true → (not d && (s || r)) ≡ true
+date_of d s r e f = rw (e, f) refl
+
+either_read : (s r : Bool) → r ≡ true → (s || r) ≡ true
+either_read true r e = refl
+either_read false r e = e
+
+either_stands : (a b : Bool) → b ≡ true → (a || b) ≡ true
+either_stands true b e = refl
+either_stands false b e = e
+
+first_of_two : (s r : Bool) → s ≡ true → (s || r) ≡ true
+first_of_two s r e = rw e refl
+
+some_is : {A : Type 0} (o : Option A) (x : A) → o ≡ Some x → is_some o ≡ true
+some_is o x e = ap is_some e
+
+by_form : (f : Form) (choice : Choice) (calendar : Calendar) (names : List Name) (text first last : List ℕ) (found : Marks)
+    → f ≡ Civil → IsSpanByForm f choice calendar names text first last found
+    → IsSpanOfText choice calendar names text (unmarked text) first last found
+    (is_date choice calendar names (unmarked text).0)
+by_form f choice calendar names text first last found e h =
+    subst (λ (g : Form). IsSpanByForm g choice calendar names text first last found) e h
+
+where_date : (choice : Choice) (calendar : Calendar) (names : List Name) (text first last : List ℕ) (found : Marks)
+    → (b : Bool) → b ≡ true → IsSpanOfText choice calendar names text (unmarked text) first last found b
+    → AreWrittenToday choice calendar names text first last
+where_date choice calendar names text first last found true e h = (h.0, h.1)
+where_date choice calendar names text first last found false e h = absurd (not_true e)
+  where
+    not_true : false ≡ true → ⊥
+    not_true e = cc
+
+read_date : (choice : Choice) (calendar : Calendar) (names : List Name) (text : List ℕ)
+    → IsReadToday choice calendar names text → is_date choice calendar names (unmarked text).0 ≡ true
+unfolding is_known
+read_date choice calendar names text h =
+    date_of (is_dual choice calendar names (unmarked text).0) (stands choice (unmarked text).0)
+    (is_read (answer choice calendar names (unmarked text).0)) h.single
+    (either_read (stands choice (unmarked text).0) (is_read (answer choice calendar names (unmarked text).0)) h.reads)
+
+standing_date : (choice : Choice) (calendar : Calendar) (names : List Name) (text : List ℕ)
+    → StandsToday choice calendar names text → is_date choice calendar names (unmarked text).0 ≡ true
+unfolding is_known
+standing_date choice calendar names text h =
+    date_of (is_dual choice calendar names (unmarked text).0) (stands choice (unmarked text).0)
+    (is_read (answer choice calendar names (unmarked text).0)) h.single
+    (first_of_two (stands choice (unmarked text).0) (is_read (answer choice calendar names (unmarked text).0))
+    (either_stands (is_some (runs_behind_minus (tokens 0 (unmarked text).0)))
+    (is_some (unless_turned choice.order (three_runs (tokens 0 (unmarked text).0))))
+    (some_is (unless_turned choice.order (three_runs (tokens 0 (unmarked text).0))) h.runs h.stands)))
+
+pub dates_stay : DatesAreTheirOwnSpans
+dates_stay choice calendar names text first last found civil span h =
+    where_date choice calendar names text first last found (is_date choice calendar names (unmarked text).0)
+    (read_date choice calendar names text h)
+    (by_form (form calendar) choice calendar names text first last found civil span)
+
+pub register_dates_stay : RegisterDatesAreTheirOwnSpans
+register_dates_stay choice calendar names text first last found civil span h =
+    where_date choice calendar names text first last found (is_date choice calendar names (unmarked text).0)
+    (standing_date choice calendar names text h)
+    (by_form (form calendar) choice calendar names text first last found civil span)
+
+-- ---- what is known of a text, and what is written for it
+pub stood : (choice : Choice) (calendar : Calendar) (names : List Name) (text : List ℕ)
+    → stands choice text ≡ true → is_known choice calendar names text ≡ true
+unfolding is_known
+stood choice calendar names text h = rw h refl
+
+pub read : (choice : Choice) (calendar : Calendar) (names : List Name) (text : List ℕ)
+    → stands choice text ≡ false → is_known choice calendar names text ≡ is_read (answer choice calendar names text)
+unfolding is_known
+read choice calendar names text h = rw h refl
+
+by_runs : (choice : Choice) (calendar : Calendar) (names : List Name) (text : List ℕ)
+    (a b : Option (List ℕ × List ℕ × List ℕ)) → (is_some a || is_some b) ≡ false
+    → written_by choice calendar names text a b ≡ answer_text text (answer choice calendar names text)
+by_runs choice calendar names text None None h = refl
+by_runs choice calendar names text None (Some b) h = absurd (let no : ⊥ = cc in no)
+by_runs choice calendar names text (Some a) b h = absurd (let no : ⊥ = cc in no)
+
+pub answered : (choice : Choice) (calendar : Calendar) (names : List Name) (text : List ℕ) → form calendar ≡ Civil
+    → stands choice text ≡ false
+    → written choice (Some calendar) names text ≡ answer_text text (answer choice calendar names text)
+answered choice calendar names text e h =
+    rw e (by_runs choice calendar names text (runs_behind_minus (tokens 0 text))
+    (unless_turned choice.order (three_runs (tokens 0 text))) h)
+
+-- a text with a dual year is no date, nor is one that is not known
+pub dual_is_no_date : (choice : Choice) (calendar : Calendar) (names : List Name) (text : List ℕ)
+    → is_dual choice calendar names text ≡ true → is_date choice calendar names text ≡ false
+dual_is_no_date choice calendar names text h = rw h refl
+
+pub date_by_known : (choice : Choice) (calendar : Calendar) (names : List Name) (text : List ℕ)
+    → is_dual choice calendar names text ≡ false
+    → is_date choice calendar names text ≡ is_known choice calendar names text
+date_by_known choice calendar names text h = rw h refl

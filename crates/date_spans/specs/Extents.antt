@@ -1,0 +1,122 @@
+-- How much of a calendar items without words say: a day, a month or a year.
+use Rattle.std.specs.Prelude.{ℕ, Bool, true, false, not, ◌&&◌, ◌||◌, ◌==◌, if◌then◌else◌, List, [], ◌∷◌, map}
+use Rattle.std.specs.Prelude.{Option, Some, None}
+use Rattle.std.specs.List.{list_any}
+use Rattle.date_texts.specs.declared.calendar.Calendar.{Calendar}
+use Rattle.written_dates.specs.declared.items.Number.{Number as Numeral}
+use Rattle.written_dates.specs.declared.items.Item.{Item}
+use Rattle.written_dates.specs.declared.items.Item.TheVariants.{Adar, Number, Month, Weekday, DecadeDay}
+use Rattle.written_dates.specs.declared.rules.InYear.TheVariants as named
+use Rattle.written_dates.specs.declared.rules.Order.{Order}
+use Rattle.written_dates.specs.declared.rules.Reading.{Reading}
+use Rattle.written_dates.specs.declared.rules.Reading.TheVariants.{Civil}
+use Rattle.written_dates.specs.Items.{is_long}
+use Rattle.written_dates.specs.Rules.{beside_weekday, is_year_first, plain_reading}
+use Rattle.written_dates.specs.Written.{has_year, is_half_year}
+use Rattle.date_spans.specs.declared.extents.Extent.{Extent}
+use Rattle.date_spans.specs.declared.extents.Extent.TheVariants as extent
+use Rattle.date_spans.specs.declared.extents.SaidDay.{SaidDay}
+use Rattle.date_spans.specs.declared.extents.Signs.{Signs}
+
+abbrev pub or_else : {A : Type 0} → Option A → Option A → Option A
+or_else None other = other
+or_else (Some x) other = Some x
+
+-- Roman C, D or M alone
+abbrev pub is_letter : Numeral → Bool
+is_letter n = not n.year && (n.digits == 0) && ((n.value == 100) || ((n.value == 500) || (n.value == 1000)))
+
+abbrev pub if_long : Numeral → Extent → Option Extent
+if_long year said = if is_long year && not (is_letter year) then Some said else None
+
+-- a number that may be that of a month: no long one, no name, and none that counts days
+abbrev pub is_of_month : Numeral → Bool
+is_of_month n = not (is_long n) && not n.named && not n.day
+
+-- two numbers, one of them long: with year first the long one is first, where no slash stands in the text; else it is
+-- last. The other is the month.
+abbrev pub two_numbers : Bool → Order → Numeral → Numeral → Option Extent
+two_numbers slashed order a b =
+    if is_year_first order
+    then (if is_of_month b && not slashed then if_long a (extent.Month a b.value) else None)
+    else (if is_of_month a then if_long b (extent.Month b a.value) else None)
+
+-- a long number is a year; with a month by name it is that of the month
+abbrev pub month_or_year : Bool → Order → List Item → Option Extent
+month_or_year slashed order (Number a ∷ []) = if_long a (extent.Year a)
+month_or_year slashed order (Month m ∷ Number a ∷ []) = if_long a (extent.Month a m)
+month_or_year slashed order (Number a ∷ Month m ∷ []) = if_long a (extent.Month a m)
+month_or_year slashed order (Number a ∷ Number b ∷ []) = two_numbers slashed order a b
+month_or_year slashed order items = None
+
+-- a day by the rules for dates; none where three numbers have signs that differ
+abbrev pub are_numbers : List Item → Bool
+are_numbers (Number a ∷ Number b ∷ Number c ∷ []) = true
+are_numbers items = false
+
+abbrev pub day_reading : Bool → Order → List Item → Option Reading
+day_reading mixed order items = if mixed && are_numbers items then None else plain_reading [] order items
+
+abbrev pub said_day : Numeral → ℕ → ℕ → SaidDay
+said_day year month day = record { year = year; month = month; day = day; adar = false; beside = None }
+
+-- where its year is long
+abbrev pub day_by : Option Reading → Option Extent
+day_by (Some (Civil year (named.Day month day))) = if_long year (extent.Day (said_day year month day))
+day_by reading = None
+
+abbrev pub named_extent : Signs → Order → List Item → Option Extent
+named_extent signs order items =
+    or_else (month_or_year signs.slashed order items) (day_by (day_reading signs.mixed order items))
+
+-- Adar by itself is month 12 here, and stands beside what is said
+abbrev pub is_adar : Item → Bool
+is_adar Adar = true
+is_adar item = false
+
+abbrev pub as_month : Item → Item
+as_month Adar = Month 12
+as_month item = item
+
+abbrev pub day_in_adar : SaidDay → SaidDay
+day_in_adar d = record { year = d.year; month = d.month; day = d.day; adar = true; beside = d.beside }
+
+abbrev pub in_adar : Bool → Option Extent → Option Extent
+in_adar true (Some (extent.Month year month)) = Some (extent.Adar year)
+in_adar true (Some (extent.Day d)) = Some (extent.Day (day_in_adar d))
+in_adar true said = None
+in_adar false said = said
+
+abbrev pub plain_extent : Signs → Order → List Item → Option Extent
+plain_extent signs order items = in_adar (list_any is_adar items) (named_extent signs order (map as_month items))
+
+-- the weekday, or the day of a decade, that stands in front of items, or behind three
+abbrev pub weekday_among : List Item → Option Item
+weekday_among (Weekday w ∷ rest) = Some (Weekday w)
+weekday_among (DecadeDay n ∷ rest) = Some (DecadeDay n)
+weekday_among (a ∷ b ∷ c ∷ Weekday w ∷ []) = Some (Weekday w)
+weekday_among (a ∷ b ∷ c ∷ DecadeDay n ∷ []) = Some (DecadeDay n)
+weekday_among items = None
+
+-- it stands beside a day alone
+abbrev pub with_weekday : Option Item → Option Extent → Option Extent
+with_weekday None said = said
+with_weekday (Some w) (Some (extent.Day d)) =
+    Some (extent.Day (record { year = d.year; month = d.month; day = d.day; adar = d.adar; beside = Some w }))
+with_weekday (Some w) said = None
+
+abbrev pub year_in : Extent → Numeral
+year_in (extent.Day d) = d.year
+year_in (extent.Month year month) = year
+year_in (extent.Adar year) = year
+year_in (extent.Year year) = year
+
+-- of a year that the calendar can have in words, and that is written whole
+abbrev pub if_year : Calendar → Option Extent → Option Extent
+if_year calendar None = None
+if_year calendar (Some said) =
+    if has_year calendar (year_in said).value && not (is_half_year calendar (year_in said)) then Some said else None
+
+abbrev pub extent_of : Calendar → Signs → Order → List Item → Option Extent
+extent_of calendar signs order items =
+    if_year calendar (with_weekday (weekday_among items) (plain_extent signs order (beside_weekday items)))

@@ -1,0 +1,131 @@
+-- What the first and the last date of a month and of a year have between them: all of its days, and no others.
+use Rattle.std.specs.Prelude.{◌≡◌, ◌↔◌, ◌≤◌, ℕ, ℤ, pos, ◌≤ℤ◌, true, false, List, Some}
+use Rattle.day_numbers.specs.Rules.{Rules, IsDateOf, day_number_of, days_of_month}
+use Rattle.day_numbers.specs.declared.ymd.Ymd.{Ymd}
+use Rattle.date_texts.specs.Calendars.{IsDateBy, day_number_by, reckoning}
+use Rattle.date_texts.specs.declared.calendar.Calendar.{Calendar}
+use Rattle.written_dates.specs.declared.items.Number.{Number as Numeral}
+use Rattle.written_dates.specs.declared.calendars.Form.TheVariants.{Civil}
+use Rattle.written_dates.specs.declared.meanings.Name.{Name}
+use Rattle.written_dates.specs.declared.written.Choice.{Choice}
+use Rattle.written_dates.specs.Calendars.{form}
+use Rattle.written_dates.specs.Signs.{three_runs}
+use Rattle.written_dates.specs.Tokens.{tokens}
+use Rattle.written_dates.specs.Written.{answer, unless_turned, written}
+use Rattle.date_spans.specs.declared.ends.Numbers.{Numbers}
+use Rattle.date_spans.specs.declared.extents.Extent.{Extent}
+use Rattle.date_spans.specs.declared.extents.Extent.TheVariants as extent
+use Rattle.date_spans.specs.declared.spans.Marks.{Marks}
+use Rattle.date_spans.specs.Cuts.{unmarked}
+use Rattle.date_spans.specs.Spans.{IsSpan, is_dual, is_read}
+use Rattle.date_spans.specs.Ends.{HasDay, first_of, last_of, year_of}
+use Rattle.date_spans.specs.Months.{first_month, last_month, months_in}
+
+-- of the days of a month that the calendar has, this is the greatest
+abbrev pub LastDayIsGreatest : Rules → Type 0
+LastDayIsGreatest rules =
+    (year month : ℕ) → IsDateOf rules (pos year) month 1
+    → IsDateOf rules (pos year) month (days_of_month (months_in rules year) month)
+    × ((day : ℕ) → IsDateOf rules (pos year) month day → day ≤ days_of_month (months_in rules year) month)
+
+-- a date lies from the first to the last of these days
+abbrev pub LiesFrom : Rules → ℤ → ℤ → ℤ → ℕ → ℕ → Type 0
+LiesFrom rules first last year month day =
+    (first ≤ℤ day_number_of rules year month day) × (day_number_of rules year month day ≤ℤ last)
+
+-- a date lies from the first day of a month to its last exactly where it has this year and this month
+abbrev pub MonthIsExact : Rules → Type 0
+MonthIsExact rules =
+    (year month : ℕ) → IsDateOf rules (pos year) month 1
+    → (y : ℤ) (m d : ℕ) → IsDateOf rules y m d
+    → LiesFrom rules (day_number_of rules (pos year) month 1)
+    (day_number_of rules (pos year) month (days_of_month (months_in rules year) month)) y m d
+    ↔ ((y ≡ pos year) × (m ≡ month))
+
+-- a date lies from the first day of a year's first month to the last day of its last month exactly where it has this
+-- year
+abbrev pub YearIsExact : Rules → ℕ → Type 0
+YearIsExact rules year =
+    let months = months_in rules year in
+    IsDateOf rules (pos year) (first_month months) 1
+    → IsDateOf rules (pos year) (last_month months) (days_of_month months (last_month months))
+    → (y : ℤ) (m d : ℕ) → IsDateOf rules y m d
+    → LiesFrom rules (day_number_of rules (pos year) (first_month months) 1)
+    (day_number_of rules (pos year) (last_month months) (days_of_month months (last_month months))) y m d
+    ↔ (y ≡ pos year)
+
+-- and its first day is not behind its last
+abbrev pub YearIsForwards : Rules → ℕ → Type 0
+YearIsForwards rules year =
+    let months = months_in rules year in
+    IsDateOf rules (pos year) (first_month months) 1
+    → IsDateOf rules (pos year) (last_month months) (days_of_month months (last_month months))
+    → day_number_of rules (pos year) (first_month months) 1
+    ≤ℤ day_number_of rules (pos year) (last_month months) (days_of_month months (last_month months))
+
+abbrev pub MonthIsForwards : Rules → Type 0
+MonthIsForwards rules =
+    (year month : ℕ) → IsDateOf rules (pos year) month 1
+    → day_number_of rules (pos year) month 1
+    ≤ℤ day_number_of rules (pos year) month (days_of_month (months_in rules year) month)
+
+-- the two ends of a month or a year that is said, as dates that the calendar has
+pub record HasEnds (choice : Choice) (calendar : Calendar) (said : Extent) (n k : ℤ) : Type 0 where
+  pub first : Numbers
+  pub last : Numbers
+  pub first_is : first_of choice calendar said ≡ Some first
+  pub last_is : last_of choice calendar said ≡ Some last
+  pub begins : HasDay calendar first n
+  pub ends : HasDay calendar last k
+
+-- a date lies from the one day to the other
+abbrev pub LiesBetween : Calendar → ℤ → ℤ → Ymd → Type 0
+LiesBetween calendar n k date =
+    (n ≤ℤ day_number_by (reckoning calendar) date) × (day_number_by (reckoning calendar) date ≤ℤ k)
+
+-- exactly the dates of this month lie from its first day to its last
+abbrev pub SaidMonthIsExact : Choice → Calendar → Numeral → ℕ → Type 0
+SaidMonthIsExact choice calendar said month =
+    (year : ℕ) (n k : ℤ) → year_of choice calendar said ≡ Some year
+    → HasEnds choice calendar (extent.Month said month) n k
+    → (date : Ymd) → IsDateBy (reckoning calendar) date
+    → LiesBetween calendar n k date ↔ ((date.year ≡ pos year) × (date.month ≡ month))
+
+-- exactly the dates of this year lie from its first day to its last
+abbrev pub SaidYearIsExact : Choice → Calendar → Numeral → Type 0
+SaidYearIsExact choice calendar said =
+    (year : ℕ) (n k : ℤ) → year_of choice calendar said ≡ Some year → HasEnds choice calendar (extent.Year said) n k
+    → (date : Ymd) → IsDateBy (reckoning calendar) date → LiesBetween calendar n k date ↔ (date.year ≡ pos year)
+
+-- the first day is not behind the last
+abbrev pub SaidIsForwards : Choice → Calendar → Extent → Type 0
+SaidIsForwards choice calendar said = (n k : ℤ) → HasEnds choice calendar said n k → n ≤ℤ k
+
+-- a text, without a sign at its end, that is read as a date today, and has no dual year
+pub record IsReadToday (choice : Choice) (calendar : Calendar) (names : List Name) (text : List ℕ) : Type 0 where
+  pub reads : is_read (answer choice calendar names (unmarked text).0) ≡ true
+  pub single : is_dual choice calendar names (unmarked text).0 ≡ false
+
+-- or stands as registers have it
+pub record StandsToday (choice : Choice) (calendar : Calendar) (names : List Name) (text : List ℕ) : Type 0 where
+  pub runs : List ℕ × List ℕ × List ℕ
+  pub stands : unless_turned choice.order (three_runs (tokens 0 (unmarked text).0)) ≡ Some runs
+  pub single : is_dual choice calendar names (unmarked text).0 ≡ false
+
+-- the first and the last day are both what is written today
+abbrev pub AreWrittenToday : Choice → Calendar → List Name → List ℕ → List ℕ → List ℕ → Type 0
+AreWrittenToday choice calendar names text first last =
+    (first ≡ written choice (Some calendar) names (unmarked text).0)
+    × (last ≡ written choice (Some calendar) names (unmarked text).0)
+
+abbrev pub DatesAreTheirOwnSpans : Type 0
+DatesAreTheirOwnSpans =
+    (choice : Choice) (calendar : Calendar) (names : List Name) (text first last : List ℕ) (found : Marks)
+    → form calendar ≡ Civil → IsSpan choice (Some calendar) names text first last found
+    → IsReadToday choice calendar names text → AreWrittenToday choice calendar names text first last
+
+abbrev pub RegisterDatesAreTheirOwnSpans : Type 0
+RegisterDatesAreTheirOwnSpans =
+    (choice : Choice) (calendar : Calendar) (names : List Name) (text first last : List ℕ) (found : Marks)
+    → form calendar ≡ Civil → IsSpan choice (Some calendar) names text first last found
+    → StandsToday choice calendar names text → AreWrittenToday choice calendar names text first last

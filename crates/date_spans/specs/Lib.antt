@@ -1,0 +1,9 @@
+pub mod Months
+pub mod Laws
+pub mod Extents
+pub mod Sayings
+pub mod Ends
+pub mod Cuts
+pub mod CutViews
+pub mod Spans
+pub mod Styles

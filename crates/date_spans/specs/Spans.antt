@@ -1,0 +1,197 @@
+-- The first and the last day that a text can mean.
+use Rattle.std.specs.Prelude.{◌≡◌, ◌+◌, ℕ, Bool, true, false, not, ◌&&◌, ◌||◌, ◌==◌, nat_le, if◌then◌else◌, List, length}
+use Rattle.std.specs.Prelude.{Option, Some, None, is_some}
+use Rattle.std.specs.List.{count_by, list_any}
+use Rattle.date_texts.specs.declared.calendar.Calendar.{Calendar}
+use Rattle.written_dates.specs.declared.calendars.Form.{Form}
+use Rattle.written_dates.specs.declared.calendars.Form.TheVariants as forms
+use Rattle.written_dates.specs.declared.items.Item.{Item}
+use Rattle.written_dates.specs.declared.meanings.Name.{Name}
+use Rattle.written_dates.specs.declared.rules.Order.{Order}
+use Rattle.written_dates.specs.declared.written.Answer.{Answer}
+use Rattle.written_dates.specs.declared.written.Answer.TheVariants as answers
+use Rattle.written_dates.specs.declared.written.Choice.{Choice}
+use Rattle.written_dates.specs.Calendars.{form}
+use Rattle.written_dates.specs.Signs.{differ, has_minus, has_mixed_signs, has_other, is_bar, runs_behind_minus}
+use Rattle.written_dates.specs.Signs.{signs_between, three_runs}
+use Rattle.written_dates.specs.Sums.{found_items}
+use Rattle.written_dates.specs.Tokens.{tokens}
+use Rattle.written_dates.specs.Written.{answer, unless_turned, written}
+use Rattle.date_spans.specs.declared.cuts.Cut.{Cut}
+use Rattle.date_spans.specs.declared.cuts.Cut.TheVariants.{Dash, WideDash, Slash}
+use Rattle.date_spans.specs.declared.extents.Signs.{Signs}
+use Rattle.date_spans.specs.declared.sayings.Kind.{Kind}
+use Rattle.date_spans.specs.declared.sayings.Kind.TheVariants as kinds
+use Rattle.date_spans.specs.declared.sayings.RangeSigns.{RangeSigns}
+use Rattle.date_spans.specs.declared.sayings.Said.{Said}
+use Rattle.date_spans.specs.declared.spans.Marks.{Marks}
+use Rattle.date_spans.specs.Cuts.{has_slash, is_open, sides, unmarked}
+use Rattle.date_spans.specs.Ends.{AreEnds, if_held}
+use Rattle.date_spans.specs.Extents.{or_else}
+use Rattle.date_spans.specs.Sayings.{is_about, is_dual_of, kind_of, said_by, said_of_dual, said_of_sides}
+
+-- the items of a text in a calendar; none where there are more than sixteen
+abbrev pub if_few : Option (List Item) → Option (List Item)
+if_few None = None
+if_few (Some found) = if nat_le (length found) 16 then Some found else None
+
+unfoldable pub words_in : Calendar → List Name → List ℕ → Option (List Item)
+words_in calendar names text = if_few (found_items calendar names text)
+
+-- those of a text, or of a side, that no dash or slash opens or ends, and in which no minus may stand
+unfoldable pub items_in : Calendar → List Name → List ℕ → Option (List Item)
+items_in calendar names text = if has_minus (tokens 0 text) || is_open text then None else words_in calendar names text
+
+-- ---- signs
+abbrev pub signs : Bool → Bool → Signs
+signs slashed mixed = record { slashed = slashed; mixed = mixed }
+
+abbrev pub count_bars : List ℕ → ℕ
+count_bars text = count_by is_bar (tokens 0 text)
+
+-- the signs of a text that is one side
+abbrev pub one_side : List ℕ → Signs
+one_side text = signs (has_slash text) (has_mixed_signs (tokens 0 text))
+
+-- those of two sides that a word parts: they differ between the first number and the last, or dashes and slashes are one
+-- or two, so that they may part two numbers of one side
+abbrev pub two_sides : List ℕ → Signs
+two_sides text =
+    signs (has_slash text)
+    (differ (signs_between (tokens 0 text)) || (count_bars text == 1) || (count_bars text == 2))
+
+-- those of two sides of a text at a dash; a left side that has the right one's last items may have no dash or slash alone
+abbrev pub cut_sides : List ℕ → List ℕ → List ℕ → RangeSigns
+cut_sides text left right = record {
+  left = signs (has_slash text) (has_mixed_signs (tokens 0 left));
+  shared = signs (has_slash text) (has_mixed_signs (tokens 0 right) || (count_bars left + count_bars right == 1));
+  right = signs (has_slash text) (has_mixed_signs (tokens 0 right));
+}
+
+-- ---- what a text says
+-- what is said of two texts, where each has items
+abbrev pub of_two : (List Item → List Item → Option Said) → Option (List Item) → Option (List Item) → Option Said
+of_two say (Some a) (Some b) = say a b
+of_two say a b = None
+
+abbrev pub of_whole : (List Item → Option Said) → Option (List Item) → Option Said
+of_whole say None = None
+of_whole say (Some found) = say found
+
+-- what a text says as a whole
+unfoldable pub as_whole : Choice → Calendar → List Name → List ℕ → Option Said
+as_whole choice calendar names text =
+    of_whole (said_by calendar (one_side text) (two_sides text) choice.order) (items_in calendar names text)
+
+-- by its sides at a dash
+abbrev pub at_dash_by : Choice → Calendar → List Name → List ℕ → Option (List ℕ × List ℕ) → Option Said
+at_dash_by choice calendar names text None = None
+at_dash_by choice calendar names text (Some two) =
+    of_two (said_of_sides calendar (cut_sides text two.0 two.1) choice.order)
+    (items_in calendar names two.0) (items_in calendar names two.1)
+
+unfoldable pub at_dash : Cut → Choice → Calendar → List Name → List ℕ → Option Said
+at_dash cut choice calendar names text = at_dash_by choice calendar names text (sides cut text)
+
+-- by those at its only slash
+abbrev pub at_slash_by : Choice → Calendar → List Name → Option (List ℕ × List ℕ) → Option Said
+at_slash_by choice calendar names None = None
+at_slash_by choice calendar names (Some two) =
+    of_two (said_of_dual calendar (one_side two.0) choice.order)
+    (items_in calendar names two.0) (items_in calendar names two.1)
+
+unfoldable pub at_slash : Choice → Calendar → List Name → List ℕ → Option Said
+at_slash choice calendar names text = at_slash_by choice calendar names (sides Slash text)
+
+-- the only slash of a text has a year before it and the year after that behind it
+abbrev pub is_dual_items : (List Item → List Item → Bool) → Option (List Item) → Option (List Item) → Bool
+is_dual_items test (Some a) (Some b) = test a b
+is_dual_items test a b = false
+
+abbrev pub is_dual_sides : Calendar → List Name → Order → Option (List ℕ × List ℕ) → Bool
+is_dual_sides calendar names order None = false
+is_dual_sides calendar names order (Some two) =
+    is_dual_items (is_dual_of calendar (one_side two.0) order)
+    (items_in calendar names two.0) (items_in calendar names two.1)
+
+unfoldable pub is_dual : Choice → Calendar → List Name → List ℕ → Bool
+is_dual choice calendar names text = is_dual_sides calendar names choice.order (sides Slash text)
+
+-- what a text says: by its dual year, where it has one; else as a whole, by the sides of its only dash, or by those of its
+-- only dash behind a blank
+abbrev pub said_by_sides : Choice → Calendar → List Name → List ℕ → Option Said
+said_by_sides choice calendar names text =
+    or_else (as_whole choice calendar names text)
+    (or_else (at_dash Dash choice calendar names text) (at_dash WideDash choice calendar names text))
+
+unfoldable pub said_in : Choice → Calendar → List Name → List ℕ → Option Said
+said_in choice calendar names text =
+    if has_other (tokens 0 text) || is_open text then None
+    else if is_dual choice calendar names text then if_held choice calendar (at_slash choice calendar names text)
+    else if_held choice calendar (said_by_sides choice calendar names text)
+
+-- ---- first and last day
+-- something is read as a date, if it be of a short year that is refused
+abbrev pub is_read : Answer → Bool
+is_read (answers.Date year month day) = true
+is_read answers.Refused = true
+is_read answer = false
+
+-- the text is a date as registers have it, or one that is read
+abbrev pub stands : Choice → List ℕ → Bool
+stands choice text =
+    is_some (runs_behind_minus (tokens 0 text)) || is_some (unless_turned choice.order (three_runs (tokens 0 text)))
+
+unfoldable pub is_known : Choice → Calendar → List Name → List ℕ → Bool
+is_known choice calendar names text = stands choice text || is_read (answer choice calendar names text)
+
+-- and has no dual year
+abbrev pub is_date : Choice → Calendar → List Name → List ℕ → Bool
+is_date choice calendar names text =
+    not (is_dual choice calendar names text) && is_known choice calendar names text
+
+-- a word for `about` stands among the items
+abbrev pub has_about : Option (List Item) → Bool
+has_about None = false
+has_about (Some found) = list_any is_about found
+
+abbrev pub marks : Kind → Bool → Bool → Marks
+marks kind about uncertain = record { kind = kind; about = about; uncertain = uncertain }
+
+abbrev pub marks_of : Said → Bool → Bool → Bool → Marks
+marks_of said true about uncertain = marks kinds.Unread false false
+marks_of said false about uncertain = marks (kind_of said) about uncertain
+
+-- what is said has these ends; where nothing is, or its dates are turned, the text stays
+abbrev pub AreEndsOf : Choice → Calendar → List Name → List ℕ → List ℕ × Bool × Bool → Option Said
+    → List ℕ → List ℕ → Marks → Type 0
+AreEndsOf choice calendar names text kept None first last found =
+    (first ≡ text) × (last ≡ text) × (found ≡ marks kinds.Unread false false)
+AreEndsOf choice calendar names text kept (Some said) first last found =
+    (turned : Bool) × AreEnds choice calendar text said first last turned
+    × (found ≡ marks_of said turned (kept.2 || has_about (words_in calendar names kept.0)) kept.1)
+
+-- a date is its own first and last day
+abbrev pub IsSpanOfText : Choice → Calendar → List Name → List ℕ → List ℕ × Bool × Bool
+    → List ℕ → List ℕ → Marks → Bool → Type 0
+IsSpanOfText choice calendar names text kept first last found true =
+    (first ≡ written choice (Some calendar) names kept.0) × (last ≡ written choice (Some calendar) names kept.0)
+    × (found ≡ marks kinds.One kept.2 kept.1)
+IsSpanOfText choice calendar names text kept first last found false =
+    AreEndsOf choice calendar names text kept (said_in choice calendar names kept.0) first last found
+
+-- where the calendar has no years, months and days, what is written is both
+abbrev pub IsSpanByForm : Form → Choice → Calendar → List Name → List ℕ → List ℕ → List ℕ → Marks → Type 0
+IsSpanByForm forms.Civil choice calendar names text first last found =
+    IsSpanOfText choice calendar names text (unmarked text) first last found
+    (is_date choice calendar names (unmarked text).0)
+IsSpanByForm form choice calendar names text first last found =
+    (first ≡ written choice (Some calendar) names text) × (last ≡ written choice (Some calendar) names text)
+    × (found ≡ marks kinds.One false false)
+
+-- these are the first and the last day that a text can mean, and what else it says of them
+abbrev pub IsSpan : Choice → Option Calendar → List Name → List ℕ → List ℕ → List ℕ → Marks → Type 0
+IsSpan choice None names text first last found =
+    (first ≡ text) × (last ≡ text) × (found ≡ marks kinds.Unread false false)
+IsSpan choice (Some calendar) names text first last found =
+    IsSpanByForm (form calendar) choice calendar names text first last found

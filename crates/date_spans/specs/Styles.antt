@@ -1,0 +1,63 @@
+-- A day in two styles, as `10/22 stycznia 1863`: the Julian date before a slash, and the Gregorian one behind it.
+use Rattle.std.specs.Prelude.{◌≡◌, ◌≢◌, ℕ, ℤ, if◌then◌else◌, List, Option, Some, None}
+use Rattle.date_texts.specs.declared.calendar.Calendar.{Calendar}
+use Rattle.date_texts.specs.declared.calendar.Calendar.TheVariants.{Gregorian, Julian}
+use Rattle.written_dates.specs.declared.items.Item.{Item}
+use Rattle.written_dates.specs.declared.meanings.Name.{Name}
+use Rattle.written_dates.specs.declared.written.Choice.{Choice}
+use Rattle.date_spans.specs.declared.cuts.Cut.TheVariants.{Slash}
+use Rattle.date_spans.specs.declared.ends.Numbers.{Numbers}
+use Rattle.date_spans.specs.declared.extents.Extent.{Extent}
+use Rattle.date_spans.specs.declared.extents.Extent.TheVariants as extent
+use Rattle.date_spans.specs.Cuts.{sides}
+use Rattle.date_spans.specs.declared.sayings.RangeSigns.{RangeSigns}
+use Rattle.date_spans.specs.Ends.{HasDay, first_of, holds}
+use Rattle.date_spans.specs.Extents.{extent_of}
+use Rattle.date_spans.specs.Sayings.{left_of}
+use Rattle.date_spans.specs.Spans.{items_in, one_side}
+
+-- the date of a day that is said, where it is so
+abbrev pub date_of : Choice → Calendar → Option Extent → Option Numbers
+date_of choice calendar (Some (extent.Day d)) =
+    if holds choice calendar (extent.Day d) then first_of choice calendar (extent.Day d) else None
+date_of choice calendar said = None
+
+abbrev pub both_dates : Option Numbers → Option Numbers → Option (Numbers × Numbers)
+both_dates (Some a) (Some b) = Some (a, b)
+both_dates a b = None
+
+-- the Julian date that the items before a slash say with what they lack of those behind it, and the Gregorian one
+-- behind it
+abbrev pub of_items : Choice → RangeSigns → Option (List Item) → Option (List Item) → Option (Numbers × Numbers)
+of_items choice signs (Some left) (Some right) =
+    both_dates (date_of choice Julian (left_of Julian signs choice.order left right))
+    (date_of choice Gregorian (extent_of Gregorian signs.right choice.order right))
+of_items choice signs left right = None
+
+-- the signs of the two sides: the slash between them is none of theirs
+abbrev pub style_sides : List ℕ → List ℕ → RangeSigns
+style_sides left right = record {
+  left = one_side left;
+  shared = one_side right;
+  right = one_side right;
+}
+
+abbrev pub of_texts : Choice → List Name → Option (List ℕ × List ℕ) → Option (Numbers × Numbers)
+of_texts choice names None = None
+of_texts choice names (Some two) =
+    of_items choice (style_sides two.0 two.1) (items_in Julian names two.0) (items_in Gregorian names two.1)
+
+unfoldable pub two_dates : Choice → List Name → List ℕ → Option (Numbers × Numbers)
+two_dates choice names text = of_texts choice names (sides Slash text)
+
+-- the Gregorian date of two that are one day; none where they are not
+pub data IsOneDay (a b : Numbers) : Option Numbers → Type 0 where
+  one_day : (n : ℤ) → HasDay Julian a n → HasDay Gregorian b n → IsOneDay a b (Some b)
+  two_days : (n k : ℤ) → HasDay Julian a n → HasDay Gregorian b k → n ≢ k → IsOneDay a b None
+  no_julian : ((n : ℤ) → ¬ HasDay Julian a n) → IsOneDay a b None
+  no_gregorian : ((n : ℤ) → ¬ HasDay Gregorian b n) → IsOneDay a b None
+
+-- the Gregorian date of the day that a text says in both styles
+abbrev pub IsOfBoth : Option (Numbers × Numbers) → Option Numbers → Type 0
+IsOfBoth None date = date ≡ None
+IsOfBoth (Some two) date = IsOneDay two.0 two.1 date

@@ -1,0 +1,315 @@
+//! How much of a calendar items say.
+
+ghost use Rattle.std.specs.Prelude.{◌≡◌, ◌≤◌, [], true, length, map};
+ghost use Rattle.std.specs.List.{list_any};
+ghost use Rattle.written_dates.specs.Rules.{plain_reading};
+ghost use Rattle.date_spans.specs.Extents.{are_numbers as numbers_spec};
+ghost use Rattle.date_spans.specs.Extents.{as_month as month_spec, day_by as day_spec, day_in_adar as in_day_spec, day_reading as reading_spec};
+ghost use Rattle.date_spans.specs.Extents.{extent_of as extent_spec, if_long as long_spec, if_year as year_spec, in_adar as adar_spec};
+ghost use Rattle.date_spans.specs.Extents.{is_adar as is_adar_spec, is_letter as letter_spec, is_of_month as of_month_spec};
+ghost use Rattle.date_spans.specs.Extents.{month_or_year as short_spec, named_extent as named_spec, plain_extent as plain_spec};
+ghost use Rattle.date_spans.specs.Extents.{said_day as said_day_spec, two_numbers as two_spec, weekday_among as among_spec};
+ghost use Rattle.date_spans.specs.Extents.{with_weekday as weekday_spec, year_in as year_in_spec};
+
+use arrayvec::ArrayVec;
+use date_texts::Calendar;
+use written_dates::{
+    InYear, Item, Number, Order, Reading, beside_weekday, has_year, is_half_year, is_long,
+    is_year_first, plain_of,
+};
+
+/// A day of a year, and what has to be so for it.
+#[derive(Clone, Copy)]
+pub struct SaidDay {
+    /// The year.
+    pub year: Number,
+    /// The month.
+    pub month: u32,
+    /// The day of the month.
+    pub day: u32,
+    /// Whether its month is Adar, which a leap year has twice.
+    pub adar: bool,
+    /// The weekday, or the day of a decade, that stands beside it.
+    pub beside: Option<Item>,
+}
+
+/// A day, a month or a year.
+#[derive(Clone, Copy)]
+pub enum Extent {
+    /// A day.
+    Day(SaidDay),
+    /// A year and a month.
+    Month(Number, u32),
+    /// Adar of a year: month 12, and month 13 too where the year has one.
+    Adar(Number),
+    /// A year.
+    Year(Number),
+}
+
+/// What the signs of a text say of the numbers between them.
+#[derive(Clone, Copy)]
+pub struct Signs {
+    /// Whether a slash stands in the text: a year and a month behind it may be two years.
+    pub slashed: bool,
+    /// Whether they are not those of one date in three numbers.
+    pub mixed: bool,
+}
+
+/// Whether a number is a Roman one of one letter that is long.
+fn is_letter(number: Number) -> bool
+    ensures { result ≡ letter_spec number }
+{
+    !number.year
+        && number.digits == 0
+        && (number.value == 100 || number.value == 500 || number.value == 1000)
+}
+
+fn if_long(year: Number, said: Extent) -> Option<Extent>
+    ensures { result ≡ long_spec year said }
+{
+    if is_long(year) && !is_letter(year) {
+        Some(said)
+    } else {
+        None
+    }
+}
+
+/// Whether a number may be that of a month.
+fn is_of_month(number: Number) -> bool
+    ensures { result ≡ of_month_spec number }
+{
+    !is_long(number) && !number.named && !number.day
+}
+
+/// A month and a year in numbers.
+fn two_numbers(slashed: bool, order: Order, a: Number, b: Number) -> Option<Extent>
+    ensures { result ≡ two_spec slashed order a b }
+{
+    if is_year_first(order) {
+        if is_of_month(b) && !slashed {
+            if_long(a, Extent::Month(a, b.value))
+        } else {
+            None
+        }
+    } else if is_of_month(a) {
+        if_long(b, Extent::Month(b, a.value))
+    } else {
+        None
+    }
+}
+
+/// A month or a year.
+fn month_or_year(slashed: bool, order: Order, items: &[Item]) -> Option<Extent>
+    ensures { result ≡ short_spec slashed order items.now }
+{
+    match items {
+        [Item::Number(a)] => if_long(*a, Extent::Year(*a)),
+        [Item::Month(m), Item::Number(a)] => if_long(*a, Extent::Month(*a, *m as u32)),
+        [Item::Number(a), Item::Month(m)] => if_long(*a, Extent::Month(*a, *m as u32)),
+        [Item::Number(a), Item::Number(b)] => two_numbers(slashed, order, *a, *b),
+        _ => None,
+    }
+}
+
+/// Whether items are three numbers.
+fn are_numbers(items: &[Item]) -> bool
+    ensures { result ≡ numbers_spec items.now }
+{
+    match items {
+        [Item::Number(_), Item::Number(_), Item::Number(_)] => true,
+        _ => false,
+    }
+}
+
+/// What three items say as a day, whatever signs stand between them.
+#[tactic(auto, using(crate::proofs::ExtentLemmas::without_signs))]
+fn unsigned_reading(order: Order, items: &[Item]) -> Option<Reading>
+    ensures { result ≡ plain_reading [] order items.now }
+{
+    plain_of(&[], order, items)
+}
+
+/// What three items say as a day, if they are no numbers whose signs differ.
+fn day_reading(mixed: bool, order: Order, items: &[Item]) -> Option<Reading>
+    ensures { result ≡ reading_spec mixed order items.now }
+{
+    if mixed && are_numbers(items) {
+        return None;
+    }
+    unsigned_reading(order, items)
+}
+
+/// A day by its numbers.
+fn said_day(year: Number, month: u32, day: u32) -> SaidDay
+    ensures { result ≡ said_day_spec year month day }
+{
+    SaidDay {
+        year,
+        month,
+        day,
+        adar: false,
+        beside: None,
+    }
+}
+
+/// A day whose year is long.
+fn day_by(reading: Option<Reading>) -> Option<Extent>
+    ensures { result ≡ day_spec reading }
+{
+    match reading {
+        Some(Reading::Civil(year, InYear::Day(month, day))) => {
+            if_long(year, Extent::Day(said_day(year, month, day)))
+        }
+        _ => None,
+    }
+}
+
+/// What items say by numbers and months by name.
+fn named_extent(signs: Signs, order: Order, items: &[Item]) -> Option<Extent>
+    ensures { result ≡ named_spec signs order items.now }
+{
+    match month_or_year(signs.slashed, order, items) {
+        Some(said) => Some(said),
+        None => day_by(day_reading(signs.mixed, order, items)),
+    }
+}
+
+fn is_adar(item: Item) -> bool
+    ensures { result ≡ is_adar_spec item }
+{
+    match item {
+        Item::Adar => true,
+        _ => false,
+    }
+}
+
+/// Whether Adar is among items.
+fn has_adar(items: &[Item]) -> bool
+    ensures { result ≡ list_any is_adar_spec items.now }
+{
+    items.iter().any(|item| is_adar(*item))
+}
+
+fn as_month(item: Item) -> Item
+    ensures { result ≡ month_spec item }
+{
+    match item {
+        Item::Adar => Item::Month(12),
+        _ => item,
+    }
+}
+
+/// Items in which Adar is month 12.
+fn as_months(items: &[Item]) -> ArrayVec<Item, 16>
+    requires { length items.now ≤ 16 }
+    ensures { result.items ≡ map month_spec items.now }
+{
+    let mut months: ArrayVec<Item, 16> = ArrayVec::new();
+    'items: for item in items {
+        let _ = months.try_push(as_month(*item));
+    }
+    months
+}
+
+fn day_in_adar(said: SaidDay) -> SaidDay
+    ensures { result ≡ in_day_spec said }
+{
+    SaidDay {
+        year: said.year,
+        month: said.month,
+        day: said.day,
+        adar: true,
+        beside: said.beside,
+    }
+}
+
+/// What is said of Adar where it is said of month 12.
+fn in_adar(said: Option<Extent>) -> Option<Extent>
+    ensures { result ≡ adar_spec true said }
+{
+    match said {
+        Some(Extent::Month(year, _)) => Some(Extent::Adar(year)),
+        Some(Extent::Day(said)) => Some(Extent::Day(day_in_adar(said))),
+        _ => None,
+    }
+}
+
+/// What items without a weekday say.
+#[tactic(auto, using(crate::proofs::ExtentLemmas::no_adar))]
+pub fn plain_extent(signs: Signs, order: Order, items: &[Item]) -> Option<Extent>
+    requires { length items.now ≤ 16 }
+    ensures { result ≡ plain_spec signs order items.now }
+{
+    if !has_adar(items) {
+        return named_extent(signs, order, items);
+    }
+    let months = as_months(items);
+    in_adar(named_extent(signs, order, months.as_slice()))
+}
+
+/// The weekday, or the day of a decade, in front of items or behind three.
+pub fn weekday_among(items: &[Item]) -> Option<Item>
+    ensures { result ≡ among_spec items.now }
+{
+    match items {
+        [Item::Weekday(weekday), ..] => Some(Item::Weekday(*weekday)),
+        [Item::DecadeDay(number), ..] => Some(Item::DecadeDay(*number)),
+        [_, _, _, Item::Weekday(weekday)] => Some(Item::Weekday(*weekday)),
+        [_, _, _, Item::DecadeDay(number)] => Some(Item::DecadeDay(*number)),
+        _ => None,
+    }
+}
+
+/// What is said with a weekday, which stands beside a day alone.
+pub fn with_weekday(weekday: Option<Item>, said: Option<Extent>) -> Option<Extent>
+    ensures { result ≡ weekday_spec weekday said }
+{
+    let Some(item) = weekday else {
+        return said;
+    };
+    match said {
+        Some(Extent::Day(day)) => Some(Extent::Day(SaidDay {
+            year: day.year,
+            month: day.month,
+            day: day.day,
+            adar: day.adar,
+            beside: Some(item),
+        })),
+        _ => None,
+    }
+}
+
+/// The year of what is said.
+pub fn year_in(said: Extent) -> Number
+    ensures { result ≡ year_in_spec said }
+{
+    match said {
+        Extent::Day(day) => day.year,
+        Extent::Month(year, _) => year,
+        Extent::Adar(year) => year,
+        Extent::Year(year) => year,
+    }
+}
+
+/// What is said, where the calendar can have its year in words, and the year is written whole.
+pub fn if_year(calendar: Calendar, said: Option<Extent>) -> Option<Extent>
+    ensures { result ≡ year_spec calendar said }
+{
+    let said = said?;
+    let year = year_in(said);
+    if has_year(calendar, year.value as u64) && !is_half_year(calendar, year) {
+        Some(said)
+    } else {
+        None
+    }
+}
+
+/// What items without words say.
+#[tactic(auto, using(crate::proofs::ExtentLemmas::few_beside))]
+pub fn extent_of(calendar: Calendar, signs: Signs, order: Order, items: &[Item]) -> Option<Extent>
+    requires { length items.now ≤ 16 }
+    ensures { result ≡ extent_spec calendar signs order items.now }
+{
+    let plain = plain_extent(signs, order, beside_weekday(items));
+    if_year(calendar, with_weekday(weekday_among(items), plain))
+}

@@ -1,0 +1,53 @@
+//! Laws of first and last days. The functions do nothing that matters: their contracts are the laws.
+
+ghost use Rattle.std.specs.Prelude.{◌≡◌, ◌≤◌};
+ghost use Rattle.day_numbers.specs.Rules.{Rules};
+ghost use Rattle.date_texts.specs.Calendars.{by_rules, reckoning};
+ghost use Rattle.date_spans.specs.Laws.{LastDayIsGreatest, MonthIsExact, MonthIsForwards, YearIsExact, YearIsForwards};
+ghost use Rattle.date_spans.specs.Laws.{DatesAreTheirOwnSpans, RegisterDatesAreTheirOwnSpans};
+ghost use Rattle.date_spans.specs.Laws.{SaidIsForwards, SaidMonthIsExact, SaidYearIsExact};
+
+use crate::ends::year_of;
+use crate::extents::Extent;
+use crate::months::months_of;
+use date_texts::Calendar;
+use written_dates::{Choice, Number};
+
+/// The first and the last day of a month have all of its days between them, and no others; the last one is the greatest
+/// day for which the calendar has the date, and not before the first.
+pub fn months_are_exact()
+    ensures greatest { (rules : Rules) → LastDayIsGreatest rules }
+    ensures exact { (rules : Rules) → MonthIsExact rules }
+    ensures forwards { (rules : Rules) → MonthIsForwards rules }
+{}
+
+/// The first and the last day of a year have all of its days between them, and no others, and the last one is not before
+/// the first.
+pub fn years_are_exact(calendar: Calendar, year: u32)
+    requires { year ≤ 99_999 }
+    ensures exact { (rules : Rules) → reckoning calendar ≡ by_rules rules → YearIsExact rules year }
+    ensures forwards { (rules : Rules) → reckoning calendar ≡ by_rules rules → YearIsForwards rules year }
+{
+    let _ = months_of(calendar, year);
+}
+
+/// The ends of a month that is said, and of a year, have exactly its dates between them, and the last one is not before
+/// the first.
+pub fn said_spans_are_exact(choice: &Choice, calendar: Calendar, said: Number, month: u32)
+    ensures month { SaidMonthIsExact choice.now calendar said month }
+    ensures year { SaidYearIsExact choice.now calendar said }
+    ensures month_forwards { SaidIsForwards choice.now calendar (Extent.Month said month) }
+    ensures year_forwards { SaidIsForwards choice.now calendar (Extent.Year said) }
+{
+    let Some(year) = year_of(choice, calendar, said) else {
+        return;
+    };
+    let _ = months_of(calendar, year);
+}
+
+/// What is read as a date today, or stands as registers have it, is its own first and last day, as it is written today,
+/// where it has no dual year.
+pub fn dates_are_their_own_spans()
+    ensures read { DatesAreTheirOwnSpans }
+    ensures stands { RegisterDatesAreTheirOwnSpans }
+{}

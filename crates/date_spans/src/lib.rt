@@ -1,0 +1,18 @@
+//! Texts that say no single day: months, years, ranges, and what lies before or after them. Each says a first and a last
+//! day, as date texts of registers.
+#![tactic(auto)]
+
+mod cuts;
+mod ends;
+mod extents;
+mod items;
+pub mod laws;
+mod months;
+mod sayings;
+mod spans;
+mod styles;
+
+pub use ends::Numbers;
+pub use sayings::Kind;
+pub use spans::{Marks, write_span};
+pub use styles::date_in_both;

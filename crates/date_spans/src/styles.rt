@@ -1,0 +1,121 @@
+//! Days in two styles.
+
+ghost use Rattle.std.specs.Prelude.{◌≡◌, ◌↔◌, ◌≤◌, IsTrue, Some, length};
+ghost use Rattle.date_spans.specs.Styles.{IsOfBoth, IsOneDay, both_dates as both_spec, date_of as date_spec};
+ghost use Rattle.date_spans.specs.Styles.{of_items as items_spec, style_sides as sides_spec, two_dates as two_spec};
+
+use crate::cuts::{Cut, sides};
+use crate::ends::{Numbers, day_of, first_of, holds};
+use crate::extents::{Extent, extent_of};
+use crate::items::items_in;
+use crate::sayings::{RangeSigns, left_of};
+use crate::spans::one_side;
+use date_texts::Calendar;
+use day_numbers::Day;
+use written_dates::{Choice, Item, Names};
+
+/// The date of a day that is said, where it is so.
+fn date_of(choice: &Choice, calendar: Calendar, said: Option<Extent>) -> Option<Numbers>
+    ensures { result ≡ date_spec choice.now calendar said }
+{
+    match said {
+        Some(Extent::Day(day)) => {
+            if holds(choice, calendar, Extent::Day(day)) {
+                first_of(choice, calendar, Extent::Day(day))
+            } else {
+                None
+            }
+        }
+        _ => None,
+    }
+}
+
+fn both_dates(old: Option<Numbers>, new: Option<Numbers>) -> Option<(Numbers, Numbers)>
+    ensures { result ≡ both_spec old new }
+{
+    match (old, new) {
+        (Some(old), Some(new)) => Some((old, new)),
+        _ => None,
+    }
+}
+
+/// The dates that the items before and behind a slash say.
+fn of_items(
+    choice: &Choice,
+    signs: RangeSigns,
+    left: &[Item],
+    right: &[Item],
+) -> Option<(Numbers, Numbers)>
+    requires left { length left.now ≤ 16 }
+    requires right { length right.now ≤ 16 }
+    ensures { result ≡ items_spec choice.now signs (Some left.now) (Some right.now) }
+{
+    let old = left_of(Calendar::Julian, signs, choice.order, left, right);
+    let new = extent_of(Calendar::Gregorian, signs.right, choice.order, right);
+    both_dates(
+        date_of(choice, Calendar::Julian, old),
+        date_of(choice, Calendar::Gregorian, new),
+    )
+}
+
+/// The signs of the sides of a text at a slash.
+fn style_sides(left: &[u8], right: &[u8]) -> RangeSigns
+    ensures { result ≡ sides_spec left.now right.now }
+{
+    let behind = one_side(right);
+    RangeSigns {
+        left: one_side(left),
+        shared: behind,
+        right: behind,
+    }
+}
+
+/// The Julian date before the only slash of a text, and the Gregorian one behind it.
+#[tactic(auto, unfolding(crate::specs::Styles::two_dates))]
+fn two_dates(choice: &Choice, names: &Names, text: &[u8]) -> Option<(Numbers, Numbers)>
+    ensures { result ≡ two_spec choice.now names.now.listed.now text.now }
+{
+    let (left, right) = sides(Cut::Slash, text)?;
+    let before = items_in(Calendar::Julian, names, left)?;
+    let behind = items_in(Calendar::Gregorian, names, right)?;
+    of_items(
+        choice,
+        style_sides(left, right),
+        before.as_slice(),
+        behind.as_slice(),
+    )
+}
+
+/// Whether two days are one.
+fn is_same(day: Day, other: Day) -> bool
+    ensures { IsTrue result ↔ (day.number ≡ other.number) }
+{
+    day.number() == other.number()
+}
+
+/// The second of two dates, where the first one in the Julian calendar and this one in the Gregorian are one day.
+fn one_day(old: Numbers, new: Numbers) -> Option<Numbers>
+    ensures { IsOneDay old new result }
+{
+    let Some(old_day) = day_of(Calendar::Julian, old) else {
+        return None;
+    };
+    let Some(new_day) = day_of(Calendar::Gregorian, new) else {
+        return None;
+    };
+    if is_same(old_day, new_day) {
+        return Some(new);
+    }
+    None
+}
+
+/// The Gregorian date of the day that a text says in both styles, as `10/22 stycznia 1863`: the Julian date before its
+/// only slash, and the Gregorian one behind it. `None` where it says no such two dates, or they are not one day.
+pub fn date_in_both(choice: &Choice, names: &Names, text: &[u8]) -> Option<Numbers>
+    ensures { IsOfBoth (two_spec choice.now names.now.listed.now text.now) result }
+{
+    match two_dates(choice, names, text) {
+        Some((old, new)) => one_day(old, new),
+        None => None,
+    }
+}

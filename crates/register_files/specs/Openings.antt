@@ -19,7 +19,8 @@ abbrev pub IsFresh : {W : Type 0} → outputs.Ghosts W → W → Type 0
 IsFresh o output = (o.contents output ≡ Some []) × (o.has_failed output ≡ false)
 
 -- the output was made by this name, has this mark, and is fresh
-abbrev pub IsNewlyMade : {W : Type 0} → outputs.Ghosts W → (List ℕ → ℕ → W → Type 0) → List ℕ → ℕ → W → Type 0
+abbrev pub IsNewlyMade : {W : Type 0} → outputs.Ghosts W → (List ℕ → ℕ → W → Type 0) → List ℕ → ℕ → W
+    → Type 0
 IsNewlyMade o IsMade name mark output = IsMade name mark output × (o.own_mark output ≡ mark) × IsFresh o output
 
 -- each output goes to the file named like its source's with .out.csv at the end, and is marked by its place, from 1

@@ -1,13 +1,18 @@
 // A second reading of the rules for texts that say no single day: their first and last day and their marks, by regular
 // expressions and counted days; and the text of EDTF for two days. It shares nothing with the crates.
 "use strict";
+const { readFileSync } = require("fs");
+const { join } = require("path");
 const { dateIn, dayOf, monthsOf } = require("./day_counts.cjs");
 const {
   added, bareOf, byYear, formOf, hasMixedSigns, hasOther, isBeside, isDecadeDay, isHalfYear, isLong, isOnWeekday, itemsOf,
   ofThree, written,
 } = require("./reading.cjs");
 
-const REPUBLICAN = ["french", "republican"], WITHOUT_MONTHS = ["iso", "longcount", "roman"];
+const { calendars } = JSON.parse(readFileSync(join(__dirname, "..", "crates", "register_facts", "stdout"), "utf8"));
+// Calendars whose dates are not written by year, month and day.
+const WITHOUT_MONTHS = calendars.filter(it => it.grammar !== calendars[0].grammar).map(it => it.name);
+const REPUBLICAN = ["french", "republican"];
 const BLANK = " \\t\\r\\n\\u00a0\\u202f", DASH = "\\-\\u2010-\\u2014\\u2212", SIGN = `.,/${DASH}`;
 const pattern = (text, flags = "s") => new RegExp(text, flags);
 const MARK = pattern("^(.*)([?~%])$"), OPEN_END = pattern(`[/${DASH}][${BLANK}]*$`), OPEN_FRONT = pattern(`^[${BLANK}]*[/${DASH}]`);

@@ -113,10 +113,10 @@ STREAMS = [
     ("--date=3 '--all= Gregorian' '--to=RD, iso' --names names.csv --summary", SHEET, 0,
      "No,Calendar,Date,rd,iso,refusal\n"
      "7,greg.,12 Mai 1806,659394,1806-W20-1,\n"
-     "8,greg.,1 Meyo 1700,620668,1700-W17-6,\n", lines("standard input: 2 records, refused: 0")),
+     "8,greg.,1 Meyo 1700,620668,1700-W17-6,\n", lines("standard input: 2 records, refused: 0, empty: 0")),
     # Two columns of dates with a calendar for each, blanks round a name, records above, and a delimiter.
     (f"{TWO_COLUMNS} --summary", TWO_DATES, 0, TWO_CONVERTED,
-     lines(not_known("standard input"), "standard input: 2 records, refused: 1, 0")),
+     lines(not_known("standard input"), "standard input: 2 records, refused: 1, 0, empty: 0, 0")),
     # Short years.
     ("--date 1 --all julian --short-years 1800 --to julian", "d\n06-5-12\n", 0,
      "d,julian,refusal\n06-5-12,1806-05-12,\n", ""),
@@ -126,6 +126,12 @@ STREAMS = [
     (f"{COLUMNS} --unknown", SHEET, 0, UNKNOWN, ""),
     # Why dates stay.
     (STAYING_COLUMNS, STAYING, 0, STAYED, lines(*REASONS)),
+    # Of the dates that are refused one is empty; and nothing is said of records of blanks alone.
+    (f"{STAYING_COLUMNS} --summary", STAYING, 0, STAYED,
+     lines(*REASONS, "standard input: 12 records, refused: 10, empty: 1")),
+    ("--date d --calendar c --to rd --summary", "d,c\n1 Mai 1806,gregorian\n , \n,\n,gregorian\n", 0,
+     "d,c,rd,refusal\n1 Mai 1806,gregorian,659383,\n , ,,4\n,,,4\n,gregorian,,5\n",
+     lines("standard input: 2 records, refused: 0, empty: 1")),
     (f"{STAYING_COLUMNS} --unknown", STAYING, 0, "name,means,in,count\n", lines(*REASONS)),
     # Sheets that break off.
     ("--date Datum --calendar Calendar", SHEET, 1, "",

@@ -14,14 +14,20 @@ export const NO_DAY = 2 ** 32 - 1;
 export const NO_CALENDAR = 255;
 // Of three numbers the day stands first.
 const DAY_FIRST = 1;
-// The columns of dates that a sheet can have.
-const MOST_DATES = 8;
+// The columns of dates that a sheet can have, and the numbers of each in a report: how many dates were refused, how many by
+// each reason, and how many are empty.
+const MOST_DATES = 8, COUNTS = FACTS.refusals.length + 2;
 /** Why dates stay as they are written, in the order of the module's counts, from number 1 on. */
 export const REASONS = ['noCalendar', 'character', 'minus', 'otherWeekday', 'noDay', 'noYear', 'noSuchYear', 'noDate'];
 
 // How many dates were stopped by names, left empty for a short year, and stay for each reason.
 function unreadOf(/** @type {number[]} */ [stopped, short, ...counts]) {
   return { stopped, short, reasons: Object.fromEntries(REASONS.map((reason, i) => [reason, counts[i]])) };
+}
+
+// How many dates of a column were refused, by the reason, and how many are empty.
+function dateCountsOf(/** @type {number[]} */ [refused, ...counts]) {
+  return { refused, counts: counts.slice(0, -1), empty: counts[COUNTS - 2] };
 }
 
 /** Memory ran out: what the module answers by an ending 1, and what the heap of this script throws. */
@@ -377,9 +383,10 @@ export class Module {
   convertSheet(text, choice, columns, names, guess) {
     const list = this.put(new TextEncoder().encode(names)), asked = this.put(Uint8Array.from(columns));
     const numbers = this.putNumbers(choice);
-    const { ending, others: [rows, ...counts], text: table } = this.makeFrom('sheet_convert', 19,
-      [text, numbers, asked, list], [numbers, asked, list], guess);
-    return { ending, rows, refused: counts.slice(0, MOST_DATES), table, ...unreadOf(counts.slice(MOST_DATES)) };
+    const ofDates = MOST_DATES * COUNTS, { ending, others: [rows, ...counts], text: table } = this.makeFrom('sheet_convert',
+      12 + ofDates, [text, numbers, asked, list], [numbers, asked, list], guess);
+    const dates = Array.from({ length: MOST_DATES }, (_, k) => dateCountsOf(counts.slice(k * COUNTS, (k + 1) * COUNTS)));
+    return { ending, rows, dates, blank: counts[ofDates], table, ...unreadOf(counts.slice(ofDates + 1)) };
   }
 
   /**

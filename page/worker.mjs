@@ -231,8 +231,7 @@ async function register({ compiled, file, columns, isTold }, tell) {
 function withoutEmpty(module, table, delimiter, { rows, refused, counts }, columns) {
   if (counts[NO_SUCH_NAME - 1] + counts[NOT_WRITTEN - 1] === 0) return { empty: 0 };
   const fields = 2 * (rows + 1), guess = { fields, bytes: 4096 + 8 * fields };
-  const { counts: [now], empty: [empty] } = module.pickAll(table, delimiter, columns, guess,
-    (bytes, lengths) => countsAmong(bytes, lengths, 1, 0));
+  const { counts: now, empty } = module.pickAll(table, delimiter, columns, guess, countsAmong);
   return { refused: refused - empty, counts: now, empty };
 }
 
@@ -548,56 +547,18 @@ function isBlank(bytes, from, to) {
   return true;
 }
 
-// Counts refusals: each of them is a field behind that of its date, of which a blank one is empty and not refused. The
-// records where all dates are empty come beside them, from 0.
-function countsAmong(bytes, lengths, dates, above) {
-  const counts = range(dates).map(() => FACTS.refusals.map(() => 0)), empty = range(dates).map(() => 0), without = [];
-  const records = lengths.length / (2 * dates);
-  for (let record = 0, at = 0, i = 0; record < records; record += 1) {
-    let isWithout = record > above;
-    for (let k = 0; k < dates; k += 1, i += 2) {
-      const end = at + lengths[i], isEmpty = isBlank(bytes, at, end), isRefused = lengths[i + 1] > 0 && record > above;
-      const refusal = isRefused ? bytes[end] - DIGIT_0 : 0;
-      if (isEmpty && (refusal === NO_SUCH_NAME || refusal === NOT_WRITTEN)) empty[k] += 1;
-      else if (isRefused) counts[k][refusal - 1] += 1;
-      isWithout &&= isEmpty;
-      at = end + lengths[i + 1];
-    }
-    if (isWithout) without.push(record);
+// Counts the refusals of a table: each of them is a field behind that of its date, of which a blank one is empty and not
+// refused.
+function countsAmong(bytes, lengths) {
+  const counts = FACTS.refusals.map(() => 0);
+  let empty = 0;
+  for (let i = 0, at = 0; i < lengths.length; i += 2) {
+    const end = at + lengths[i], refusal = lengths[i + 1] > 0 && i > 0 ? bytes[end] - DIGIT_0 : 0;
+    if ((refusal === NO_SUCH_NAME || refusal === NOT_WRITTEN) && isBlank(bytes, at, end)) empty += 1;
+    else if (refusal > 0) counts[refusal - 1] += 1;
+    at = end + lengths[i + 1];
   }
-  return { counts, empty, without };
-}
-
-// How many of these records have blank fields alone: so many columns at most are looked at once.
-function blankAmong(module, text, delimiter, records, width) {
-  const most = Math.max(1, Math.floor(FIELDS_AT_ONCE / width));
-  let blank = 0;
-  for (let from = 0; from < records.length; from += most) {
-    const some = module.sheetRecords(text, delimiter, records.slice(from, from + most));
-    const guess = { fields: most * width, bytes: some.length + 64 };
-    blank += module.pickAll(some, delimiter, range(width), guess, (bytes, lengths) => {
-      const full = new Set();
-      let at = 0;
-      lengths.forEach((length, i) => {
-        if (!isBlank(bytes, at, at + length)) full.add(Math.floor(i / width));
-        at += length;
-      });
-      return lengths.length / width - full.size;
-    });
-    module.free(some);
-  }
-  return blank;
-}
-
-// Of each column of dates, how many were refused by the reason, and how many are empty; and how many lines are blank, of
-// which nothing is said.
-function refusalCounts({ module, text, delimiter }, table, { above, dates, places, own, rows }, width) {
-  const columns = range(dates).flatMap((k) => [places[k][0], own + (k + 1) * width - 1]);
-  const fields = (above + 1 + rows) * 2 * dates;
-  const { counts, empty, without } = module.pickAll(table, delimiter, columns, { fields, bytes: 4096 + 8 * fields },
-    (bytes, lengths) => countsAmong(bytes, lengths, dates, above));
-  const blank = without.length ? blankAmong(module, text, delimiter, without, own) : 0;
-  return { counts, empty: empty.map((count) => count - blank), blank };
+  return { counts, empty };
 }
 
 // Whether the sheet has other names of columns than these.
@@ -618,11 +579,12 @@ async function convertSheet({ choice, places, columns, names, heading, records, 
   const told = isTold ? await blobOf(module, text) : null;
   if (told) tell({ text: told });
   const dates = places.length, behind = behindOf(dates, columns), guess = expectedLength(text.length, records, behind);
-  const { ending, rows, refused, table, stopped, reasons } =
+  const { ending, rows, dates: of, blank, table, stopped, reasons } =
     module.convertSheet(text, choice, columnNumbers(columns), namesWith(names), guess);
   await checkUnchanged(read.file, read.bytesAt);
-  const whole = { ending, rows, refused: refused.slice(0, dates), first: null, refusedDates: [], counts: [], table: null,
-    empty: range(dates).map(() => 0), blank: 0, stopped, reasons };
+  const ofDates = of.slice(0, dates), refused = ofDates.map((it) => it.refused);
+  const whole = { ending, rows, refused, counts: ofDates.map((it) => it.counts), empty: ofDates.map((it) => it.empty), blank,
+    first: null, refusedDates: [], table: null, stopped, reasons };
   if (ending !== 0) return whole;
   const first = firstJoined(module, table, delimiter, above, behind), { own: width } = first;
   const found = foundOf(read, table, { above, dates, places, own: width, rows }, refused, columns.length + 1);
@@ -635,9 +597,7 @@ async function convertSheet({ choice, places, columns, names, heading, records, 
 function foundOf({ module, text, delimiter }, table, made, refused, width) {
   const formulas = formulasOf(module, text, table, delimiter, made.own, made.above + made.rows);
   if (!refused.some(Boolean)) return { formulas };
-  const counted = refusalCounts({ module, text, delimiter }, table, made, width);
-  const refusedNow = counted.counts.map((ofReason) => ofReason.reduce((sum, count) => sum + count, 0));
-  return { formulas, ...counted, refused: refusedNow, refusedDates: refusedDates(module, table, delimiter, made, width) };
+  return { formulas, refusedDates: refusedDates(module, table, delimiter, made, width) };
 }
 
 // Throws where a call of the module was not ended as it should.

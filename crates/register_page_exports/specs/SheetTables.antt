@@ -8,6 +8,7 @@ use Rattle.register_sheets.specs.Registers.{IsRegister}
 use Rattle.register_sheets.specs.UnknownNames.{AreUnreadIn, IsUnknown, NameCount, list_text}
 use Rattle.register_sheets.specs.declared.choices.DateColumn.{DateColumn}
 use Rattle.register_sheets.specs.declared.choices.SheetChoice.{SheetChoice}
+use Rattle.register_sheets.specs.declared.date_counts.SheetCounts.{SheetCounts}
 use Rattle.register_sheets.specs.declared.name_lists.NameLine.{NameLine}
 use Rattle.register_sheets.specs.declared.name_lists.NameListFault.{NameListFault}
 use Rattle.register_sheets.specs.declared.name_lists.NameListFault.TheVariants as fault
@@ -37,12 +38,12 @@ abbrev pub IsChoiceAt : ℕ → SheetChoice → Type 0
 IsChoiceAt place choice = IsChoice choice × (place < length choice.dates.now)
 
 -- the sheet that comes back for what is asked
-pub record IsAskedSheet (numbers columns names sheet : List ℕ) (count : ℕ) (refused : List ℕ) (unread : UnreadDates)
-    (bytes : List ℕ) : Type 0 where
+pub record IsAskedSheet (numbers columns names sheet : List ℕ) (count : ℕ) (counts : SheetCounts)
+    (unread : UnreadDates) (bytes : List ℕ) : Type 0 where
   pub choice : SheetChoice
   pub asked : IsAsked numbers columns names sheet choice
   pub is_choice : IsChoice choice
-  pub whole : IsWholeSheet choice (text_records choice.delimiter sheet) count refused bytes
+  pub whole : IsWholeSheet choice (text_records choice.delimiter sheet) count counts bytes
   pub all_unread : AreUnreadIn choice (text_records choice.delimiter sheet) unread
 
 -- the register of a column of dates for what is asked
@@ -74,7 +75,8 @@ EndsBy Is P sheet ending.Choice = (choice : SheetChoice) × Is choice × ¬ (P c
 EndsBy Is P sheet ending.NoNames =
     (choice : SheetChoice) × Is choice × P choice × (length (text_records choice.delimiter sheet) ≤ choice.above)
 EndsBy Is P sheet ending.TooManyRecords =
-    (choice : SheetChoice) × Is choice × P choice × (record_limit < length (below choice (text_records choice.delimiter sheet)))
+    (choice : SheetChoice) × Is choice × P choice
+    × (record_limit < length (below choice (text_records choice.delimiter sheet)))
 
 -- the text is no list of names
 abbrev pub HasFault : List ℕ → Type 0

@@ -22,7 +22,7 @@ use crate::sheets::{TextReport, put_text};
 use register_page::{bytes_for, copy_if_fits};
 use register_records::PlainOutput;
 use register_sheets::{
-    AskedByNames, AskedOfSheet, MAX_DATES, NameList, NameListFault, SheetCause, SheetEnd,
+    AskedByNames, AskedOfSheet, NameList, NameListFault, SheetCause, SheetCounts, SheetEnd,
     SheetSetup, Unknown, UnreadDates, convert_sheet, unknown_names, write_register,
 };
 use std::alloc::{AllocError, Global};
@@ -119,13 +119,12 @@ fn setup_of<'a>(known: &'a AskedByNames<'a>) -> Result<SheetSetup<'a>, SheetEndi
     }
 }
 
-/// A sheet that came back, how many records it has, how many were refused for each column of dates, and how many dates
-/// were not read.
+/// A sheet that came back, how many records it has, and how many of their dates were refused, are empty, or were not read.
 #[derive(Drop)]
 struct SheetMade {
     text: Vec<u8>,
     rows: u32,
-    refused: [u32; MAX_DATES],
+    counts: SheetCounts,
     unread: UnreadDates,
 }
 
@@ -137,7 +136,7 @@ fn converted_by(
     expected: usize,
 ) -> Result<SheetMade, SheetEnding>
     ensures whole { IfOk result (λ made. (choice : SheetChoiceValue) × IsChoiceBy known.now choice × IsChoice choice
-        × IsWholeSheet choice (text_records choice.delimiter sheet.now) made.rows made.refused made.text.items
+        × IsWholeSheet choice (text_records choice.delimiter sheet.now) made.rows made.counts made.text.items
         × AreUnreadIn choice (text_records choice.delimiter sheet.now) made.unread) }
     ensures ends { IfErr result (EndsBy (IsChoiceBy known.now) IsChoice sheet.now) }
 {
@@ -148,12 +147,12 @@ fn converted_by(
     match end {
         SheetEnd::Whole {
             rows,
-            refused,
+            counts,
             unread,
         } => Ok(SheetMade {
             text,
             rows,
-            refused,
+            counts,
             unread,
         }),
         SheetEnd::Broken { cause } => Err(ending_of(cause)),
@@ -247,7 +246,7 @@ fn converted(
     expected: usize,
 ) -> Result<SheetMade, SheetEnding>
     ensures whole { IfOk result (λ made.
-        IsAskedSheet choice.now columns.now names.now sheet.now made.rows made.refused made.unread made.text.items) }
+        IsAskedSheet choice.now columns.now names.now sheet.now made.rows made.counts made.unread made.text.items) }
     ensures ends { IfErr result (EndsFor IsChoice choice.now columns.now names.now sheet.now) }
 {
     made_by(alloc, sheet, choice, columns, names, |known| {
@@ -298,9 +297,10 @@ pub struct SheetReport {
     pub ending: usize,
     /// How many bytes it has. Where they are more than the room, that is as it was.
     pub length: usize,
-    /// How many records stand below the names, and how many of them were refused for each column of dates.
+    /// How many records stand below the names.
     pub rows: usize,
-    pub refused: [usize; MAX_DATES],
+    /// How many of their dates were refused, and how many are empty.
+    pub counts: SheetCounts,
     /// How many dates were not read.
     pub unread: UnreadDates,
 }
@@ -319,17 +319,6 @@ pub struct UnknownReport {
     pub unread: UnreadDates,
 }
 
-/// The same numbers as words.
-fn words_of(numbers: [u32; MAX_DATES]) -> [usize; MAX_DATES]
-    ensures { result ≡ numbers }
-{
-    let mut words = [0; MAX_DATES];
-    'numbers: for i in 0..MAX_DATES {
-        words[i] = numbers[i] as usize;
-    }
-    words
-}
-
 /// Converts a sheet by the choice of these numbers, and puts it to the front of `room`.
 #[unsafe(no_mangle)]
 pub extern "C" fn sheet_convert(
@@ -342,7 +331,7 @@ pub extern "C" fn sheet_convert(
     report: &mut SheetReport,
 )
     ensures whole { report.new.ending ≡ 0 → (text : List ℕ)
-        × IsAskedSheet choice.now columns.now names.now sheet.now report.new.rows report.new.refused report.new.unread text
+        × IsAskedSheet choice.now columns.now names.now sheet.now report.new.rows report.new.counts report.new.unread text
         × PutsText text room.old room.new report.new.length }
     ensures none { report.new.ending ≢ 0 → (report.new.length ≡ 0) × (report.new.rows ≡ 0) × (room.new ≡ room.old) }
     ensures why { report.new.ending ≢ 0
@@ -353,14 +342,14 @@ pub extern "C" fn sheet_convert(
             ending: 0,
             length: copy_if_fits(made.text.as_slice(), room),
             rows: made.rows as usize,
-            refused: words_of(made.refused),
+            counts: made.counts,
             unread: made.unread,
         },
         Err(ending) => SheetReport {
             ending: ending.number(),
             length: 0,
             rows: 0,
-            refused: [0; MAX_DATES],
+            counts: SheetCounts::none(),
             unread: UnreadDates::none(),
         },
     };

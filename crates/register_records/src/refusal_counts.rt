@@ -7,7 +7,7 @@ use date_texts::Refusal;
 
 /// How many records were refused with each refusal.
 #[repr(C)]
-#[derive(Clone, Copy)]
+#[derive(Clone, Copy, PartialEq, Eq)]
 pub struct RefusalCounts {
     pub field_count: usize,
     pub field_too_long: usize,
@@ -65,7 +65,7 @@ impl RefusalCounts {
     }
 
     /// Counts one more that was refused with this.
-    fn add(&mut self, refusal: Refusal)
+    pub fn add(&mut self, refusal: Refusal)
         requires { count_of self.old refusal < 2 ^ 63 }
         ensures { (other : Refusal) → count_of self.new other
             ≡ count_of self.old other + cond (refusal_number refusal == refusal_number other) 1 0 }

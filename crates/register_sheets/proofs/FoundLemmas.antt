@@ -48,7 +48,8 @@ has_room most stops names are few =
     }
 
 -- of each date there is what stopped it
-pub zip_length : {A B : Type 0} (P : A → B → Type 0) (xs : List A) (ys : List B) → AllZip P xs ys → length ys ≡ length xs
+pub zip_length : {A B : Type 0} (P : A → B → Type 0) (xs : List A) (ys : List B) → AllZip P xs ys
+    → length ys ≡ length xs
 zip_length P [] [] zip = refl
 zip_length P [] (y ∷ ys) zip = absurd zip
 zip_length P (x ∷ xs) [] zip = absurd zip

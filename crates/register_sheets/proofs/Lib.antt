@@ -11,6 +11,7 @@ pub mod MeaningLemmas
 pub mod NameListLemmas
 pub mod SendingLemmas
 pub mod NameLemmas
+pub mod CountLemmas
 pub mod RowLemmas
 pub mod WidthLemmas
 pub mod AskedLemmas

@@ -1,6 +1,6 @@
 -- What the texts of meanings have, and what they lack.
 use lib.Signed.{mag}
-use Rattle.std.proofs.Common.{◌≡◌, ◌≢◌, ◌<◌, ◌≤◌, ◌^◌, ◌++◌, ◌∙◌, ◌==◌, ◌||◌, ℕ, zero, suc, Bool, true, false, List, [], ◌∷◌}
+use Rattle.std.proofs.Common.{◌≡◌, ◌≢◌, ◌<◌, ◌≤◌, ◌^◌, ◌++◌, ◌∙◌, ◌==◌, ℕ, zero, suc, Bool, true, false, List, [], ◌∷◌}
 use Rattle.std.proofs.Common.{ap, append-nil, arith, get_or, length, length-append, refl, sym, ℤ, pos, negsuc, FitsSigned, w16}
 use Rattle.std.specs.Fmt.{decimal, signed_decimal}
 use Rattle.std.specs.List.{list_any}
@@ -40,7 +40,8 @@ season_lacks Trinity = lacks 32 (season_name Trinity) refl
 season_lacks Advent = lacks 32 (season_name Advent) refl
 
 -- where a text is cut at the first byte of a kind is one place
-pub first_same : (c : ℕ) (a x b y : List ℕ) → Lacks c a → Lacks c x → a ++ c ∷ b ≡ x ++ c ∷ y → (a ≡ x) × (b ≡ y)
+pub first_same : (c : ℕ) (a x b y : List ℕ) → Lacks c a → Lacks c x → a ++ c ∷ b ≡ x ++ c ∷ y
+    → (a ≡ x) × (b ≡ y)
 first_same c [] [] b y la lx e = (refl, cc)
 first_same c [] (d ∷ x) b y la lx e = absurd (lx 0 (omega arith) (cc))
 first_same c (d ∷ a) [] b y la lx e = absurd (la 0 (omega arith) (cc))
@@ -60,7 +61,8 @@ plain_by : (none : Bool) (text : List ℕ) (day : ℕ) (days : ℤ) → Lacks 32
 plain_by true text day days lack is = is ∙ append-nil (decimal day)
 plain_by false text day days lack is = absurd (stands 32 (decimal day) (signed_decimal days) text is lack)
 
-pub plain_day : (text : List ℕ) (day : ℕ) (days : ℤ) → Lacks 32 text → text ≡ day_name day days → text ≡ decimal day
+pub plain_day : (text : List ℕ) (day : ℕ) (days : ℤ) → Lacks 32 text → text ≡ day_name day days
+    → text ≡ decimal day
 plain_day text day days = plain_by (int_eq days (pos 0)) text day days
 
 -- a day with a blank has days behind it, which are not 0
@@ -88,6 +90,6 @@ fits_mag (pos n) fits = omega (arith, ints)
 fits_mag (negsuc n) fits = omega (arith, ints)
 
 -- a text says one number of days
-pub same_days : (text : List ℕ) (a b : ℤ) → mag a < 2 ^ 63 → IsFewDays b → text ≡ signed_decimal a → text ≡ signed_decimal b
-    → a ≡ b
+pub same_days : (text : List ℕ) (a b : ℤ) → mag a < 2 ^ 63 → IsFewDays b → text ≡ signed_decimal a
+    → text ≡ signed_decimal b → a ≡ b
 same_days text a b small few one other = signed_decimal_injective a b small (few_mag b few) (sym one ∙ other)

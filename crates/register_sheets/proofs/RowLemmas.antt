@@ -1,22 +1,23 @@
 -- The rows of records, one record after the other.
-use Rattle.std.proofs.Common.{◌≡◌, ◌≤◌, ◌<◌, ◌∙◌, ◌++◌, ◌+◌, ℕ, zero, suc, List, [], ◌∷◌, ◌≢◌, None, Option, Some, add-one, ap}
+use Rattle.std.proofs.Common.{◌≡◌, ◌≤◌, ◌<◌, ◌∙◌, ◌++◌, ◌+◌, ℕ, zero, suc, List, [], ◌∷◌, Some, ap}
 use Rattle.std.proofs.Common.{append-nil, append_assoc, arith}
-use Rattle.std.proofs.lemmas.Bool.Decides.{eqb_tells}
-use Rattle.std.proofs.Common.{cond, length-take, count_by, drop, get_or, get_or-set_other, get_or-set_same, inl, inr, set}
+use Rattle.std.proofs.Common.{length-take, drop, get_or, set}
 use Rattle.std.proofs.Common.{length, refl, subst, sym, take}
-use Rattle.std.specs.Prelude.{option_to_list, slice_get, map}
+use Rattle.std.specs.Prelude.{slice_get, map}
 use Rattle.std.specs.List.{AllZip, flat_map}
 use Rattle.std.proofs.Math.Seq.{take-append_seam}
 use Rattle.std.proofs.lemmas.List.{map-append, take-map, take_more, take_more_set}
 use Rattle.std.proofs.lemmas.List.Concat.{flat_map-append}
-use Rattle.std.proofs.lemmas.List.Sums.{count_by-le-length, sum_by-append}
 use Rattle.register_records.specs.Entries.{Fields, record_limit}
 use Rattle.register_records.specs.Outcomes.{TableRow}
 use Rattle.register_sheets.specs.Converted.{AreRowsFrom, AreRowsOfRecord, below, body_record, body_records}
-use Rattle.register_sheets.specs.Converted.{column_rows, head_record, is_refused, sheet_records}
-use Rattle.register_sheets.specs.RowViews.{CountsMore, CountsRefused, TakesRecord, rows_seen}
+use Rattle.register_sheets.specs.Converted.{head_record, sheet_records}
+use Rattle.register_sheets.specs.CountViews.{CountsRecord}
+use Rattle.register_sheets.specs.RowViews.{CountsMore, TakesRecord, rows_seen}
 use Rattle.register_sheets.specs.UnknownNames.{dates_of}
+use Rattle.register_sheets.specs.declared.date_counts.SheetCounts.{SheetCounts}
 use Rattle.register_sheets.specs.declared.sheet_rows.SheetRows.{SheetRows}
+use Rattle.register_sheets.specs.DateCounts.{AreSheetCounts}
 use Rattle.register_sheets.specs.Sending.{CountsAll, HasBody}
 use Rattle.register_sheets.specs.Sheets.{filled, widest}
 use Rattle.register_sheets.specs.declared.choices.AskedColumn.{AskedColumn}
@@ -53,28 +54,26 @@ body_front width columns (x ∷ xs) zs (y ∷ ys) e =
 body_front width columns [] zs (y ∷ ys) e = absurd (omega arith)
 body_front width columns (x ∷ xs) zs [] e = absurd (omega arith)
 
+-- the first of all records
+front_of : (done left all : List Fields) (n : ℕ) → done ++ left ≡ all → length done ≡ n → take n all ≡ done
+front_of done left all n whole same =
+    ap (take n) (sym whole) ∙ ap (λ k. take k (done ++ left)) (sym same) ∙ take-append_seam done left
+
 pub has_body : (choice : SheetChoice) (done left all : List Fields) (rows : List (List TableRow)) → done ++ left ≡ all
-    → length done ≡ length rows → length rows ≤ record_limit → AreRowsFrom choice 0 done rows → HasBody choice all rows
+    → length done ≡ length rows → length rows ≤ record_limit → AreRowsFrom choice 0 done rows
+    → HasBody choice all rows
 has_body choice done left all rows whole same few h =
     record {
       converted = subst (λ xs. AreRowsFrom choice 0 xs rows)
-          (sym (ap (take (length rows)) (sym whole) ∙ ap (λ n. take n (done ++ left)) (sym same)
-          ∙ take-append_seam done left)) h;
+          (sym (front_of done left all (length rows) whole same)) h;
       limited = few;
     }
 
--- one more is counted
-counted_both : (xs ys : List TableRow) → count_by is_refused (xs ++ ys) ≡ count_by is_refused xs + count_by is_refused ys
-counted_both xs ys = sum_by-append (λ x. cond (is_refused x) 1 0) xs ys
-
-pub counts_more : (rows : List (List TableRow)) (one : List TableRow) (old new : List ℕ) → CountsAll rows old
-    → CountsRefused one old new → CountsAll (rows ++ one ∷ []) new
-counts_more rows one old new all one_more place =
-    let f : List TableRow → List TableRow = λ of_record. option_to_list (slice_get of_record place) in
-    one_more place ∙ ap (λ n. n + count_by is_refused (f one)) (all place)
-    ∙ sym (counted_both (column_rows place rows) (f one))
-    ∙ ap (count_by is_refused)
-    (ap (λ xs. column_rows place rows ++ xs) (sym (append-nil (f one))) ∙ sym (flat_map-append f rows (one ∷ [])))
+pub counted_front : (choice : SheetChoice) (done left all : List Fields) (rows : List (List TableRow)) (counts : SheetCounts)
+    → done ++ left ≡ all → length done ≡ length rows → AreSheetCounts choice.dates.now done rows counts
+    → CountsAll choice all rows counts
+counted_front choice done left all rows counts whole same h =
+    subst (λ xs. AreSheetCounts choice.dates.now xs rows counts) (sym (front_of done left all (length rows) whole same)) h
 
 -- the records that come back
 joined : (xs ys : List Fields) (x : Fields) → (([] ++ xs) ++ x ∷ []) ++ ys ≡ xs ++ x ∷ ys
@@ -111,39 +110,6 @@ pub sheet_made : (choice : SheetChoice) (records left rest : List Fields) (width
 sheet_made choice records left rest width rows e f w =
     let same : rest ≡ below choice records = below_names choice records left rest e f in
     rw (same, w, e, same_head choice.above records []) (joined (take choice.above records) _ (head_record choice records))
-
--- one place more is counted
-one_counted : (rows : List TableRow) (place q n : ℕ) (row : TableRow) → slice_get rows place ≡ Some row
-    → (q ≡ place → n ≡ count_by is_refused (row ∷ [])) → (q ≢ place → n ≡ 0)
-    → count_by is_refused (option_to_list (slice_get (take (suc place) rows) q))
-    ≡ count_by is_refused (option_to_list (slice_get (take place rows) q)) + n
-one_counted [] place q n row at here else_none = absurd (cc)
-one_counted (x ∷ rows) zero zero n row at here else_none =
-    let same : x ≡ row = cc in rw same (omega (arith, here refl))
-one_counted (x ∷ rows) zero (suc q) n row at here else_none = omega (arith, else_none (λ e. omega arith))
-one_counted (x ∷ rows) (suc place) zero n row at here else_none = omega (arith, else_none (λ e. omega arith))
-one_counted (x ∷ rows) (suc place) (suc q) n row at here else_none =
-    one_counted rows place q n row at (λ e. here (ap suc e)) (λ ne. else_none (λ e. ne (omega arith)))
-
-pub place_counted : (rows : List TableRow) (row : TableRow) (place n : ℕ) (old mid : List ℕ)
-    → slice_get rows place ≡ Some row → n ≡ count_by is_refused (row ∷ []) → place < length mid
-    → CountsRefused (take place rows) old mid
-    → CountsRefused (take (place + 1) rows) old (set mid place (get_or mid place 0 + n))
-place_counted rows row place n old mid at is room counted q =
-    elim (eqb_tells q place) [
-      | inl same ↦
-          rw (add-one place, one_counted rows place q n row at (λ _. is) (λ ne. absurd (ne same.1)))
-          (omega (
-            arith,
-            counted q,
-            ap (λ k. get_or (set mid place (get_or mid place 0 + n)) k 0) same.1,
-            get_or-set_same mid place (get_or mid place 0 + n) 0 room,
-            ap (λ k. get_or mid k 0) same.1,
-          ))
-      | inr other ↦
-          rw (add-one place, one_counted rows place q 0 row at (λ e. absurd (other.1 e)) (λ _. refl))
-          (omega (arith, counted q, get_or-set_other mid place q (get_or mid place 0 + n) 0 other.1))
-    ]
 
 -- heterogeneous lists, one element more
 pub zip_more : {X Y : Type 0} (R : X → Y → Type 0) (xs : List X) (ys : List Y) (x : X) (y : Y) → AllZip R xs ys → R x y
@@ -211,24 +177,16 @@ pub seen_count : {X Y : Type 0} (f : X → Y) (n m : ℕ) (xs ys : List X) → n
 seen_count f n m xs ys e h =
     omega (arith, mapped_length f (take n xs), mapped_length f (take m ys), length-take n xs, length-take m ys)
 
--- at most one row more is refused
-one_or_none : (row : Option TableRow) → count_by is_refused (option_to_list row) ≤ 1
-one_or_none None = omega arith
-one_or_none (Some row) = omega (arith, count_by-le-length is_refused (row ∷ []))
-
-pub one_at_most : (rows : List TableRow) (old new : List ℕ) → CountsRefused rows old new → (place : ℕ)
-    → get_or new place 0 ≤ get_or old place 0 + 1
-one_at_most rows old new counts place = omega (arith, counts place, one_or_none (slice_get rows place))
-
 -- the rows are made those of a record, and then counted
 pub record_taken : (choice : SheetChoice) (number : ℕ) (fields : Fields) (old mid new : SheetRows)
     → AreRowsOfRecord choice number fields (rows_seen mid) → CountsMore choice (dates_of choice fields) old.unread mid.unread
-    → mid.refused ≡ old.refused → rows_seen new ≡ rows_seen mid → new.unread ≡ mid.unread
-    → CountsRefused (rows_seen mid) mid.refused new.refused → TakesRecord choice number fields old new
+    → mid.counts ≡ old.counts → rows_seen new ≡ rows_seen mid → new.unread ≡ mid.unread
+    → CountsRecord choice.dates.now fields (rows_seen mid) mid.counts new.counts → TakesRecord choice number fields old new
 record_taken choice number fields old mid new are more kept same read counts =
     record {
       rows = subst (AreRowsOfRecord choice number fields) (sym same) are;
-      counted = subst (λ (rows : List TableRow). CountsRefused rows old.refused new.refused) (sym same)
-          (subst (λ (refused : List ℕ). CountsRefused (rows_seen mid) refused new.refused) kept counts);
+      counted = subst (λ (rows : List TableRow). CountsRecord choice.dates.now fields rows old.counts new.counts) (sym same)
+          (subst (λ (counted : SheetCounts). CountsRecord choice.dates.now fields (rows_seen mid) counted new.counts) kept
+          counts);
       unread = subst (CountsMore choice (dates_of choice fields) old.unread) (sym read) more;
     }

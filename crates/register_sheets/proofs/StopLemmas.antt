@@ -67,7 +67,8 @@ pub firsts_apart : (stops : List NameStop) → AreApart (firsts stops)
 firsts_apart [] = tt
 firsts_apart (x ∷ xs) = (none_alike x (firsts xs), apart_filtered _ (firsts xs) (firsts_apart xs))
 
-none_taken : (q : NameStop → Bool) (k : ℕ) (xs : List NameStop) → list_any q xs ≡ false → list_any q (take k xs) ≡ false
+none_taken : (q : NameStop → Bool) (k : ℕ) (xs : List NameStop) → list_any q xs ≡ false
+    → list_any q (take k xs) ≡ false
 none_taken q zero xs e = refl
 none_taken q (suc k) [] e = refl
 none_taken q (suc k) (x ∷ xs) e =

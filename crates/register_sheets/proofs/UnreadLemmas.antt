@@ -1,5 +1,5 @@
 -- Dates that were not read are counted record by record.
-use Rattle.std.proofs.Common.{◌≡◌, ◌≤◌, ◌<◌, ◌+◌, ◌++◌, List, [], ◌∷◌, ℕ, Option, ap, arith, cond, get_or, length}
+use Rattle.std.proofs.Common.{◌≤◌, ◌<◌, ◌+◌, ◌++◌, List, [], ◌∷◌, ℕ, Option, ap, arith, cond, get_or, length}
 use Rattle.std.proofs.Common.{length-append, map, subst, sym, take}
 use Rattle.std.proofs.lemmas.List.Sums.{count_by-le-length, sum_by-append}
 use Rattle.register_records.specs.Entries.{Fields, record_limit}

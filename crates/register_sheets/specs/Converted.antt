@@ -1,6 +1,6 @@
 -- The sheet that comes back.
-use Rattle.std.specs.Prelude.{◌≡◌, ◌⊎◌, ◌+◌, ◌++◌, ◌<◌, ◌≤◌, ⊤, ℕ, codes, Bool, List, [], ◌∷◌}
-use Rattle.std.specs.Prelude.{drop, is_err, get_or, length, map, option_to_list, slice_get, take, count_by}
+use Rattle.std.specs.Prelude.{◌≡◌, ◌⊎◌, ◌+◌, ◌++◌, ◌<◌, ◌≤◌, ⊤, ℕ, codes, List, [], ◌∷◌}
+use Rattle.std.specs.Prelude.{drop, get_or, length, map, take}
 use Rattle.std.specs.List.{AllZip, find, flat_map}
 use Rattle.std.specs.Option.{option_map_or}
 use Rattle.std.specs.Str.{bytes_eq}
@@ -8,10 +8,12 @@ use Rattle.register_records.specs.Columns.{Column, kind_columns, tail_order}
 use Rattle.register_records.specs.Entries.{Fields, record_limit}
 use Rattle.register_records.specs.Outcomes.{IsRowOf, TableRow}
 use Rattle.register_sheets.specs.Choices.{asked_targets, register_entry}
+use Rattle.register_sheets.specs.DateCounts.{AreSheetCounts}
 use Rattle.register_sheets.specs.Sheets.{filled, records_text, widest}
 use Rattle.register_sheets.specs.declared.choices.AskedColumn.{AskedColumn}
 use Rattle.register_sheets.specs.declared.choices.AskedColumn.TheVariants.{Cells, DayNumber, Weekday}
 use Rattle.register_sheets.specs.declared.choices.SheetChoice.{SheetChoice}
+use Rattle.register_sheets.specs.declared.date_counts.SheetCounts.{SheetCounts}
 use Rattle.register_sheets.specs.declared.sheet_ends.SheetCause.{SheetCause}
 use Rattle.register_sheets.specs.declared.sheet_ends.SheetEnd.{SheetEnd}
 use Rattle.register_sheets.specs.declared.sheet_ends.SheetEnd.TheVariants as end
@@ -91,23 +93,15 @@ pub record AreFirstRows (choice : SheetChoice) (records : List Fields) (rows : L
   pub converted : AreRowsFrom choice 0 (take (length rows) (below choice records)) rows
   pub limited : length rows ≤ record_limit
 
-abbrev pub is_refused : TableRow → Bool
-is_refused row = is_err row.outcome
-
--- the rows of a column of dates
-abbrev pub column_rows : ℕ → List (List TableRow) → List TableRow
-column_rows place rows = flat_map (λ (of_record : List TableRow). option_to_list (slice_get of_record place)) rows
-
--- these bytes are the sheet with the columns asked, with so many records below the names and, for each column of dates,
--- so many refused ones
-pub record IsWholeSheet (choice : SheetChoice) (records : List Fields) (count : ℕ) (refused : List ℕ)
+-- these bytes are the sheet with the columns asked, with so many records below the names, of whose dates so many were
+-- refused or are empty
+pub record IsWholeSheet (choice : SheetChoice) (records : List Fields) (count : ℕ) (counts : SheetCounts)
     (bytes : List ℕ) : Type 0 where
   pub rows : List (List TableRow)
   pub first : AreFirstRows choice records rows
   pub all : length rows ≡ length (below choice records)
   pub counted : count ≡ length rows
-  pub refused_counted : (place : ℕ) → place < length choice.dates.now
-      → get_or refused place 0 ≡ count_by is_refused (column_rows place rows)
+  pub dates_counted : AreSheetCounts choice.dates.now (below choice records) rows counts
   pub written : bytes ≡ records_text choice.delimiter (sheet_records choice records rows)
 
 -- these bytes are its first records, which may be none
@@ -129,10 +123,10 @@ pub record IsFullSheet (choice : SheetChoice) (records : List Fields) (bytes : L
   pub more : record_limit < length (below choice records)
   pub written : bytes ≡ records_text choice.delimiter (sheet_records choice records rows)
 
-abbrev pub IfWhole : SheetEnd → (ℕ → List ℕ → UnreadDates → Type 0) → Type 0
-IfWhole (end.Whole rows refused unread) P = P rows refused unread
+abbrev pub IfWhole : SheetEnd → (ℕ → SheetCounts → UnreadDates → Type 0) → Type 0
+IfWhole (end.Whole rows counts unread) P = P rows counts unread
 IfWhole (end.Broken cause) P = ⊤
 
 abbrev pub IfBroken : SheetEnd → (SheetCause → Type 0) → Type 0
-IfBroken (end.Whole rows refused unread) P = ⊤
+IfBroken (end.Whole rows counts unread) P = ⊤
 IfBroken (end.Broken cause) P = P cause

@@ -6,7 +6,9 @@ pub mod NameLists
 pub mod Choices
 pub mod ChoiceViews
 pub mod AskedViews
+pub mod DateCounts
 pub mod Converted
+pub mod CountViews
 pub mod WidthViews
 pub mod Sending
 pub mod RowViews

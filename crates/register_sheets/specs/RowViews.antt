@@ -1,10 +1,11 @@
 -- What a clause sees of `SheetRows`. No public contract cites this file.
-use Rattle.std.specs.Prelude.{◌≡◌, ◌+◌, ℕ, List, Option, get_or, length, map, option_to_list, slice_get, count_by, take}
+use Rattle.std.specs.Prelude.{◌≡◌, ◌+◌, ℕ, List, Option, length, map, count_by, take}
 use Rattle.std.specs.List.{AllZip}
 use Rattle.register_records.specs.Outcomes.{TableRow}
 use Rattle.register_records.specs.Views.{row_seen}
 use Rattle.register_records.specs.Entries.{Fields}
-use Rattle.register_sheets.specs.Converted.{AreRowsOfRecord, is_refused}
+use Rattle.register_sheets.specs.Converted.{AreRowsOfRecord}
+use Rattle.register_sheets.specs.CountViews.{CountsRecord}
 use Rattle.register_sheets.specs.DateStops.{DateStop, IsStopOf, SheetDate, count_of, is_for}
 use Rattle.register_sheets.specs.UnknownNames.{dates_of, is_short, names_in}
 use Rattle.register_sheets.specs.declared.choices.SheetChoice.{SheetChoice}
@@ -15,11 +16,6 @@ use Rattle.register_sheets.specs.declared.unread_dates.UnreadDates.{UnreadDates}
 -- the rows, as a table has them
 abbrev pub rows_seen : SheetRows → List TableRow
 rows_seen rows = map row_seen (take rows.count rows.rows)
-
--- one more is counted for each of these rows that was refused
-abbrev pub CountsRefused : List TableRow → List ℕ → List ℕ → Type 0
-CountsRefused rows old new =
-    (place : ℕ) → get_or new place 0 ≡ get_or old place 0 + count_by is_refused (option_to_list (slice_get rows place))
 
 -- these dates are counted
 pub record CountsMore (choice : SheetChoice) (dates : List SheetDate) (old new : UnreadDates) : Type 0 where
@@ -36,8 +32,8 @@ pub record NoneUnread (unread : UnreadDates) : Type 0 where
   pub short : unread.short ≡ 0
   pub reasons : (reason : Reason) → count_of unread.reasons reason ≡ 0
 
--- these are the rows of the record with this number now, and its dates and the refused ones of them are counted
+-- these are the rows of the record with this number now, and its dates are counted
 pub record TakesRecord (choice : SheetChoice) (number : ℕ) (fields : Fields) (old new : SheetRows) : Type 0 where
   pub rows : AreRowsOfRecord choice number fields (rows_seen new)
-  pub counted : CountsRefused (rows_seen new) old.refused new.refused
+  pub counted : CountsRecord choice.dates.now fields (rows_seen new) old.counts new.counts
   pub unread : CountsMore choice (dates_of choice fields) old.unread new.unread

@@ -1,15 +1,17 @@
 -- How far records are written to an output. No public contract cites this file.
 use Rattle.std.specs.Prelude.{◌≡◌, ◌⊎◌, ◌≤◌, ◌<◌, ◌++◌, ℕ, Bool, true, false, List, [], Option, Result, Ok, Err, IfErr, IfOk, OnOk}
-use Rattle.std.specs.Prelude.{◌∷◌, None, Some, count_by, drop, get_or, length, map, take}
+use Rattle.std.specs.Prelude.{◌∷◌, None, Some, drop, get_or, length, map, take}
 use Rattle.std.specs.Io.KnownBytes.{Appends}
 use Rattle.register_records.specs.Entries.{Fields, record_limit}
 use Rattle.register_records.specs.Outcomes.{TableRow}
-use Rattle.register_sheets.specs.Converted.{AreRowsFrom, column_rows, is_refused}
+use Rattle.register_sheets.specs.Converted.{AreRowsFrom}
+use Rattle.register_sheets.specs.DateCounts.{AreSheetCounts}
 use Rattle.register_sheets.specs.LineViews.{Begins}
 use Rattle.register_sheets.specs.Registers.{register_records}
 use Rattle.register_sheets.specs.Sheets.{filled, records_text}
 use Rattle.register_sheets.specs.declared.choices.DateColumn.{DateColumn}
 use Rattle.register_sheets.specs.declared.choices.SheetChoice.{SheetChoice}
+use Rattle.register_sheets.specs.declared.date_counts.SheetCounts.{SheetCounts}
 use Rattle.register_sheets.specs.declared.lines.SheetLines.{SheetLines}
 use Rattle.register_sheets.specs.declared.sheet_ends.SheetCause.{SheetCause}
 use Rattle.register_sheets.specs.declared.sheet_ends.SheetCause.TheVariants as cause
@@ -62,15 +64,15 @@ pub record HasBody (choice : SheetChoice) (records : List Fields) (rows : List (
   pub converted : AreRowsFrom choice 0 (take (length rows) records) rows
   pub limited : length rows ≤ record_limit
 
--- so many of them were refused for each column of dates
-abbrev pub CountsAll : List (List TableRow) → List ℕ → Type 0
-CountsAll rows refused = (place : ℕ) → get_or refused place 0 ≡ count_by is_refused (column_rows place rows)
+-- so many of their dates were refused or are empty
+abbrev pub CountsAll : SheetChoice → List Fields → List (List TableRow) → SheetCounts → Type 0
+CountsAll choice records rows counts = AreSheetCounts choice.dates.now (take (length rows) records) rows counts
 
 -- how a sheet ends of which so many records were written, and whether there are more
-abbrev pub end_of : Result (ℕ × Bool) SheetCause → List ℕ → UnreadDates → SheetEnd
-end_of (Ok (rows, false)) refused unread = end.Whole rows refused unread
-end_of (Ok (rows, true)) refused unread = end.Broken cause.TooManyRecords
-end_of (Err c) refused unread = end.Broken c
+abbrev pub end_of : Result (ℕ × Bool) SheetCause → SheetCounts → UnreadDates → SheetEnd
+end_of (Ok (rows, false)) counts unread = end.Whole rows counts unread
+end_of (Ok (rows, true)) counts unread = end.Broken cause.TooManyRecords
+end_of (Err c) counts unread = end.Broken c
 
 -- how many records a register has of which so many were written, or why it is none
 abbrev pub count_of : Result (Option (ℕ × Bool)) SheetCause → Result ℕ SheetCause

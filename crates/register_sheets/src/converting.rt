@@ -10,6 +10,8 @@ ghost use Rattle.register_sheets.specs.Converted.{ArePartOfSheet, IfBroken, IfWh
 ghost use Rattle.register_sheets.specs.Converted.{IsFullSheet};
 ghost use Rattle.register_sheets.specs.Converted.{IsWholeSheet, body_record, body_records, below, head_record};
 ghost use Rattle.register_sheets.specs.Converted.{sheet_width};
+ghost use Rattle.register_sheets.specs.CountViews.{AreUpTo};
+ghost use Rattle.register_sheets.specs.DateCounts.{AreSheetCounts};
 ghost use Rattle.register_sheets.specs.Choices.{column_limit};
 ghost use Rattle.register_sheets.specs.LineViews.{GainsFields};
 ghost use Rattle.register_sheets.specs.Reading.{IsReading, left_of};
@@ -166,7 +168,7 @@ fn write_record<W: Output>(
     requires from_one { 1 ≤ number }
     requires limited { number ≤ record_limit }
     requires count { length (rows_seen rows.old) ≡ length setup.now.choice.dates.now }
-    requires room { (place : ℕ) → get_or rows.old.refused place 0 < record_limit }
+    requires room { AreUpTo record_limit setup.now.choice.dates.now rows.old.counts }
     requires few { HasPlace (length setup.now.choice.dates.now) rows.old.unread }
     ensures taken { OnOk result
         (TakesRecord setup.now.choice number (fields_of record.now) rows.old rows.new) }
@@ -181,7 +183,7 @@ fn write_record<W: Output>(
         (W.own_mark output.new) }
 {
     rows.renew(setup, number, record)?;
-    rows.count();
+    rows.count(setup.choice.dates, record);
     push_body(&mut sender.lines, record, width, setup.choice.columns, rows)?;
     sender.end(output)
 }
@@ -198,12 +200,12 @@ fn write_body<W: Output>(
 ) -> Result<(u32, bool), SheetCause>
     requires reading { IsReading records.old }
     requires count { length (rows_seen rows.old) ≡ length setup.now.choice.dates.now }
-    requires none { (place : ℕ) → get_or rows.old.refused place 0 ≡ 0 }
+    requires none { AreSheetCounts setup.now.choice.dates.now [] [] rows.old.counts }
     requires all_read { NoneUnread rows.old.unread }
     ensures kept { sender.new.delimiter ≡ sender.old.delimiter }
     ensures body { IfOk result (λ r. (made : List (List TableRow))
         × HasBody setup.now.choice (left_of records.old) made
-        × (r.0 ≡ length made) × CountsAll made rows.new.refused
+        × (r.0 ≡ length made) × CountsAll setup.now.choice (left_of records.old) made rows.new.counts
         × (r.1 ≡ false → length made ≡ length (left_of records.old))
         × (r.1 ≡ true → (length made ≡ record_limit) × (record_limit < length (left_of records.old)))
         × ((begun : Option (List ℕ)) (head : List Fields)
@@ -276,13 +278,13 @@ fn write_sheet<W: Output>(
     requires named { setup.now.choice.above < length (left_of records.old) }
     requires wide { width ≡ widest (drop setup.now.choice.above (left_of records.old)) }
     requires count { length (rows_seen rows.old) ≡ length setup.now.choice.dates.now }
-    requires none { (place : ℕ) → get_or rows.old.refused place 0 ≡ 0 }
+    requires none { AreSheetCounts setup.now.choice.dates.now [] [] rows.old.counts }
     requires all_read { NoneUnread rows.old.unread }
     requires unsent { (begun : Option (List ℕ))
         → HasMade setup.now.choice.delimiter begun begun sender.old.lines [] [] }
     requires delimiter { sender.old.delimiter ≡ setup.now.choice.delimiter }
     ensures whole { IfOk result (λ r. r.1 ≡ false → Gains (W.contents output.old) (W.contents output.new)
-        (IsWholeSheet setup.now.choice (left_of records.old) r.0 rows.new.refused)) }
+        (IsWholeSheet setup.now.choice (left_of records.old) r.0 rows.new.counts)) }
     ensures full { IfOk result (λ r. r.1 ≡ true → Gains (W.contents output.old) (W.contents output.new)
         (IsFullSheet setup.now.choice (left_of records.old))) }
     ensures unread { IfOk result (λ r. r.1 ≡ false → AreUnreadIn setup.now.choice (left_of records.old) rows.new.unread) }
@@ -300,7 +302,7 @@ fn write_sheet<W: Output>(
 
 /// How a sheet ends of which so many records were written, and whether there are more.
 fn end_of(written: Result<(u32, bool), SheetCause>, rows: &SheetRows) -> SheetEnd
-    ensures { result ≡ end_of written rows.now.refused rows.now.unread }
+    ensures { result ≡ end_of written rows.now.counts rows.now.unread }
 {
     match written {
         Ok((_, true)) => SheetEnd::Broken {
@@ -308,7 +310,7 @@ fn end_of(written: Result<(u32, bool), SheetCause>, rows: &SheetRows) -> SheetEn
         },
         Ok((count, false)) => SheetEnd::Whole {
             rows: count,
-            refused: rows.refused(),
+            counts: rows.counts(),
             unread: rows.unread(),
         },
         Err(cause) => SheetEnd::Broken { cause },
@@ -329,12 +331,12 @@ pub fn convert_sheet<W: Output>(
     output: &mut W,
 ) -> SheetEnd
     // The output has gained the sheet with the columns asked, and nothing else.
-    ensures whole { IfWhole result (λ rows refused unread. Gains (W.contents output.old) (W.contents output.new)
-        (IsWholeSheet setup.now.choice (text_records setup.now.choice.delimiter sheet.now) rows refused)) }
+    ensures whole { IfWhole result (λ rows counts unread. Gains (W.contents output.old) (W.contents output.new)
+        (IsWholeSheet setup.now.choice (text_records setup.now.choice.delimiter sheet.now) rows counts)) }
     // So many of its dates were not read.
-    ensures unread { IfWhole result (λ rows refused unread. AreUnreadIn setup.now.choice
+    ensures unread { IfWhole result (λ rows counts unread. AreUnreadIn setup.now.choice
         (text_records setup.now.choice.delimiter sheet.now) unread) }
-    ensures flushed { IfWhole result (λ rows refused unread. W.is_flushed output.new ≡ true) }
+    ensures flushed { IfWhole result (λ rows counts unread. W.is_flushed output.new ≡ true) }
 
     // Where memory ran out, it has gained the first records of that sheet, or nothing.
     ensures part { IfBroken result (λ c. c ≡ SheetCause.NoMemory → Gains (W.contents output.old) (W.contents output.new)
@@ -348,7 +350,7 @@ pub fn convert_sheet<W: Output>(
         (IsFullSheet setup.now.choice (text_records setup.now.choice.delimiter sheet.now))) }
 
     // The output has failed exactly where it had failed before or is the cause.
-    ensures good { IfWhole result (λ rows refused unread. W.has_failed output.new ≡ W.has_failed output.old) }
+    ensures good { IfWhole result (λ rows counts unread. W.has_failed output.new ≡ W.has_failed output.old) }
     ensures kept { IfBroken result (λ c. (c ≢ SheetCause.SinkFault) → W.has_failed output.new ≡ W.has_failed output.old) }
     ensures sink { IfBroken result (λ c. c ≡ SheetCause.SinkFault → W.has_failed output.new ≡ true) }
     ensures mark { W.own_mark output.new ≡ W.own_mark output.old }

@@ -9,6 +9,7 @@ mod asked;
 mod asked_of_sheets;
 mod choices;
 mod converting;
+mod date_counts;
 mod feast_names;
 mod lines;
 mod name_calendars;
@@ -35,6 +36,7 @@ pub use choices::{
     SheetChoice, SheetSetup,
 };
 pub use converting::convert_sheet;
+pub use date_counts::{DateCounts, SheetCounts};
 pub use name_lists::{NameLine, NameList, NameListFault};
 pub use name_meanings::Means;
 pub use new_headings::headings;

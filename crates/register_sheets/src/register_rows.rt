@@ -1,12 +1,11 @@
 //! The row of a record in the register of a column of dates.
 
-ghost use Rattle.std.specs.Prelude.{◌≡◌, ◌≤◌, ◌∷◌, [], OnOk, count_by};
+ghost use Rattle.std.specs.Prelude.{◌≤◌, ◌∷◌, [], OnOk};
 ghost use Rattle.csv.specs.Records.{fields_of};
 ghost use Rattle.register_records.specs.Entries.{record_limit};
 ghost use Rattle.register_records.specs.Outcomes.{IsRowOf};
 ghost use Rattle.register_records.specs.Views.{row_seen};
 ghost use Rattle.register_sheets.specs.Choices.{asked_targets, register_entry};
-ghost use Rattle.register_sheets.specs.Converted.{is_refused};
 ghost use Rattle.register_sheets.specs.RowViews.{CountsMore};
 ghost use Rattle.register_sheets.specs.UnknownViews.{HasPlace};
 
@@ -52,15 +51,4 @@ pub(crate) fn renew_row(
     };
     row.renew(&entry, setup.setup());
     Ok(())
-}
-
-/// 1 for a row that was refused, and else 0.
-pub(crate) fn refusals(row: &Row) -> u32
-    ensures value { result ≡ count_by is_refused (row_seen row.now ∷ []) }
-    ensures few { result ≤ 1 }
-{
-    match row.outcome() {
-        Ok(_) => 0,
-        Err(_) => 1,
-    }
 }

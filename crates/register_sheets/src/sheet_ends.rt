@@ -1,6 +1,6 @@
 //! How a sheet ends.
 
-use crate::choices::MAX_DATES;
+use crate::date_counts::SheetCounts;
 use crate::unread_dates::UnreadDates;
 use register_records::OutputFault;
 use std::alloc::AllocError;
@@ -26,12 +26,11 @@ pub enum SheetCause {
 /// How a sheet ended.
 #[derive(Clone, Copy, PartialEq, Eq)]
 pub enum SheetEnd {
-    /// The output has gained the sheet with the columns asked. So many records stand below the names, and so many of
-    /// them were refused for each column of dates, in the order of these; behind them stands 0. Of all dates so many
-    /// were not read.
+    /// The output has gained the sheet with the columns asked. So many records stand below the names. Of their dates so
+    /// many were refused or are empty, and so many were not read.
     Whole {
         rows: u32,
-        refused: [u32; MAX_DATES],
+        counts: SheetCounts,
         unread: UnreadDates,
     },
     /// It stopped at a fault.

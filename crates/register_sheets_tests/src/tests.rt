@@ -1,6 +1,7 @@
 //! Small sheets, and what comes back. The days are from Python's `datetime` (proleptic Gregorian ordinals) and from the
 //! tables of Reingold and Dershowitz.
 
+mod counts;
 mod dates;
 mod meanings;
 mod table;

@@ -45,6 +45,16 @@ text_more line head (first ∷ texts) (suc i) text within same is =
     )
     (append_assoc head (listed (first ∷ take i texts)) (codes ", " ++ get_or texts i []))
 
+-- the line of a summary, of its parts
+pub summary_made : (head count refused comma empty end : Text)
+    → ((((head ++ count) ++ refused) ++ comma) ++ empty) ++ end
+    ≡ head ++ (count ++ (refused ++ (comma ++ (empty ++ end))))
+summary_made head count refused comma empty end =
+    append_assoc (((head ++ count) ++ refused) ++ comma) empty end
+    ∙ append_assoc ((head ++ count) ++ refused) comma (empty ++ end)
+    ∙ append_assoc (head ++ count) refused (comma ++ (empty ++ end))
+    ∙ append_assoc head count (refused ++ (comma ++ (empty ++ end)))
+
 none_gained : (held : Option (List ℕ)) → Appends held held []
 none_gained None = tt
 none_gained (Some bytes) = sym (append-nil bytes)

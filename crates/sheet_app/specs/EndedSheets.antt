@@ -23,8 +23,8 @@ Gives r source text = IfSome (r.remaining source) (λ left. text ≡ left)
 
 -- a sheet was read and has ended so, with what its outputs have gained; or it could not be read, and they have gained
 -- nothing
-abbrev pub IsConverted : {R W : Type 0} → reads.Ghosts R → outputs.Ghosts W → Task → List NameLine → R → W → W → List W
-    → List W → SheetDone → Type 0
+abbrev pub IsConverted : {R W : Type 0} → reads.Ghosts R → outputs.Ghosts W → Task → List NameLine → R → W → W
+    → List W → List W → SheetDone → Type 0
 IsConverted r o task lines source given written new registers how =
     ((how ≡ done.Broken fault.Unread) × (written ≡ given) × (registers ≡ new))
     ⊎ ((text : List ℕ) × Gives r source text × IsEnded o task lines MOST_UNKNOWN text given written new registers how)

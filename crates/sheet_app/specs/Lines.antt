@@ -1,5 +1,5 @@
 -- What standard error gets of a sheet.
-use Rattle.std.specs.Prelude.{◌++◌, ◌∷◌, ◌==◌, ℕ, Bool, List, [], codes, if◌then◌else◌, length, map, nat_lt, take}
+use Rattle.std.specs.Prelude.{◌++◌, ◌∷◌, ◌-◌, ◌==◌, ℕ, Bool, List, [], codes, if◌then◌else◌, length, map, nat_lt, take}
 use Rattle.std.specs.Fmt.{decimal}
 use Rattle.std.specs.List.{flat_map}
 use Rattle.clap.specs.Words.{Text}
@@ -103,11 +103,18 @@ abbrev pub more_line : Text → ℕ → Text
 more_line = line_of_dates (codes " date has a name that is not among the first 1000, which are listed\n")
     (codes " dates have names that are not among the first 1000, which are listed\n")
 
--- how many records a sheet has, and how many were refused for each of so many columns of dates
+-- of so many columns of dates how many dates were refused, and how many are empty
+abbrev pub refused_list : ℕ → WholeSheet → Text
+refused_list dates whole = listed (take dates (map (λ counts. decimal counts.refused) whole.counts.dates))
+
+abbrev pub empty_list : ℕ → WholeSheet → Text
+empty_list dates whole = listed (take dates (map (λ counts. decimal counts.empty) whole.counts.dates))
+
+-- how many records a sheet has that are not blank, and those numbers
 abbrev pub summary_line : Text → ℕ → WholeSheet → Text
 summary_line name dates whole =
-    head_of name ++ ((decimal whole.records ++ codes " records, refused: ")
-    ++ (listed (take dates (map decimal whole.refused)) ++ 10 ∷ []))
+    head_of name ++ ((decimal (whole.records - whole.counts.blank) ++ codes " records, refused: ")
+    ++ (refused_list dates whole ++ (codes ", empty: " ++ (empty_list dates whole ++ 10 ∷ []))))
 
 -- the lines on a sheet of so many columns of dates, the last of them where a summary is asked for
 abbrev pub lines_on : Bool → ℕ → Text → SheetDone → Text

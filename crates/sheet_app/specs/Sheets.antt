@@ -59,10 +59,10 @@ pub record IsChoiceFor (task : Task) (lines : List NameLine) (sheet : List ℕ) 
 abbrev pub records_by : SheetChoice → List ℕ → List Fields
 records_by choice sheet = text_records choice.delimiter sheet
 
--- these bytes are the sheet with the columns asked by a choice, of which this is known: how many records it has, how many
--- of them were refused for each column of dates, and how many dates were not read
+-- these bytes are the sheet with the columns asked by a choice, of which this is known: how many records it has, and how many
+-- dates were refused, are empty, or were not read
 pub record IsSheetBy (choice : SheetChoice) (sheet : List ℕ) (known : WholeSheet) (bytes : List ℕ) : Type 0 where
-  pub whole : IsWholeSheet choice (records_by choice sheet) known.records known.refused bytes
+  pub whole : IsWholeSheet choice (records_by choice sheet) known.records known.counts bytes
   pub unread : AreUnreadIn choice (records_by choice sheet) known.unread
 
 -- these bytes are the sheet that a task asks for, of which this is known
@@ -103,7 +103,8 @@ IsBrokenBy o choice sheet given written fault.TooManyRecords =
 IsBrokenBy o choice sheet given written other = ⊥
 
 -- the sheet that a task asks for broke off, with nothing gained, or by a choice
-abbrev pub IsBroken : {W : Type 0} → outputs.Ghosts W → Task → List NameLine → List ℕ → W → W → SheetFault → Type 0
+abbrev pub IsBroken : {W : Type 0} → outputs.Ghosts W → Task → List NameLine → List ℕ → W → W → SheetFault
+    → Type 0
 IsBroken o task lines sheet given written fault =
     ((written ≡ given) × IsEarly task sheet fault)
     ⊎ ((choice : SheetChoice) × IsChoiceFor task lines sheet choice × IsBrokenBy o choice sheet given written fault)
@@ -116,8 +117,8 @@ HasRegister o choice sheet column given written =
     × (o.is_flushed written ≡ true)
 
 -- or it has broken off, and why
-abbrev pub IsCutRegister : {W : Type 0} → outputs.Ghosts W → SheetChoice → List ℕ → DateColumn → W → W → SheetFault
-    → Type 0
+abbrev pub IsCutRegister : {W : Type 0} → outputs.Ghosts W → SheetChoice → List ℕ → DateColumn → W → W
+    → SheetFault → Type 0
 IsCutRegister o choice sheet column given written fault.OutOfMemory =
     Gains (o.contents given) (o.contents written) (IsFrontOfRegister choice column (records_by choice sheet))
 IsCutRegister o choice sheet column given written fault.Unwritten = o.has_failed written ≡ true
@@ -146,8 +147,8 @@ pub record AreCutRegisters {W : Type 0} (o : outputs.Ghosts W) (choice : SheetCh
       × (cut < place → written ≡ given)) new registers
 
 -- what the outputs of a sheet and of its registers have gained, by how it has ended; a list is of at most so many names
-abbrev pub IsEnded : {W : Type 0} → outputs.Ghosts W → Task → List NameLine → ℕ → List ℕ → W → W → List W → List W
-    → SheetDone → Type 0
+abbrev pub IsEnded : {W : Type 0} → outputs.Ghosts W → Task → List NameLine → ℕ → List ℕ → W → W → List W
+    → List W → SheetDone → Type 0
 IsEnded o task lines most sheet given written new registers (done.Whole whole) =
     Gains (o.contents given) (o.contents written) (IsAskedSheet task lines sheet whole)
     × (o.is_flushed written ≡ true) × (task.unknown ≡ false)

@@ -3,8 +3,8 @@
 ghost use Rattle.std.specs.Prelude.{◌≡◌, ◌++◌, ◌∷◌, [], ◌==◌, IfErr, IfOk, OnOk, false, if◌then◌else◌};
 ghost use Rattle.std.specs.Fmt.{decimal};
 ghost use Rattle.sheet_app.specs.Lines.{line_of_dates as dates_line};
-ghost use Rattle.sheet_app.specs.Lines.{fault_text, head_of, kept_lines, lines_on, missing_lines, more_line, other_lines};
-ghost use Rattle.sheet_app.specs.Lines.{reason_line, reason_lines, reason_words, short_line, sign_lines, stopped_line};
+ghost use Rattle.sheet_app.specs.Lines.{fault_text, head_of, kept_lines, lines_on, listed_at, missing_lines, more_line};
+ghost use Rattle.sheet_app.specs.Lines.{other_lines, reason_line, reason_lines, reason_words, short_line, sign_lines, stopped_line};
 ghost use Rattle.sheet_app.specs.Lines.{summary_line};
 ghost use Rattle.sheet_app.specs.SheetViews.{Says};
 ghost use Rattle.sheet_app.specs.declared.sheets.SheetDone.TheVariants.{Listed, Whole};
@@ -52,7 +52,15 @@ fn line_of_dates(
     Ok(line)
 }
 
-/// The line of a summary: how many records a sheet has, and how many were refused for each of so many columns of dates.
+/// Adds the number at an index of a list to a line.
+fn push_number(line: &mut Vec<u8>, index: usize, number: usize) -> Result<(), AllocError>
+    ensures { OnOk result (line.new.items ≡ line.old.items ++ listed_at index (decimal number)) }
+{
+    push_listed(line, index, Buffer::new().format(number).as_bytes())
+}
+
+/// The line of a summary: how many records a sheet has that are not blank, and of how many the date was refused or is empty
+/// for each of so many columns of dates.
 fn line_of_summary(
     alloc: Global,
     name: &str,
@@ -62,15 +70,17 @@ fn line_of_summary(
     ensures { IfOk result (λ line. line.items ≡ summary_line name.now dates whole.now) }
 {
     let mut line = begin_line(alloc, name)?;
-    push_count(&mut line, u64::from(whole.records), b" records, refused: ")?;
-    'dates: for index in 0..dates.min(whole.refused.len()) {
-        let mut buffer = Buffer::new();
-        push_listed(
-            &mut line,
-            index,
-            buffer.format(whole.refused[index]).as_bytes(),
-        )?;
+    let records = u64::from(whole.records).saturating_sub(whole.counts.blank as u64);
+    push_count(&mut line, records, b" records, refused: ")?;
+    let mut empty = Vec::new(alloc);
+    let columns = whole.counts.dates.as_slice();
+    'dates: for index in 0..dates.min(columns.len()) {
+        let counts = &columns[index];
+        push_number(&mut line, index, counts.refused)?;
+        push_number(&mut empty, index, counts.empty)?;
     }
+    line.extend_from_slice(b", empty: ")?;
+    line.extend_from_slice(empty.as_slice())?;
     line.push(b'\n')?;
     Ok(line)
 }
@@ -89,7 +99,8 @@ fn line_of_fault(alloc: Global, name: &str, fault: &SheetFault<'_>) -> Result<Ve
 /// `errors` is let go: there is nowhere else to report it.
 fn send_line<E: Output>(errors: &mut E, line: Result<Vec<u8>, AllocError>) -> bool
     ensures line { IfOk line (λ line. Says E.Output errors.old errors.new result line.items) }
-    ensures lost { IfErr line (λ e. (result ≡ false) × (E.has_failed errors.new ≡ false → E.has_failed errors.old ≡ false)) }
+    ensures lost { IfErr line (λ e. (result ≡ false)
+        × (E.has_failed errors.new ≡ false → E.has_failed errors.old ≡ false)) }
     ensures mark { E.own_mark errors.new ≡ E.own_mark errors.old }
 {
     match line {
@@ -338,7 +349,8 @@ fn report_summary<E: Output>(
     send_line(errors, line_of_summary(alloc, name, dates, whole))
 }
 
-/// Reports of a whole sheet how many dates were not read, and why, where there are such, and with `summary` its records and how many were refused. Says whether there was memory for all lines.
+/// Reports of a whole sheet how many dates were not read, and why, where there are such, and with `summary` its records, and
+/// how many dates were refused or are empty. Says whether there was memory for all lines.
 fn report_whole<E: Output>(
     alloc: Global,
     errors: &mut E,

@@ -17,8 +17,8 @@ use crate::sheet_faults::{SheetFault, fault_of_columns};
 use csv::ByteRecord;
 use register_records::{Output, send};
 use register_sheets::{
-    AskedByNames, AskedOfSheet, DateColumn, MAX_DATES, NameList, SheetEnd, SheetSetup, UnreadDates,
-    convert_sheet, head_record, unknown_names, write_register,
+    AskedByNames, AskedOfSheet, DateColumn, NameList, SheetCounts, SheetEnd, SheetSetup,
+    UnreadDates, convert_sheet, head_record, unknown_names, write_register,
 };
 use sheet_arguments::Job;
 use std::alloc::Global;
@@ -31,8 +31,8 @@ const MOST_UNKNOWN: usize = 1000;
 pub struct WholeSheet {
     /// How many records stand below the names.
     pub records: u32,
-    /// How many dates were refused for each column of dates.
-    pub refused: [u32; MAX_DATES],
+    /// How many of their dates were refused, and how many are empty.
+    pub counts: SheetCounts,
     /// How many dates were not read.
     pub unread: UnreadDates,
 }
@@ -146,11 +146,11 @@ fn write_sheet<'b, W: Output>(
     match convert_sheet(alloc, sheet, setup, output) {
         SheetEnd::Whole {
             rows,
-            refused,
+            counts,
             unread,
         } => Ok(WholeSheet {
             records: rows,
-            refused,
+            counts,
             unread,
         }),
         SheetEnd::Broken { cause } => Err(SheetFault::from(cause)),

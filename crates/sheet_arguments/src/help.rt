@@ -49,7 +49,8 @@ Options:
                       1000: FILE.unknown.csv. Fill it in, and give it back by
                       --names.
     --summary         report on standard error, for each whole sheet, its
-                      records and how many dates were refused in each column.
+                      records without blank ones, and for each column how
+                      many dates were refused and how many are empty.
     -h, --help        print this page and read nothing.
     -V, --version     print the version and read nothing.
 

@@ -65,7 +65,7 @@ const CASES: [Case; 39] = [
         sheet: "D;C\n12. Mai 1806;gregorian\n",
         wanted: "D;C;rd;gregorian;refusal\n12. Mai 1806;gregorian;659394;1806-05-12;\n",
         rows: 1,
-        refused: &[0],
+        counts: &[(0, 0)],
     },
     Case {
         delimiter: b';',
@@ -76,7 +76,7 @@ const CASES: [Case; 39] = [
         sheet: "D;C\n1806 Mai 12;gregorian\n",
         wanted: "D;C;rd;gregorian;refusal\n1806 Mai 12;gregorian;659394;1806-05-12;\n",
         rows: 1,
-        refused: &[0],
+        counts: &[(0, 0)],
     },
     Case {
         delimiter: b';',
@@ -87,7 +87,7 @@ const CASES: [Case; 39] = [
         sheet: "D;C\nMay 12, 1806;gregorian\n",
         wanted: "D;C;rd;gregorian;refusal\nMay 12, 1806;gregorian;659394;1806-05-12;\n",
         rows: 1,
-        refused: &[0],
+        counts: &[(0, 0)],
     },
     Case {
         delimiter: b';',
@@ -98,7 +98,7 @@ const CASES: [Case; 39] = [
         sheet: "D;C\n12.V.1806;gregorian\n",
         wanted: "D;C;rd;gregorian;refusal\n12.V.1806;gregorian;659394;1806-05-12;\n",
         rows: 1,
-        refused: &[0],
+        counts: &[(0, 0)],
     },
     Case {
         delimiter: b';',
@@ -109,7 +109,7 @@ const CASES: [Case; 39] = [
         sheet: "D;C\n1806/5/12;gregorian\n",
         wanted: "D;C;rd;gregorian;refusal\n1806/5/12;gregorian;659394;1806-05-12;\n",
         rows: 1,
-        refused: &[0],
+        counts: &[(0, 0)],
     },
     Case {
         delimiter: b';',
@@ -120,7 +120,7 @@ const CASES: [Case; 39] = [
         sheet: "D;C\n1806–5–12;gregorian\n",
         wanted: "D;C;rd;gregorian;refusal\n1806–5–12;gregorian;659394;1806-05-12;\n",
         rows: 1,
-        refused: &[0],
+        counts: &[(0, 0)],
     },
     Case {
         delimiter: b';',
@@ -131,7 +131,7 @@ const CASES: [Case; 39] = [
         sheet: "D;C\n12. 5. 1806;gregorian\n",
         wanted: "D;C;rd;gregorian;refusal\n12. 5. 1806;gregorian;;;5\n",
         rows: 1,
-        refused: &[1],
+        counts: &[(1, 0)],
     },
     Case {
         delimiter: b';',
@@ -142,7 +142,7 @@ const CASES: [Case; 39] = [
         sheet: "D;C\n5/12/1806;gregorian\n",
         wanted: "D;C;rd;gregorian;refusal\n5/12/1806;gregorian;659394;1806-05-12;\n",
         rows: 1,
-        refused: &[0],
+        counts: &[(0, 0)],
     },
     Case {
         delimiter: b';',
@@ -153,7 +153,7 @@ const CASES: [Case; 39] = [
         sheet: "D;C\n30-11-1699;julian\n",
         wanted: "D;C;rd;gregorian;refusal\n30-11-1699;julian;620526;1699-12-10;\n",
         rows: 1,
-        refused: &[0],
+        counts: &[(0, 0)],
     },
     Case {
         delimiter: b';',
@@ -164,7 +164,7 @@ const CASES: [Case; 39] = [
         sheet: "D;C\n29. Februar 1700;julian\n",
         wanted: "D;C;rd;gregorian;refusal\n29. Februar 1700;julian;620617;1700-03-11;\n",
         rows: 1,
-        refused: &[0],
+        counts: &[(0, 0)],
     },
     Case {
         delimiter: b';',
@@ -175,7 +175,7 @@ const CASES: [Case; 39] = [
         sheet: "D;C\n29. Februar 1700;gregorian\n",
         wanted: "D;C;rd;gregorian;refusal\n29. Februar 1700;gregorian;;;6\n",
         rows: 1,
-        refused: &[1],
+        counts: &[(1, 0)],
     },
     Case {
         delimiter: b';',
@@ -186,7 +186,7 @@ const CASES: [Case; 39] = [
         sheet: "D;C\n3 März 1850;GREGORIAN\n",
         wanted: "D;C;rd;gregorian;refusal\n3 März 1850;GREGORIAN;675395;1850-03-03;\n",
         rows: 1,
-        refused: &[0],
+        counts: &[(0, 0)],
     },
     Case {
         delimiter: b';',
@@ -197,7 +197,7 @@ const CASES: [Case; 39] = [
         sheet: "D;C\n3 MÄRZ 1850;gregorian\n",
         wanted: "D;C;rd;gregorian;refusal\n3 MÄRZ 1850;gregorian;675395;1850-03-03;\n",
         rows: 1,
-        refused: &[0],
+        counts: &[(0, 0)],
     },
     Case {
         delimiter: b';',
@@ -208,7 +208,7 @@ const CASES: [Case; 39] = [
         sheet: "D;C\n17 février 1789;grégorien\n",
         wanted: "D;C;rd;gregorian;refusal\n17 février 1789;grégorien;653102;1789-02-17;\n",
         rows: 1,
-        refused: &[0],
+        counts: &[(0, 0)],
     },
     Case {
         delimiter: b';',
@@ -219,7 +219,7 @@ const CASES: [Case; 39] = [
         sheet: "D;C\n1er août 1914;n. St.\n",
         wanted: "D;C;rd;gregorian;refusal\n1er août 1914;n. St.;698921;1914-08-01;\n",
         rows: 1,
-        refused: &[0],
+        counts: &[(0, 0)],
     },
     Case {
         delimiter: b';',
@@ -230,7 +230,7 @@ const CASES: [Case; 39] = [
         sheet: "D;C\n7. května 1620;a. St.\n",
         wanted: "D;C;rd;gregorian;refusal\n7. května 1620;a. St.;591465;1620-05-17;\n",
         rows: 1,
-        refused: &[0],
+        counts: &[(0, 0)],
     },
     Case {
         delimiter: b';',
@@ -241,7 +241,7 @@ const CASES: [Case; 39] = [
         sheet: "D;C\n25 października 1917;a. st.\n",
         wanted: "D;C;rd;gregorian;refusal\n25 października 1917;a. st.;700115;1917-11-07;\n",
         rows: 1,
-        refused: &[0],
+        counts: &[(0, 0)],
     },
     Case {
         delimiter: b';',
@@ -252,7 +252,7 @@ const CASES: [Case; 39] = [
         sheet: "D;C\n4 luglio 1776;mondisch\n",
         wanted: "D;C;rd;gregorian;refusal\n4 luglio 1776;mondisch;;;4\n",
         rows: 1,
-        refused: &[1],
+        counts: &[(1, 0)],
     },
     Case {
         delimiter: b';',
@@ -263,7 +263,7 @@ const CASES: [Case; 39] = [
         sheet: "D;C\n4 Juli 1776;\n",
         wanted: "D;C;rd;gregorian;refusal\n4 Juli 1776;;;;4\n",
         rows: 1,
-        refused: &[1],
+        counts: &[(1, 0)],
     },
     Case {
         delimiter: b';',
@@ -274,7 +274,7 @@ const CASES: [Case; 39] = [
         sheet: "D;C\n;gregorian\n",
         wanted: "D;C;rd;gregorian;refusal\n;gregorian;;;5\n",
         rows: 1,
-        refused: &[1],
+        counts: &[(0, 1)],
     },
     Case {
         delimiter: b';',
@@ -285,7 +285,7 @@ const CASES: [Case; 39] = [
         sheet: "D;C\nca. 1750;julian\n",
         wanted: "D;C;rd;gregorian;refusal\nca. 1750;julian;;;5\n",
         rows: 1,
-        refused: &[1],
+        counts: &[(1, 0)],
     },
     Case {
         delimiter: b';',
@@ -296,7 +296,7 @@ const CASES: [Case; 39] = [
         sheet: "D;C\nMai 1806;julian\n",
         wanted: "D;C;rd;gregorian;refusal\nMai 1806;julian;;;5\n",
         rows: 1,
-        refused: &[1],
+        counts: &[(1, 0)],
     },
     Case {
         delimiter: b';',
@@ -307,7 +307,7 @@ const CASES: [Case; 39] = [
         sheet: "D;C\n12 Mai 1806?;julian\n",
         wanted: "D;C;rd;gregorian;refusal\n12 Mai 1806?;julian;;;5\n",
         rows: 1,
-        refused: &[1],
+        counts: &[(1, 0)],
     },
     Case {
         delimiter: b';',
@@ -318,7 +318,7 @@ const CASES: [Case; 39] = [
         sheet: "D;C\n12.5.06;gregorian\n",
         wanted: "D;C;rd;gregorian;refusal\n12.5.06;gregorian;;;5\n",
         rows: 1,
-        refused: &[1],
+        counts: &[(1, 0)],
     },
     Case {
         delimiter: b';',
@@ -329,7 +329,7 @@ const CASES: [Case; 39] = [
         sheet: "D;C\n12.5.06;gregorian\n",
         wanted: "D;C;rd;gregorian;refusal\n12.5.06;gregorian;1958;0006-05-12;\n",
         rows: 1,
-        refused: &[0],
+        counts: &[(0, 0)],
     },
     Case {
         delimiter: b';',
@@ -340,7 +340,7 @@ const CASES: [Case; 39] = [
         sheet: "D;C\n12.5.06;gregorian\n",
         wanted: "D;C;rd;gregorian;refusal\n12.5.06;gregorian;659394;1806-05-12;\n",
         rows: 1,
-        refused: &[0],
+        counts: &[(0, 0)],
     },
     Case {
         delimiter: b';',
@@ -351,7 +351,7 @@ const CASES: [Case; 39] = [
         sheet: "D;C\n12-05-06;gregorian\n",
         wanted: "D;C;rd;gregorian;refusal\n12-05-06;gregorian;661580;1812-05-06;\n",
         rows: 1,
-        refused: &[0],
+        counts: &[(0, 0)],
     },
     Case {
         delimiter: b';',
@@ -362,7 +362,7 @@ const CASES: [Case; 39] = [
         sheet: "D;C\n0035-05-12;gregorian\n",
         wanted: "D;C;rd;gregorian;refusal\n0035-05-12;gregorian;12550;0035-05-12;\n",
         rows: 1,
-        refused: &[0],
+        counts: &[(0, 0)],
     },
     Case {
         delimiter: b';',
@@ -373,7 +373,7 @@ const CASES: [Case; 39] = [
         sheet: "D;C\n8-2-18;julian\n",
         wanted: "D;C;rd;gregorian;refusal\n8-2-18;julian;;;5\n",
         rows: 1,
-        refused: &[1],
+        counts: &[(1, 0)],
     },
     Case {
         delimiter: b';',
@@ -384,7 +384,7 @@ const CASES: [Case; 39] = [
         sheet: "D;C\n8-2-18;julian\n",
         wanted: "D;C;rd;gregorian;refusal\n8-2-18;julian;696578;1908-03-02;\n",
         rows: 1,
-        refused: &[0],
+        counts: &[(0, 0)],
     },
     Case {
         delimiter: b';',
@@ -395,7 +395,7 @@ const CASES: [Case; 39] = [
         sheet: "D;C\nXVI. Kal. Ian. 1499;roman\n",
         wanted: "D;C;rd;gregorian;refusal\nXVI. Kal. Ian. 1499;roman;547493;1499-12-26;\n",
         rows: 1,
-        refused: &[0],
+        counts: &[(0, 0)],
     },
     Case {
         delimiter: b';',
@@ -406,7 +406,7 @@ const CASES: [Case; 39] = [
         sheet: "D;C\nXVI. Kal. Ian. 1499;roman\n",
         wanted: "D;C;rd;gregorian;refusal\nXVI. Kal. Ian. 1499;roman;547128;1498-12-26;\n",
         rows: 1,
-        refused: &[0],
+        counts: &[(0, 0)],
     },
     Case {
         delimiter: b';',
@@ -417,7 +417,7 @@ const CASES: [Case; 39] = [
         sheet: "D;C\nKal. Ian. 1499;roman\n",
         wanted: "D;C;rd;gregorian;refusal\nKal. Ian. 1499;roman;547143;1499-01-10;\n",
         rows: 1,
-        refused: &[0],
+        counts: &[(0, 0)],
     },
     Case {
         delimiter: b';',
@@ -428,7 +428,7 @@ const CASES: [Case; 39] = [
         sheet: "D;C\n15 Ventôse an VI;french\n",
         wanted: "D;C;rd;gregorian;refusal\n15 Ventôse an VI;french;656405;1798-03-05;\n",
         rows: 1,
-        refused: &[0],
+        counts: &[(0, 0)],
     },
     Case {
         delimiter: b';',
@@ -439,7 +439,7 @@ const CASES: [Case; 39] = [
         sheet: "D;C\n5 Tischri 5507;hebrew\n",
         wanted: "D;C;rd;gregorian;refusal\n5 Tischri 5507;hebrew;637610;1746-09-19;\n",
         rows: 1,
-        refused: &[0],
+        counts: &[(0, 0)],
     },
     Case {
         delimiter: b';',
@@ -450,7 +450,7 @@ const CASES: [Case; 39] = [
         sheet: "D;C\n5 Tischri 507;hebrew\n",
         wanted: "D;C;rd;gregorian;refusal\n5 Tischri 507;hebrew;;;5\n",
         rows: 1,
-        refused: &[1],
+        counts: &[(1, 0)],
     },
     Case {
         delimiter: b';',
@@ -461,7 +461,7 @@ const CASES: [Case; 39] = [
         sheet: "D;C\n5 Tischri 507;hebrew\n",
         wanted: "D;C;rd;gregorian;refusal\n5 Tischri 507;hebrew;637610;1746-09-19;\n",
         rows: 1,
-        refused: &[0],
+        counts: &[(0, 0)],
     },
     Case {
         delimiter: b';',
@@ -472,7 +472,7 @@ const CASES: [Case; 39] = [
         sheet: "D;C\n1970-W01-4;iso\n",
         wanted: "D;C;rd;gregorian;refusal\n1970-W01-4;iso;719163;1970-01-01;\n",
         rows: 1,
-        refused: &[0],
+        counts: &[(0, 0)],
     },
     Case {
         delimiter: b';',
@@ -483,7 +483,7 @@ const CASES: [Case; 39] = [
         sheet: "D;C\n9-12-31;gregorian\n",
         wanted: "D;C;rd;gregorian;refusal\n9-12-31;gregorian;3287;0009-12-31;\n",
         rows: 1,
-        refused: &[0],
+        counts: &[(0, 0)],
     },
 ];
 

@@ -4,8 +4,8 @@
 use date_texts::{Calendar, Target};
 use register_records::PlainOutput;
 use register_sheets::{
-    AskedColumn, CalendarField, DateColumn, IdField, NameList, SheetChoice, SheetEnd, SheetSetup,
-    convert_sheet, headings,
+    AskedColumn, CalendarField, DateColumn, IdField, NameList, SheetChoice, SheetCounts, SheetEnd,
+    SheetSetup, convert_sheet, headings,
 };
 use std::alloc::Global;
 use std::test::Fail;
@@ -35,7 +35,9 @@ n. St.,gregorian,
 a. St.,julian,
 ";
 
-/// A sheet, what is chosen of it, and what comes back.
+/// A sheet, what is chosen of it, and what comes back: the sheet, how many records it has, and how many dates of each column
+/// were refused and are empty.
+#[derive(Drop)]
 pub(super) struct Case {
     pub delimiter: u8,
     pub above: u32,
@@ -45,7 +47,7 @@ pub(super) struct Case {
     pub sheet: &'static str,
     pub wanted: &'static str,
     pub rows: u32,
-    pub refused: &'static [u32],
+    pub counts: &'static [(usize, usize)],
 }
 
 pub(super) const DATE_0_IN_1: [DateColumn; 1] = [DateColumn {
@@ -137,7 +139,7 @@ const JULIAN_AND_GREGORIAN: [AskedColumn; 2] = [
     AskedColumn::Cells(Target::Date(Calendar::Gregorian)),
 ];
 
-const NO_COLUMNS: [AskedColumn; 0] = [];
+pub(super) const NO_COLUMNS: [AskedColumn; 0] = [];
 
 const WEEKDAY: [AskedColumn; 1] = [AskedColumn::Weekday];
 
@@ -162,7 +164,7 @@ const CASES: [Case; 22] = [
         sheet: "D;C\n1. Januar 2000;gregorian\n",
         wanted: "D;C;weekday;julian;rd;refusal\n1. Januar 2000;gregorian;Saturday;1999-12-19;730120;\n",
         rows: 1,
-        refused: &[0],
+        counts: &[(0, 0)],
     },
     Case {
         delimiter: b';',
@@ -173,7 +175,7 @@ const CASES: [Case; 22] = [
         sheet: "D;C\n29. Februar 1900;julian\n",
         wanted: "D;C;weekday;gregorian;julian;refusal\n29. Februar 1900;julian;Tuesday;1900-03-13;1900-02-29;\n",
         rows: 1,
-        refused: &[0],
+        counts: &[(0, 0)],
     },
     Case {
         delimiter: b';',
@@ -184,7 +186,7 @@ const CASES: [Case; 22] = [
         sheet: "D;C\n5 Mai 1600;julian\n",
         wanted: "D;C;julian;gregorian;refusal\n5 Mai 1600;julian;1600-05-05;1600-05-15;\n",
         rows: 1,
-        refused: &[0],
+        counts: &[(0, 0)],
     },
     Case {
         delimiter: b';',
@@ -195,7 +197,7 @@ const CASES: [Case; 22] = [
         sheet: "D;C\n14 Juli 1789;gregorian\n",
         wanted: "D;C;refusal\n14 Juli 1789;gregorian;\n",
         rows: 1,
-        refused: &[0],
+        counts: &[(0, 0)],
     },
     Case {
         delimiter: b';',
@@ -207,7 +209,7 @@ const CASES: [Case; 22] = [
         wanted: "N;D;C;X;rd;gregorian;refusal\nAnna;12. Mai 1806;gregorian;;659394;1806-05-12;\n\
             \"Bo \"\"B\"\"\";3 Mai 1700;A. ST.;\"a;b\";620681;1700-05-14;\nCy;;;;;;4\n\"D\nE\";;julian;;;;5\n",
         rows: 4,
-        refused: &[2],
+        counts: &[(0, 2)],
     },
     Case {
         delimiter: b';',
@@ -218,7 +220,7 @@ const CASES: [Case; 22] = [
         sheet: "Parish of Lund;;\nN;D;C\nx;1 Mai 1701;julian\n",
         wanted: "Parish of Lund;;\nN;D;C;rd;gregorian;refusal\nx;1 Mai 1701;julian;621044;1701-05-12;\n",
         rows: 1,
-        refused: &[0],
+        counts: &[(0, 0)],
     },
     Case {
         delimiter: b';',
@@ -229,7 +231,7 @@ const CASES: [Case; 22] = [
         sheet: "\"a;\"\"b\"\"\"\nc;d;e;f\nD;C\n2 Mai 1701;julian\n",
         wanted: "\"a;\"\"b\"\"\"\nc;d;e;f\nD;C;weekday;refusal\n2 Mai 1701;julian;Friday;\n",
         rows: 1,
-        refused: &[0],
+        counts: &[(0, 0)],
     },
     Case {
         delimiter: b';',
@@ -240,7 +242,7 @@ const CASES: [Case; 22] = [
         sheet: "D;C\n1 Mai 1701;julian;longer;than\n2 Mai 1701;julian\n",
         wanted: "D;C;;;rd;refusal\n1 Mai 1701;julian;longer;than;621044;\n2 Mai 1701;julian;;;621045;\n",
         rows: 2,
-        refused: &[0],
+        counts: &[(0, 0)],
     },
     Case {
         delimiter: b'\t',
@@ -251,7 +253,7 @@ const CASES: [Case; 22] = [
         sheet: "D\tC\n1. Mai 1701\tjulian\n",
         wanted: "D\tC\trd\tgregorian\trefusal\n1. Mai 1701\tjulian\t621044\t1701-05-12\t\n",
         rows: 1,
-        refused: &[0],
+        counts: &[(0, 0)],
     },
     Case {
         delimiter: b',',
@@ -262,7 +264,7 @@ const CASES: [Case; 22] = [
         sheet: "D,C\n\"May 1, 1701\",julian\n1;5;1701,julian\n",
         wanted: "D,C,rd,gregorian,refusal\n\"May 1, 1701\",julian,621044,1701-05-12,\n1;5;1701,julian,,,5\n",
         rows: 2,
-        refused: &[1],
+        counts: &[(1, 0)],
     },
     Case {
         delimiter: b';',
@@ -273,7 +275,7 @@ const CASES: [Case; 22] = [
         sheet: "D\n1. Mai 1701\n2. Mai 1701\n",
         wanted: "D;rd;gregorian;refusal\n1. Mai 1701;621033;1701-05-01;\n2. Mai 1701;621034;1701-05-02;\n",
         rows: 2,
-        refused: &[0],
+        counts: &[(0, 0)],
     },
     Case {
         delimiter: b';',
@@ -285,7 +287,7 @@ const CASES: [Case; 22] = [
         wanted: "N;Birth;Death;Birth gregorian;Birth refusal;Death gregorian;Death refusal\n\
             A;1. Mai 1701;2. Mai 1750;1701-05-12;;1750-05-02;\nB;;3. Mai 1750;;5;1750-05-03;\nC;x;y;;5;;5\n",
         rows: 3,
-        refused: &[2, 1],
+        counts: &[(1, 1), (1, 0)],
     },
     Case {
         delimiter: b';',
@@ -296,7 +298,7 @@ const CASES: [Case; 22] = [
         sheet: "D;E\n1. Mai 1701;1. Mai 1702\n",
         wanted: "D;E;D rd;D refusal;D rd 2;D refusal 2;E rd;E refusal\n1. Mai 1701;1. Mai 1702;621044;;621033;;621409;\n",
         rows: 1,
-        refused: &[0, 0, 0],
+        counts: &[(0, 0), (0, 0), (0, 0)],
     },
     Case {
         delimiter: b';',
@@ -307,7 +309,7 @@ const CASES: [Case; 22] = [
         sheet: "D;rd;refusal;rd 2\n1. Mai 1701;a;b;c\n",
         wanted: "D;rd;refusal;rd 2;rd 3;gregorian;refusal 2\n1. Mai 1701;a;b;c;621033;1701-05-01;\n",
         rows: 1,
-        refused: &[0],
+        counts: &[(0, 0)],
     },
     Case {
         delimiter: b';',
@@ -318,7 +320,7 @@ const CASES: [Case; 22] = [
         sheet: ";;D rd\n1. Mai 1701;2. Mai 1701;\n",
         wanted: ";;D rd; rd; refusal; rd 2; refusal 2\n1. Mai 1701;2. Mai 1701;;621033;;621034;\n",
         rows: 1,
-        refused: &[0, 0],
+        counts: &[(0, 0), (0, 0)],
     },
     Case {
         delimiter: b';',
@@ -331,7 +333,7 @@ const CASES: [Case; 22] = [
             1. Mai 1701;julian;621044;Thursday;1701-05-12;1701-05-01;\nx;julian;;;;;5\n1. Mai 1701;;;;;;4\n\
             2. Mai 1701;julian;621045;Friday;1701-05-13;1701-05-02;\n",
         rows: 4,
-        refused: &[2],
+        counts: &[(2, 0)],
     },
     Case {
         delimiter: b'\t',
@@ -343,7 +345,7 @@ const CASES: [Case; 22] = [
         wanted: "D\tC\trd\tweekday\tgregorian\tjulian\trefusal\n\
             1. Mai 1701\tjulian\t621044\tThursday\t1701-05-12\t1701-05-01\t\n\"a\tb\"\tjulian\t\t\t\t\t5\n",
         rows: 2,
-        refused: &[1],
+        counts: &[(1, 0)],
     },
     Case {
         delimiter: b';',
@@ -354,7 +356,7 @@ const CASES: [Case; 22] = [
         sheet: "D;C\n1. Mai 1701;julian\nx;julian\n",
         wanted: "D;C;rd;weekday;refusal\n1. Mai 1701;julian;621044;Thursday;\nx;julian;;;5\n",
         rows: 2,
-        refused: &[1],
+        counts: &[(1, 0)],
     },
     Case {
         delimiter: b';',
@@ -365,7 +367,7 @@ const CASES: [Case; 22] = [
         sheet: "D;C\nx;julian\n1. Mai 1701;gregorian\n",
         wanted: "D;C;julian;gregorian;refusal\nx;julian;;;5\n1. Mai 1701;gregorian;1701-04-20;1701-05-01;\n",
         rows: 2,
-        refused: &[1],
+        counts: &[(1, 0)],
     },
     Case {
         delimiter: b';',
@@ -376,7 +378,7 @@ const CASES: [Case; 22] = [
         sheet: "D;C\n1. Mai 1701;julian\nx;julian\n",
         wanted: "D;C;rd;gregorian;weekday;refusal\n1. Mai 1701;julian;621044;1701-05-12;Thursday;\nx;julian;;;;5\n",
         rows: 2,
-        refused: &[1],
+        counts: &[(1, 0)],
     },
     Case {
         delimiter: b',',
@@ -390,7 +392,7 @@ const CASES: [Case; 22] = [
             \"A \"\"B\"\"\",1. Mai 1701,\"May 2, 1750\",Thursday,1701-05-12,1701-05-01,,\
             Saturday,1750-05-02,1750-04-21,\nC,,3. Mai 1750,,,,5,Sunday,1750-05-03,1750-04-22,\n",
         rows: 2,
-        refused: &[1, 0],
+        counts: &[(0, 1), (0, 0)],
     },
     Case {
         delimiter: b';',
@@ -402,7 +404,7 @@ const CASES: [Case; 22] = [
         wanted: "\"\"\n\"\"\nD;weekday;gregorian;julian;refusal\n\
             1. Mai 1701;Sunday;1701-05-01;1701-04-20;\n;;;;5\n",
         rows: 2,
-        refused: &[1],
+        counts: &[(0, 0)],
     },
 ];
 
@@ -477,11 +479,21 @@ pub(super) fn converted(alloc: Global, case: &Case) -> Result<(Vec<u8>, SheetEnd
     converted_by(alloc, case, &known)
 }
 
-/// Whether a sheet ended whole, with so many records, and so many of them refused for each column of dates.
+/// Whether of each column of dates so many were refused, and so many are empty.
+fn are_counts(counts: &SheetCounts, wanted: &[(usize, usize)]) -> bool {
+    for (counts, (refused, empty)) in counts.dates.iter().zip(wanted) {
+        if counts.refused != *refused || counts.empty != *empty {
+            return false;
+        }
+    }
+    true
+}
+
+/// Whether a sheet ended whole, with so many records, and these counts of its dates.
 pub(super) fn is_whole(end: SheetEnd, case: &Case) -> bool {
     match end {
-        SheetEnd::Whole { rows, refused, .. } => {
-            rows == case.rows && refused.starts_with(case.refused)
+        SheetEnd::Whole { rows, counts, .. } => {
+            rows == case.rows && are_counts(&counts, case.counts)
         }
         SheetEnd::Broken { .. } => false,
     }

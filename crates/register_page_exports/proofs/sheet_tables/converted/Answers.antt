@@ -18,7 +18,7 @@ returns-clause-whole c =
       | inr (known, knows, post) ↦
           let (place, given, same) = post in
           let whole : IfOk c.made_by.result (λ made. (choice : SheetChoice) × IsChoiceBy place.now choice × IsChoice choice
-          × IsWholeSheet choice (text_records choice.delimiter c.args.sheet.now) made.rows made.refused made.text.items
+          × IsWholeSheet choice (text_records choice.delimiter c.args.sheet.now) made.rows made.counts made.text.items
           × AreUnreadIn choice (text_records choice.delimiter c.args.sheet.now) made.unread)
           = search rules in
           IfOk-weaker c.made_by.result _ _ (λ made is. record {

@@ -5,7 +5,8 @@ use Rattle.register_page_exports.proofs.sheet_tables.converted_by.Goals as goal
 
 pub returns-in-Whole-clause-whole : goal.returns-in-Whole-clause-whole
 returns-in-Whole-clause-whole c =
-    let chosen = c.in_ok-setup.ensures.choice in (c.in_ok-setup.setup.choice, chosen.0, chosen.1, search rules, c.in-Whole.ensures.unread)
+    let chosen = c.in_ok-setup.ensures.choice in
+    (c.in_ok-setup.setup.choice, chosen.0, chosen.1, search rules, c.in-Whole.ensures.unread)
 
 pub returns-in-Broken-clause-ends : goal.returns-in-Broken-clause-ends
 returns-in-Broken-clause-ends c =

@@ -81,3 +81,6 @@ write_sheet-written-requires-clause-wide g c =
 
 pub returns-in-Ok-None-clause-no_names : goal.returns-in-Ok-None-clause-no_names
 returns-in-Ok-None-clause-no_names g c = λ _. (refl, rw c.in-Ok-None.field-0-is at c.in-Ok-None.ensures.none)
+
+pub write_sheet-written-requires-clause-none : goal.write_sheet-written-requires-clause-none
+write_sheet-written-requires-clause-none g c = c.new-rows.ensures.none c.args.setup.now.choice.dates.now

@@ -10,7 +10,8 @@ use Rattle.register_sheets.specs.Reading.{left_of}
 use Rattle.register_sheets.specs.RowViews.{rows_seen}
 use Rattle.register_sheets.specs.Sending.{HasFront, HasMade}
 use Rattle.register_sheets.specs.UnknownNames.{AreUnread, all_dates}
-use Rattle.register_sheets.proofs.RowLemmas.{body_front, body_more, counts_more, has_body, one_at_most, rows_more}
+use Rattle.register_sheets.proofs.CountLemmas.{counts_more, up_to}
+use Rattle.register_sheets.proofs.RowLemmas.{body_front, body_more, counted_front, has_body, rows_more}
 use Rattle.register_sheets.proofs.SendingLemmas.{ends_memory, ends_passed, front_made, no_value}
 use Rattle.register_sheets.proofs.UnreadLemmas.{all_counted, none_counted, record_counted, record_place}
 use Rattle.register_sheets.proofs.converting.write_body.Goals as goal
@@ -25,6 +26,7 @@ returns-then-not-branch g c =
     let all = left_of c.args.records.now in
     let left = left_of c.records.records in
     let limited : length rows ≤ record_limit = omega (arith, inv.limited) in
+    let counts_of = counted_front choice done left all rows _ whole same counts in
     let every : done ≡ all = sym (append-nil done) ∙ rw none at whole in
     record {
       kept = inv.delimiter;
@@ -32,7 +34,7 @@ returns-then-not-branch g c =
         rows,
         has_body choice done left all rows whole same limited are,
         counted,
-        counts,
+        counts_of,
         (λ _. omega (arith, ap length whole, length-append done left, ap length none)),
         (λ e. absurd (false≢true e)),
         λ begun head h.
@@ -43,7 +45,8 @@ returns-then-not-branch g c =
             (made begun head h),
       );
       unread = λ _.
-          subst (λ (records : List Fields). AreUnread choice (all_dates choice records) c.records.rows.unread) every (all_counted choice (all_dates choice done) _ _ c.requires.all_read read);
+          subst (λ (records : List Fields). AreUnread choice (all_dates choice records) c.records.rows.unread) every
+          (all_counted choice (all_dates choice done) _ _ c.requires.all_read read);
       part = tt;
       output = record { good = inv.failed; causes = tt; memory = tt; sink = tt; marked = inv.mark };
     }
@@ -58,13 +61,14 @@ returns-then-number-eq-MAX_RECORDS g c =
     let all = left_of c.args.records.now in
     let left = left_of c.records.records in
     let limited : length rows ≤ record_limit = omega (arith, inv.limited) in
+    let counts_of = counted_front choice done left all rows _ whole same counts in
     record {
       kept = inv.delimiter;
       body = (
         rows,
         has_body choice done left all rows whole same limited are,
         counted,
-        counts,
+        counts_of,
         (λ e. absurd (false≢true (sym e))),
         (λ _. (omega arith, omega (arith, ap length whole, length-append done left, ap length found))),
         λ begun head h.
@@ -85,6 +89,11 @@ write_record-requires-clause-few g c =
     let few : length c.args.setup.now.choice.dates.now ≤ 8 = search rules in
     record_place c.args.setup.now.choice done _ _ c.requires.all_read read few (omega (arith, c.records.invariant.limited))
 
+pub write_record-requires-clause-room : goal.write_record-requires-clause-room
+write_record-requires-clause-room g c =
+    let (done, rows, whole, same, counted, are, counts, read, made) = c.records.invariant.body in
+    up_to c.args.setup.now.choice.dates.now done rows _ record_limit counts (omega (arith, c.records.invariant.limited))
+
 pub records-preserved : goal.records-preserved
 records-preserved g c =
     let inv = c.records.invariant in
@@ -101,7 +110,6 @@ records-preserved g c =
       delimiter = step.kept ∙ inv.delimiter;
       count = step.count ∙ inv.count;
       limited = omega arith;
-      few = λ place. omega (arith, inv.few place, one_at_most one _ _ taken.counted place);
       failed = step.output.good ∙ inv.failed;
       mark = step.output.marked ∙ inv.mark;
       body = (
@@ -111,7 +119,7 @@ records-preserved g c =
         omega (arith, length-append done (fields ∷ []), length-append rows (one ∷ [])),
         omega (arith, length-append rows (one ∷ [])),
         rows_more choice 0 (c.records.number + 1) done rows fields one (omega arith) are taken.rows,
-        counts_more rows one _ _ counts taken.counted,
+        counts_more choice.dates.now done rows fields one _ _ same counts taken.counted,
         record_counted choice done fields _ _ _ read taken.unread,
         λ begun head h.
             subst (λ (records : List Fields). HasMade c.args.sender.now.delimiter begun
@@ -185,7 +193,6 @@ records-init g c =
       delimiter = refl;
       count = refl;
       limited = omega arith;
-      few = λ place. omega (arith, c.requires.none place);
       failed = refl;
       mark = refl;
       body = (

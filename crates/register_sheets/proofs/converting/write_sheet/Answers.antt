@@ -95,7 +95,7 @@ returns g c =
     let sent = (rw (before.kept ∙ top.kept) at after.sent) _ _ ((rw top.kept at filled_up) _ _ top.made) in
     record {
       whole = λ last.
-          whole_sheet choice all left rest c.args.width _ c.write_body.new.rows.refused rows choice.delimiter _ _ _ read refl
+          whole_sheet choice all left rest c.args.width _ c.write_body.new.rows.counts rows choice.delimiter _ _ _ read refl
           body counted counts (whole last) sent;
       full = λ more.
           full_sheet choice all left rest c.args.width rows choice.delimiter _ _ _ read refl body (full more) sent;

@@ -1,5 +1,4 @@
-use lib.Signed.{mag}
-use Rattle.std.proofs.Common.{◌≡◌, ◌<◌, ◌^◌, FitsSigned, arith, rules, w16}
+use Rattle.std.proofs.Common.{◌≡◌, FitsSigned, arith, rules, w16}
 use Rattle.std.proofs.lemmas.Int.{ints}
 use Rattle.register_sheets.proofs.MeaningLemmas.{fits_mag, same_days}
 use Rattle.register_sheets.proofs.feast_names.days_said.Goals as goal
@@ -13,5 +12,6 @@ returns-then-days-clause-none c none days (few, is) =
     = same_days c.args.text.now c.in_ok-days.days days (fits_mag c.in_ok-days.days fits) few c.in_ok-days.ensures.some is in
     elim c.then-days.branch [
       | then-days-via-then-days w ↦ absurd (omega (arith, ints, few.0, few.1, same, w.if-days))
-      | then-days-via-else-days+then-days-gt-MOST_DAYS w ↦ absurd (omega (arith, ints, few.0, few.1, same, w.if-days-gt-MOST_DAYS))
+      | then-days-via-else-days+then-days-gt-MOST_DAYS w ↦
+          absurd (omega (arith, ints, few.0, few.1, same, w.if-days-gt-MOST_DAYS))
     ]

@@ -1,20 +1,56 @@
--- Each turn adds the next count.
-use Rattle.std.proofs.Common.{rules, ◌≡◌, ◌<◌, ◌∙◌, get_or, length, map, sym}
-use Rattle.std.proofs.Common.{[], ◌++◌, codes}
+-- Each turn adds the next count to each list.
+use Rattle.std.proofs.Common.{◌≡◌, ◌<◌, ◌∙◌, ◌-◌, [], ◌∷◌, ◌++◌, ℕ, List, ap, ap₂, arith, codes, get_or, length, map, min, rules, sym, take}
 use Rattle.std.specs.Fmt.{decimal}
-use Rattle.sheet_app.specs.Lines.{head_of}
-use Rattle.std.proofs.lemmas.List.{get_or-map, length-map}
-use Rattle.sheet_app.proofs.LineLemmas.{text_more}
+use Rattle.std.proofs.lemmas.List.{get_or-map, length-map, take_min}
+use Rattle.register_sheets.specs.DateCounts.{no_counts}
+use Rattle.register_sheets.specs.declared.date_counts.DateCounts.{DateCounts}
+use Rattle.sheet_app.specs.Lines.{empty_list, head_of, listed, refused_list}
+use Rattle.sheet_app.proofs.LineLemmas.{summary_made, text_more}
 use Rattle.sheet_app.proofs.reports.line_of_summary.Goals as goal
 
 pub dates-preserved : goal.dates-preserved
 dates-preserved c =
-    let refused = c.args.whole.now.refused in
-    let within : c.dates.index < length refused = search rules in
-    let text : c.as_bytes.result.now ≡ decimal (get_or refused c.dates.index 0) = search rules in
-    let there : get_or (map decimal refused) c.dates.index [] ≡ decimal (get_or refused c.dates.index 0)
-    = get_or-map decimal refused c.dates.index 0 [] within in
-    let long : c.dates.index < length (map decimal refused) = simp length-map within in
-    c.in_ok-push_listed.ensures
-    ∙ text_more c.dates.line.items (head_of c.args.name.now ++ (decimal c.args.whole.now.records ++ codes " records, refused: "))
-    (map decimal refused) c.dates.index c.as_bytes.result.now long (text ∙ sym there) c.dates.invariant
+    let whole = c.args.whole.now in
+    let dates = c.as_slice-columns.result.now in
+    let index = c.dates.index in
+    let within : index < length dates = search rules in
+    let refused : DateCounts → List ℕ = λ counts. decimal counts.refused in
+    let empty : DateCounts → List ℕ = λ counts. decimal counts.empty in
+    let head = head_of c.args.name.now ++ (decimal (whole.records - whole.counts.blank) ++ codes " records, refused: ") in
+    record {
+      refused = c.in_ok-push_number.ensures
+          ∙ text_more c.dates.line.items head (map refused dates) index _ (simp length-map within)
+          (sym (get_or-map refused dates index no_counts [] within)) c.dates.invariant.refused;
+      empty = c.in_ok-push_number-2.ensures
+          ∙ text_more c.dates.empty.items [] (map empty dates) index _ (simp length-map within)
+          (sym (get_or-map empty dates index no_counts [] within)) c.dates.invariant.empty;
+    }
+
+shown : (f : DateCounts → List ℕ) (dates all : List DateCounts) (n k : ℕ) → k ≡ min n (length dates) → dates ≡ all
+    → take k (map f dates) ≡ take n (map f all)
+shown f dates all n k e same =
+    ap (λ i. take i (map f dates)) (e ∙ ap (min n) (sym (length-map dates f))) ∙ take_min n (map f dates)
+    ∙ ap (λ xs. take n (map f xs)) same
+
+pub returns : goal.returns
+returns c =
+    let whole = c.args.whole.now in
+    let dates = c.as_slice-columns.result.now in
+    let refused : DateCounts → List ℕ = λ counts. decimal counts.refused in
+    let empty : DateCounts → List ℕ = λ counts. decimal counts.empty in
+    let head = head_of c.args.name.now in
+    let records = decimal (whole.records - whole.counts.blank) ++ codes " records, refused: " in
+    let last : c.dates.index ≡ min c.args.dates (length dates)
+    = omega (arith, c.dates-test.false, c.dates.auto.index-end, c.min-index-end.ensures) in
+    let refused_all = c.dates.invariant.refused
+    ∙ ap (λ (xs : List (List ℕ)). (head ++ records) ++ listed xs)
+    (shown refused dates whole.counts.dates c.args.dates c.dates.index last c.as_slice-columns.ensures) in
+    let empty_all = c.as_slice.ensures.value
+    ∙ c.dates.invariant.empty
+    ∙ ap listed (shown empty dates whole.counts.dates c.args.dates c.dates.index last c.as_slice-columns.ensures) in
+    c.in_ok-push.ensures.items
+    ∙ ap (λ (xs : List ℕ). xs ++ 10 ∷ [])
+    (c.in_ok-extend_from_slice-2.ensures.items
+    ∙ ap₂ (λ (xs ys : List ℕ). xs ++ ys)
+    (c.in_ok-extend_from_slice.ensures.items ∙ ap (λ (xs : List ℕ). xs ++ codes ", empty: ") refused_all) empty_all)
+    ∙ summary_made head records (refused_list c.args.dates whole) (codes ", empty: ") (empty_list c.args.dates whole) (10 ∷ [])

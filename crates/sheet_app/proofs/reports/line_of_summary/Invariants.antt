@@ -1,4 +1,4 @@
-use Rattle.std.proofs.Common.{◌≡◌, ◌++◌, codes, map, take}
+use Rattle.std.proofs.Common.{◌≡◌, ◌-◌, [], ◌++◌, codes, map, take}
 use Rattle.std.specs.Fmt.{decimal}
 use Rattle.sheet_app.specs.Lines.{head_of, listed}
 use Rattle.sheet_app.proofs.reports.line_of_summary.Given as goal
@@ -6,5 +6,9 @@ use Rattle.sheet_app.proofs.reports.line_of_summary.Given as goal
 -- the counts so far
 abbrev pub invariant-dates : goal.invariant-dates
 invariant-dates l =
-    l.line.items ≡ (head_of l.name ++ (decimal l.whole.records ++ codes " records, refused: "))
-    ++ listed (take l.index (map decimal l.whole.refused))
+    record {
+      refused : l.line.items
+          ≡ (head_of l.name ++ (decimal (l.whole.records - l.whole.counts.blank) ++ codes " records, refused: "))
+          ++ listed (take l.index (map (λ counts. decimal counts.refused) l.columns));
+      empty : l.empty.items ≡ [] ++ listed (take l.index (map (λ counts. decimal counts.empty) l.columns));
+    }

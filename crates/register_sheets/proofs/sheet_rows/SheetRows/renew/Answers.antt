@@ -36,7 +36,7 @@ dates-preserved c =
           c.in_ok-renew_row.ensures.row);
       count = inv.count;
       room = length-set c.dates.self.rows place c.renew_row.new.row ∙ inv.room;
-      refused = inv.refused;
+      counts = inv.counts;
       unread = column_counted choice dates (fields_of c.args.record.now) place none c.args.self.now.unread c.dates.self.unread
           c.renew_row.new.unread c.dates-test.true inv.unread c.in_ok-renew_row.ensures.unread;
     }
@@ -47,7 +47,7 @@ dates-init c =
       rows = tt;
       count = refl;
       room = refl;
-      refused = refl;
+      counts = refl;
       unread = none_counted c.args.setup.now.choice c.args.self.now.unread;
     }
 
@@ -58,7 +58,7 @@ returns-in_err-renew_row c =
     record {
       rows = no_value c.from_residual.result _ _ is;
       unread = no_value c.from_residual.result _ _ is;
-      kept = inv.refused;
+      kept = inv.counts;
       count = seen_count row_seen c.dates.self.count c.args.self.now.count _ c.args.self.now.rows inv.count
           (length-set c.dates.self.rows c.dates.place c.renew_row.new.row ∙ inv.room);
     }

@@ -14,7 +14,7 @@ invariant-dates l =
           (take l.place l.dates) (take l.place (rows_seen l.self));
       count : l.self.count ≡ l.fn.self.count;
       room : length l.self.rows ≡ length l.fn.self.rows;
-      refused : l.self.refused ≡ l.fn.self.refused;
+      counts : l.self.counts ≡ l.fn.self.counts;
       unread : CountsMore l.setup.choice (map (λ column. (column, fields_of l.record)) (take l.place l.dates))
           l.fn.self.unread l.self.unread;
     }

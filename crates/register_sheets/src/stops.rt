@@ -62,18 +62,19 @@ fn is_no_date(calendar: Calendar, text: &[u8]) -> bool
     }
 }
 
-/// Whether a field that has more than blanks stays as it is.
-fn stays(field: &[u8], date: &[u8]) -> bool
-    ensures { (result ≡ true) ↔ ((without_spec field.now ≢ []) × (date.now ≡ field.now)) }
+/// Whether a field of a calendar stays as it is and is no date. What stays is most often a date, which has no blanks to be
+/// looked for.
+fn stays_no_date(calendar: Calendar, field: &[u8], date: &[u8]) -> bool
+    ensures { (result ≡ true) ↔ ((date.now ≡ field.now) × IsNoDate calendar field.now) }
 {
-    !without_blanks(field).is_empty() && date == field
+    date == field && is_no_date(calendar, field)
 }
 
 /// Whether a field of a calendar, for which this date is written, stays as it is although it is no date.
 fn stays_written(calendar: Calendar, field: &[u8], date: &[u8]) -> bool
     ensures { (result ≡ true) ↔ StaysWritten calendar field.now date.now }
 {
-    stays(field, date) && is_no_date(calendar, field)
+    stays_no_date(calendar, field, date) && !without_blanks(field).is_empty()
 }
 
 /// What stops a text that is not read.

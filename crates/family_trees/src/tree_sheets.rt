@@ -41,11 +41,7 @@ fn write_head(sheet: &mut Writer<Vec<u8>>) -> Result<(), AllocError>
 }
 
 /// Appends what is known of a date.
-fn write_date(
-    sheet: &mut Writer<Vec<u8>>,
-    date: &TreeDate,
-    place: &[u8],
-) -> Result<(), AllocError>
+fn write_date(sheet: &mut Writer<Vec<u8>>, date: &TreeDate, place: &[u8]) -> Result<(), AllocError>
     requires { place.now ≡ (date_seen date.now).place }
     ensures { OnOk result ((text : List ℕ) → Holds text sheet.old
         → Holds (text ++ row_text default_writer (date_record (date_seen date.now))) sheet.new) }

@@ -77,7 +77,7 @@ parts_sides between item = false
 abbrev pub all_alike : Signs → RangeSigns
 all_alike signs = record { left = signs; shared = signs; right = signs }
 
--- the signs of a text that is one side, and those of one that a word parts
+-- what the sides before and behind a place say; where there is none, what is said alone
 abbrev pub at_word : Bool → Calendar → Signs → Order → Option Said → List Item → Option ℕ → Option Said
 at_word between calendar signs order alone items None = alone
 at_word between calendar signs order alone items (Some place) =
@@ -88,6 +88,7 @@ abbrev pub parted : Bool → Calendar → Signs → Order → Option Said → Li
 parted between calendar signs order alone items =
     at_word between calendar signs order alone items (position (parts_sides between) items)
 
+-- what is said behind a word, by the signs of a text that is one side, and by those of one that a word parts
 abbrev pub by_word : Calendar → Signs → Signs → Order → Word → List Item → List Item → Option Said
 by_word calendar one two order words.To rest whole = option_map said.Until (piece calendar one order rest)
 by_word calendar one two order words.From rest whole =

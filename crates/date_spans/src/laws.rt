@@ -21,13 +21,16 @@ pub fn months_are_exact()
     ensures forwards { (rules : Rules) → MonthIsForwards rules }
 {}
 
-/// The first and the last day of a year have all of its days between them, and no others, and the last one is not before
-/// the first.
+/// The first and the last day of a year up to 99,999 have all of its days between them, and no others, and the last one is
+/// not before the first.
 pub fn years_are_exact(calendar: Calendar, year: u32)
-    requires { year ≤ 99_999 }
-    ensures exact { (rules : Rules) → reckoning calendar ≡ by_rules rules → YearIsExact rules year }
-    ensures forwards { (rules : Rules) → reckoning calendar ≡ by_rules rules → YearIsForwards rules year }
+    ensures exact { year ≤ 99_999 → (rules : Rules) → reckoning calendar ≡ by_rules rules → YearIsExact rules year }
+    ensures forwards { year ≤ 99_999 → (rules : Rules) → reckoning calendar ≡ by_rules rules
+        → YearIsForwards rules year }
 {
+    if year > 99_999 {
+        return;
+    }
     let _ = months_of(calendar, year);
 }
 

@@ -1,771 +1,516 @@
-//! The built-in list of names: names.csv, from which check/built-names writes this file.
+//! The built-in list of names: names.csv, from which check/built-names writes this file and its first half.
+
+mod first_half;
 
 /// The list of names.
-pub const BUILT_NAMES: &str = "\
-name,means,in\nGregorian,gregorian,\ngregorianisch,gregorian,\ngregorianischer Kalender,gregorian,\ngreg.,gregorian,\ng\
-reg,gregorian,\ngrégorien,gregorian,\ncalendrier grégorien,gregorian,\ngregoriaans,gregorian,\ngregoriaanse kalender,\
-gregorian,\ngregoriano,gregorian,\ncalendario gregoriano,gregorian,\ngregoriański,gregorian,\nkalendarz gregoriański,\
-gregorian,\ngregoriánský,gregorian,\ngregoriánský kalendář,gregorian,\nn. St.,gregorian,\nn.St.,gregorian,\nn. S.\
-,gregorian,\nneuer Stil,gregorian,\nneuen Stils,gregorian,\nN.S.,gregorian,\nNS,gregorian,\nNew Style,gregorian,\nnouve\
-au style,gregorian,\nnieuwe stijl,gregorian,\nstile nuovo,gregorian,\nnuevo estilo,gregorian,\nnowego stylu,gregorian,\
-\nnowy styl,gregorian,\nnového stylu,gregorian,\nstilo novo,gregorian,\nstylo novo,gregorian,\nGregorian calendar,greg\
-orian,\nJulian,julian,\njulianisch,julian,\njulianischer Kalender,julian,\njul.,julian,\njul,julian,\njulien,julian,\nc\
-alendrier julien,julian,\njuliaans,julian,\njuliaanse kalender,julian,\ngiuliano,julian,\ncalendario giuliano,julian,\n\
-juliano,julian,\njuliański,julian,\nkalendarz juliański,julian,\njuliánský,julian,\njuliánský kalendář,julian,\
-\na. St.,julian,\na.St.,julian,\na. S.,julian,\nalter Stil,julian,\nalten Stils,julian,\nO.S.,julian,\nO. S.,julian,\nO\
-S,julian,\nOld Style,julian,\nvieux style,julian,\noude stijl,julian,\nstile vecchio,julian,\nestilo antiguo,julian,\ns\
-tarego stylu,julian,\nstary styl,julian,\nstarého stylu,julian,\nstilo vetere,julian,\nstylo veteri,julian,\nJulian ca\
-lendar,julian,\nHebrew,hebrew,\nJewish,hebrew,\nhebräisch,hebrew,\njüdisch,hebrew,\njüdischer Kalender,hebrew,\nhéb\
-reu,hebrew,\njuif,hebrew,\nhébraïque,hebrew,\ncalendrier hébraïque,hebrew,\nhebreeuws,hebrew,\njoods,hebrew,\nhebre\
-o,hebrew,\njudío,hebrew,\nhebrajski,hebrew,\nżydowski,hebrew,\nhebrejský,hebrew,\nžidovský,hebrew,\nHebrew calenda\
-r,hebrew,\nJewish calendar,hebrew,\nIslamic,islamic,\nHijri,islamic,\nMuslim,islamic,\nislamisch,islamic,\nislamischer \
-Kalender,islamic,\nmuslimisch,islamic,\nmohammedanisch,islamic,\nmusulman,islamic,\nislamique,islamic,\nhégirien,islam\
-ic,\nislamitisch,islamic,\nislamico,islamic,\nmusulmano,islamic,\nislámico,islamic,\nmusulmán,islamic,\nislamski,isla\
-mic,\nmuzułmański,islamic,\nislámský,islamic,\nmuslimský,islamic,\nhicri,islamic,\nHedschra,islamic,\nHidschra,isl\
-amic,\nhégire,islamic,\nHegira,islamic,\nHijra,islamic,\nhidżra,islamic,\nhidžra,islamic,\nHicrî,islamic,\nA.H.,isl\
-amic,\nAH,islamic,\nIslamic calendar,islamic,\nRepublican,republican,\nebraico,hebrew,\nFrench Republican,republican,\n\
-republikanisch,republican,\nRevolutionskalender,republican,\nfranzösisch-republikanisch,republican,\nfranzösischer Re\
-volutionskalender,republican,\nrépublicain,republican,\ncalendrier républicain,republican,\ncalendario juliano,julian\
-,\nrévolutionnaire,republican,\nrepublikeins,republican,\nrepubblicano,republican,\nrepublicano,republican,\nrepublika\
-ński,republican,\nrepublikánský,republican,\nFrench Republican calendar,republican,\nCoptic,coptic,\nkoptisch,coptic\
-,\ncopte,coptic,\ncoptisch,coptic,\ncopto,coptic,\nkoptyjski,coptic,\nkoptský,coptic,\nEthiopic,ethiopic,\nEthiopian,e\
-thiopic,\näthiopisch,ethiopic,\néthiopien,ethiopic,\nethiopisch,ethiopic,\netiopico,ethiopic,\netiope,ethiopic,\neti\
-ópico,ethiopic,\netiopski,ethiopic,\netiopský,ethiopic,\nEgyptian,egyptian,\nägyptisch,egyptian,\négyptien,egyptian\
-,\negyptisch,egyptian,\negizio,egyptian,\negipcio,egyptian,\negipski,egyptian,\negyptský,egyptian,\nArmenian,armenian,\
-\narmenisch,armenian,\narménien,armenian,\narmeens,armenian,\narmeno,armenian,\narmenio,armenian,\normiański,armenian\
-,\narménský,armenian,\nRoman,roman,\nrömisch,roman,\nromain,roman,\nromeins,roman,\nromano,roman,\nrzymski,roman,\n\
-římský,roman,\nISO,iso,\nISO week,iso,\nISO-Woche,iso,\nISO 8601,iso,\nLong Count,longcount,\nlange Zählung,longcou\
-nt,\ncompte long,longcount,\nlange telling,longcount,\nconto lungo,longcount,\ncuenta larga,longcount,\ndługa rachuba,\
-longcount,\ndlouhý počet,longcount,\ngregorianski,gregorian,\ngregoriansk,gregorian,\ngregorianska,gregorian,\ngregor\
-ián,gregorian,\nгригорианский,gregorian,\nновый стиль,gregorian,\nн. ст.,gregorian,\nпо н\
-овому стилю,gregorian,\njulianski,julian,\njuliansk,julian,\njulianska,julian,\njulián,julian,\nюлианс\
-кий,julian,\nстарый стиль,julian,\nст. ст.,julian,\nпо старому стилю,julian,\nhebr.,heb\
-rew,\nhebr,hebrew,\njüd.,hebrew,\njüd,hebrew,\nkopt.,coptic,\nkopt,coptic,\nröm.,roman,\nröm,roman,\narm.,armenian,\
-\narm,armenian,\näth.,ethiopic,\näth,ethiopic,\nägypt.,egyptian,\nägypt,egyptian,\nisl.,islamic,\nisl,islamic,\nRep\
-ublik,republican,\nfrz. Rep.,republican,\nfranz. Rep.,republican,\nfrz. Republik,republican,\nRépublique,republican,\n\
-rép.,republican,\nFranzösische Republik,republican,\nJanuar,month 1,gregorian julian roman\nJänner,month 1,gregoria\
-n julian roman\nJenner,month 1,gregorian julian roman\nJan,month 1,gregorian julian roman\nJän,month 1,gregorian julia\
-n roman\nHartung,month 1,gregorian julian roman\nEismond,month 1,gregorian julian roman\nFebruar,month 2,gregorian juli\
-an roman\nFeber,month 2,gregorian julian roman\nFebruarius,month 2,gregorian julian roman\nFebr,month 2,gregorian julia\
-n roman\nFeb,month 2,gregorian julian roman\nHornung,month 2,gregorian julian roman\nMärz,month 3,gregorian julian rom\
-an\nMär,month 3,gregorian julian roman\nMrz,month 3,gregorian julian roman\nMerz,month 3,gregorian julian roman\nLenzm\
-ond,month 3,gregorian julian roman\nLenzmonat,month 3,gregorian julian roman\nApril,month 4,gregorian julian roman\nApr\
-,month 4,gregorian julian roman\nAprilis,month 4,gregorian julian roman\nOstermond,month 4,gregorian julian roman\nOste\
-rmonat,month 4,gregorian julian roman\nMai,month 5,gregorian julian roman\nMaij,month 5,gregorian julian roman\nMay,mon\
-th 5,gregorian julian roman\nMaien,month 5,gregorian julian roman\nWonnemond,month 5,gregorian julian roman\nWonnemonat\
-,month 5,gregorian julian roman\nJuni,month 6,gregorian julian roman\nJuny,month 6,gregorian julian roman\nJun,month 6,\
-gregorian julian roman\nBrachet,month 6,gregorian julian roman\nBrachmond,month 6,gregorian julian roman\nBrachmonat,mo\
-nth 6,gregorian julian roman\nJuli,month 7,gregorian julian roman\nJuly,month 7,gregorian julian roman\nJul,month 7,gre\
-gorian julian roman\nHeuet,month 7,gregorian julian roman\nHeumond,month 7,gregorian julian roman\nHeumonat,month 7,gre\
-gorian julian roman\nAugust,month 8,gregorian julian roman\nAug,month 8,gregorian julian roman\nAugst,month 8,gregoria\
-n julian roman\nAugstmonat,month 8,gregorian julian roman\nErntemond,month 8,gregorian julian roman\nErntemonat,month 8\
-,gregorian julian roman\nSeptember,month 9,gregorian julian roman\nSept,month 9,gregorian julian roman\nSep,month 9,gre\
-gorian julian roman\nHerbstmond,month 9,gregorian julian roman\nHerbstmonat,month 9,gregorian julian roman\nOktober,mon\
-th 10,gregorian julian roman\nOctober,month 10,gregorian julian roman\nOkt,month 10,gregorian julian roman\nOct,month 1\
-0,gregorian julian roman\nWeinmond,month 10,gregorian julian roman\nWeinmonat,month 10,gregorian julian roman\nNovember\
-,month 11,gregorian julian roman\nNov,month 11,gregorian julian roman\nWintermond,month 11,gregorian julian roman\nWint\
-ermonat,month 11,gregorian julian roman\nWindmond,month 11,gregorian julian roman\nDezember,month 12,gregorian julian r\
-oman\nDecember,month 12,gregorian julian roman\nDez,month 12,gregorian julian roman\nDec,month 12,gregorian julian roma\
-n\nChristmond,month 12,gregorian julian roman\nChristmonat,month 12,gregorian julian roman\nJanuary,month 1,gregorian j\
-ulian roman\nFebruary,month 2,gregorian julian roman\nMarch,month 3,gregorian julian roman\nMar,month 3,gregorian julia\
-n roman\nJune,month 6,gregorian julian roman\njanvier,month 1,gregorian julian roman\njanv,month 1,gregorian julian rom\
-an\nfévrier,month 2,gregorian julian roman\nfevrier,month 2,gregorian julian roman\nfévr,month 2,gregorian julian rom\
-an\nfevr,month 2,gregorian julian roman\nfév,month 2,gregorian julian roman\nmars,month 3,gregorian julian roman\navri\
-l,month 4,gregorian julian roman\navr,month 4,gregorian julian roman\nd'avril,month 4,gregorian julian roman\nd’avril\
-,month 4,gregorian julian roman\njuin,month 6,gregorian julian roman\njuillet,month 7,gregorian julian roman\njuil,mont\
-h 7,gregorian julian roman\naoût,month 8,gregorian julian roman\naout,month 8,gregorian julian roman\naoust,month 8,gr\
-egorian julian roman\nd'août,month 8,gregorian julian roman\nd’août,month 8,gregorian julian roman\nd'aout,month 8,\
-gregorian julian roman\nseptembre,month 9,gregorian julian roman\noctobre,month 10,gregorian julian roman\nd'octobre,mo\
-nth 10,gregorian julian roman\nd’octobre,month 10,gregorian julian roman\nnovembre,month 11,gregorian julian roman\nd\
-écembre,month 12,gregorian julian roman\ndecembre,month 12,gregorian julian roman\ndéc,month 12,gregorian julian roma\
-n\njanuari,month 1,gregorian julian roman\nlouwmaand,month 1,gregorian julian roman\nfebruari,month 2,gregorian julian \
-roman\nsprokkelmaand,month 2,gregorian julian roman\nmaart,month 3,gregorian julian roman\nmrt,month 3,gregorian julia\
-n roman\nlentemaand,month 3,gregorian julian roman\ngrasmaand,month 4,gregorian julian roman\nmei,month 5,gregorian jul\
-ian roman\nbloeimaand,month 5,gregorian julian roman\nzomermaand,month 6,gregorian julian roman\nhooimaand,month 7,greg\
-orian julian roman\naugustus,month 8,gregorian julian roman\noogstmaand,month 8,gregorian julian roman\nherfstmaand,mon\
-th 9,gregorian julian roman\nwijnmaand,month 10,gregorian julian roman\nslachtmaand,month 11,gregorian julian roman\nwi\
-ntermaand,month 12,gregorian julian roman\ngennaio,month 1,gregorian julian roman\ngenn,month 1,gregorian julian roman\
-\ngen,month 1,gregorian julian roman\ngennaro,month 1,gregorian julian roman\nfebbraio,month 2,gregorian julian roman\n\
-febbr,month 2,gregorian julian roman\nfebb,month 2,gregorian julian roman\nfebbraro,month 2,gregorian julian roman\nmar\
-zo,month 3,gregorian julian roman\naprile,month 4,gregorian julian roman\nmaggio,month 5,gregorian julian roman\nmagg,m\
-onth 5,gregorian julian roman\nmag,month 5,gregorian julian roman\ngiugno,month 6,gregorian julian roman\ngiu,month 6,g\
-regorian julian roman\nluglio,month 7,gregorian julian roman\nlugl,month 7,gregorian julian roman\nlug,month 7,gregoria\
-n julian roman\nagosto,month 8,gregorian julian roman\nago,month 8,gregorian julian roman\nsettembre,month 9,gregorian \
-julian roman\nsett,month 9,gregorian julian roman\nset,month 9,gregorian julian roman\nottobre,month 10,gregorian julia\
-n roman\nott,month 10,gregorian julian roman\ndicembre,month 12,gregorian julian roman\ndic,month 12,gregorian julian r\
-oman\nenero,month 1,gregorian julian roman\nene,month 1,gregorian julian roman\nfebrero,month 2,gregorian julian roman\
-\nabril,month 4,gregorian julian roman\nabr,month 4,gregorian julian roman\nmayo,month 5,gregorian julian roman\njunio,\
-month 6,gregorian julian roman\njulio,month 7,gregorian julian roman\nseptiembre,month 9,gregorian julian roman\nsetiem\
-bre,month 9,gregorian julian roman\noctubre,month 10,gregorian julian roman\nnoviembre,month 11,gregorian julian roman\
-\ndiciembre,month 12,gregorian julian roman\nstyczeń,month 1,gregorian julian roman\nstycznia,month 1,gregorian julia\
-n roman\nstycz,month 1,gregorian julian roman\nluty,month 2,gregorian julian roman\nlutego,month 2,gregorian julian rom\
-an\nmarzec,month 3,gregorian julian roman\nmarca,month 3,gregorian julian roman\nkwiecień,month 4,gregorian julian rom\
-an\nkwietnia,month 4,gregorian julian roman\nkwiec,month 4,gregorian julian roman\nmaj,month 5,gregorian julian roman\n\
-maja,month 5,gregorian julian roman\nczerwiec,month 6,gregorian julian roman\nczerwca,month 6,gregorian julian roman\nc\
-zerw,month 6,gregorian julian roman\nlipiec,month 7,gregorian julian roman\nlipca,month 7,gregorian julian roman\nsierp\
-ień,month 8,gregorian julian roman\nsierpnia,month 8,gregorian julian roman\nsierp,month 8,gregorian julian roman\nwrz\
-esień,month 9,gregorian julian roman\nwrześnia,month 9,gregorian julian roman\nwrzes,month 9,gregorian julian roman\n\
-październik,month 10,gregorian julian roman\npaździernika,month 10,gregorian julian roman\npaźdz,month 10,gregorian \
-julian roman\npazdz,month 10,gregorian julian roman\nlistopad,month 11,gregorian julian roman\nlistopada,month 11,grego\
-rian julian roman\ngrudzień,month 12,gregorian julian roman\ngrudnia,month 12,gregorian julian roman\ngrudz,month 12,g\
-regorian julian roman\nleden,month 1,gregorian julian roman\nledna,month 1,gregorian julian roman\núnor,month 2,gregor\
-ian julian roman\núnora,month 2,gregorian julian roman\nbřezen,month 3,gregorian julian roman\nbřezna,month 3,gregor\
-ian julian roman\nduben,month 4,gregorian julian roman\ndubna,month 4,gregorian julian roman\nkvěten,month 5,gregoria\
-n julian roman\nkvětna,month 5,gregorian julian roman\nčerven,month 6,gregorian julian roman\nčervna,month 6,gregori\
-an julian roman\nčervenec,month 7,gregorian julian roman\nčervence,month 7,gregorian julian roman\nsrpen,month 8,greg\
-orian julian roman\nsrpna,month 8,gregorian julian roman\nzáří,month 9,gregorian julian roman\nříjen,month 10,greg\
-orian julian roman\nříjna,month 10,gregorian julian roman\nlistopadu,month 11,gregorian julian roman\nprosinec,month \
-12,gregorian julian roman\nprosince,month 12,gregorian julian roman\nIanuarius,month 1,gregorian julian roman\nIanuarii\
-,month 1,gregorian julian roman\nIanuarias,month 1,gregorian julian roman\nIanuariis,month 1,gregorian julian roman\nIa\
-n,month 1,gregorian julian roman\nJanuarius,month 1,gregorian julian roman\nJanuarii,month 1,gregorian julian roman\nJa\
-nuarij,month 1,gregorian julian roman\nJanuarias,month 1,gregorian julian roman\nJanuariis,month 1,gregorian julian rom\
-an\nsty,month 1,gregorian julian roman\nFebruarii,month 2,gregorian julian roman\nFebruarij,month 2,gregorian julian ro\
-man\nFebruarias,month 2,gregorian julian roman\nFebruariis,month 2,gregorian julian roman\nlut,month 2,gregorian julia\
-n roman\nMartius,month 3,gregorian julian roman\nMartii,month 3,gregorian julian roman\nMartij,month 3,gregorian julia\
-n roman\nMartias,month 3,gregorian julian roman\nMartiis,month 3,gregorian julian roman\nMart,month 3,gregorian julian \
-roman\nApriles,month 4,gregorian julian roman\nAprilibus,month 4,gregorian julian roman\nkwi,month 4,gregorian julian r\
-oman\nMaius,month 5,gregorian julian roman\nMaii,month 5,gregorian julian roman\nMaias,month 5,gregorian julian roman\n\
-Maiis,month 5,gregorian julian roman\nIunius,month 6,gregorian julian roman\nIunii,month 6,gregorian julian roman\nIuni\
-as,month 6,gregorian julian roman\nIuniis,month 6,gregorian julian roman\nIun,month 6,gregorian julian roman\nJunius,mo\
-nth 6,gregorian julian roman\nJunii,month 6,gregorian julian roman\nJunij,month 6,gregorian julian roman\nJunias,month \
-6,gregorian julian roman\nJuniis,month 6,gregorian julian roman\ncze,month 6,gregorian julian roman\nIulius,month 7,gre\
-gorian julian roman\nIulii,month 7,gregorian julian roman\nIulias,month 7,gregorian julian roman\nIuliis,month 7,gregor\
-ian julian roman\nIul,month 7,gregorian julian roman\nJulius,month 7,gregorian julian roman\nJulii,month 7,gregorian ju\
-lian roman\nJulij,month 7,gregorian julian roman\nJulias,month 7,gregorian julian roman\nJuliis,month 7,gregorian julia\
-n roman\nlip,month 7,gregorian julian roman\nAugusti,month 8,gregorian julian roman\nAugustas,month 8,gregorian julian \
-roman\nAugustis,month 8,gregorian julian roman\nsie,month 8,gregorian julian roman\nSeptembris,month 9,gregorian julia\
-n roman\nSeptembres,month 9,gregorian julian roman\nSeptembribus,month 9,gregorian julian roman\n7bris,month 9,gregoria\
-n julian roman\n7ber,month 9,gregorian julian roman\n7bre,month 9,gregorian julian roman\n7br,month 9,gregorian julian \
-roman\nVIIbris,month 9,gregorian julian roman\nVIIber,month 9,gregorian julian roman\nwrz,month 9,gregorian julian roma\
-n\nOctobris,month 10,gregorian julian roman\nOctobres,month 10,gregorian julian roman\nOctobribus,month 10,gregorian ju\
-lian roman\n8bris,month 10,gregorian julian roman\n8ber,month 10,gregorian julian roman\n8bre,month 10,gregorian julia\
-n roman\n8br,month 10,gregorian julian roman\nVIIIbris,month 10,gregorian julian roman\nVIIIber,month 10,gregorian juli\
-an roman\npaź,month 10,gregorian julian roman\nNovembris,month 11,gregorian julian roman\nNovembres,month 11,gregoria\
-n julian roman\nNovembribus,month 11,gregorian julian roman\n9bris,month 11,gregorian julian roman\n9ber,month 11,grego\
-rian julian roman\n9bre,month 11,gregorian julian roman\n9br,month 11,gregorian julian roman\nIXbris,month 11,gregoria\
-n julian roman\nIXber,month 11,gregorian julian roman\nlis,month 11,gregorian julian roman\nDecembris,month 12,gregoria\
-n julian roman\nDecembres,month 12,gregorian julian roman\nDecembribus,month 12,gregorian julian roman\n10bris,month 12\
-,gregorian julian roman\n10ber,month 12,gregorian julian roman\n10bre,month 12,gregorian julian roman\n10br,month 12,gr\
-egorian julian roman\nXbris,month 12,gregorian julian roman\nXber,month 12,gregorian julian roman\nxbre,month 12,gregor\
-ian julian roman\ngru,month 12,gregorian julian roman\nJany,month 1,gregorian julian roman\nJan'y,month 1,gregorian jul\
-ian roman\nJan’y,month 1,gregorian julian roman\nJanry,month 1,gregorian julian roman\nJan'ry,month 1,gregorian julia\
-n roman\nJan’ry,month 1,gregorian julian roman\nFeby,month 2,gregorian julian roman\nFeb'y,month 2,gregorian julian r\
-oman\nFeb’y,month 2,gregorian julian roman\nFebry,month 2,gregorian julian roman\nFeb'ry,month 2,gregorian julian rom\
-an\nFeb’ry,month 2,gregorian julian roman\nFebuary,month 2,gregorian julian roman\nApl,month 4,gregorian julian roman\
-\nAprl,month 4,gregorian julian roman\nAugt,month 8,gregorian julian roman\nSeptr,month 9,gregorian julian roman\nSepr,\
-month 9,gregorian julian roman\nSeptbr,month 9,gregorian julian roman\nSeptemr,month 9,gregorian julian roman\nOctr,mon\
-th 10,gregorian julian roman\nOctbr,month 10,gregorian julian roman\nOctobr,month 10,gregorian julian roman\nOctor,mont\
-h 10,gregorian julian roman\nOktbr,month 10,gregorian julian roman\nNovr,month 11,gregorian julian roman\nNovbr,month 1\
-1,gregorian julian roman\nNovemr,month 11,gregorian julian roman\nDecr,month 12,gregorian julian roman\nDecbr,month 12,\
-gregorian julian roman\nDecemr,month 12,gregorian julian roman\nDezbr,month 12,gregorian julian roman\nlauwe,month 1,gr\
-egorian julian\nlauwmaand,month 1,gregorian julian\nsprokkel,month 2,gregorian julian\nsporkel,month 2,gregorian julian\
-\nsporkille,month 2,gregorian julian\nmeert,month 3,gregorian julian\nmaert,month 3,gregorian julian\nmeerte,month 3,gr\
-egorian julian\ngrasmaend,month 4,gregorian julian\nmeye,month 5,gregorian julian\nmeymaand,month 5,gregorian julian\nb\
-loeimaend,month 5,gregorian julian\nwedemaand,month 6,gregorian julian\nbraakmaand,month 6,gregorian julian\nweedemaand\
-,month 6,gregorian julian\nhoymaand,month 7,gregorian julian\noogst,month 8,gregorian julian\noogstmaend,month 8,gregor\
-ian julian\noostmaand,month 8,gregorian julian\ngerstmaand,month 9,gregorian julian\nherfstmaend,month 9,gregorian juli\
-an\nwijnmaend,month 10,gregorian julian\nsmeermaand,month 11,gregorian julian\nslachtmaend,month 11,gregorian julian\nw\
-intermaend,month 12,gregorian julian\nMaji,month 5,gregorian julian roman\nMajus,month 5,gregorian julian roman\nMaio,m\
-onth 5,gregorian julian roman\nIanuarij,month 1,gregorian julian roman\nIunij,month 6,gregorian julian roman\nIulij,mon\
-th 7,gregorian julian roman\nAugustij,month 8,gregorian julian roman\nmensis Januarii,month 1,gregorian julian\nmensis \
-Februarii,month 2,gregorian julian\nmensis Martii,month 3,gregorian julian\nmensis Aprilis,month 4,gregorian julian\nme\
-nsis Maii,month 5,gregorian julian\nmensis Junii,month 6,gregorian julian\nmensis Julii,month 7,gregorian julian\nmensi\
-s Augusti,month 8,gregorian julian\nmensis Septembris,month 9,gregorian julian\nmensis Octobris,month 10,gregorian juli\
-an\nmensis Novembris,month 11,gregorian julian\nmensis Decembris,month 12,gregorian julian\nmonth of January,month 1,gr\
-egorian julian\nmonth of February,month 2,gregorian julian\nmonth of March,month 3,gregorian julian\nmonth of April,mon\
-th 4,gregorian julian\nmonth of May,month 5,gregorian julian\nmonth of June,month 6,gregorian julian\nmonth of July,mon\
-th 7,gregorian julian\nmonth of August,month 8,gregorian julian\nmonth of September,month 9,gregorian julian\nmonth of \
-October,month 10,gregorian julian\nmonth of November,month 11,gregorian julian\nmonth of December,month 12,gregorian ju\
-lian\nmois de janvier,month 1,gregorian julian\nmois de février,month 2,gregorian julian\nmois de mars,month 3,gregori\
-an julian\nmois de avril,month 4,gregorian julian\nmois de mai,month 5,gregorian julian\nmois de juin,month 6,gregoria\
-n julian\nmois de juillet,month 7,gregorian julian\nmois de août,month 8,gregorian julian\nmois de septembre,month 9,g\
-regorian julian\nmois de octobre,month 10,gregorian julian\nmois de novembre,month 11,gregorian julian\nmois de décemb\
-re,month 12,gregorian julian\nMonats Januar,month 1,gregorian julian\nMonats Februar,month 2,gregorian julian\nMonats M\
-ärz,month 3,gregorian julian\nMonats April,month 4,gregorian julian\nMonats Mai,month 5,gregorian julian\nMonats Juni,\
-month 6,gregorian julian\nMonats Juli,month 7,gregorian julian\nMonats August,month 8,gregorian julian\nMonats Septembe\
-r,month 9,gregorian julian\nMonats Oktober,month 10,gregorian julian\nMonats November,month 11,gregorian julian\nMonat\
-s Dezember,month 12,gregorian julian\nMonat Januar,month 1,gregorian julian\nMonat Februar,month 2,gregorian julian\nMo\
-nat März,month 3,gregorian julian\nMonat April,month 4,gregorian julian\nMonat Mai,month 5,gregorian julian\nMonat Jun\
-i,month 6,gregorian julian\nMonat Juli,month 7,gregorian julian\nMonat August,month 8,gregorian julian\nMonat September\
-,month 9,gregorian julian\nMonat Oktober,month 10,gregorian julian\nMonat November,month 11,gregorian julian\nMonat Dez\
-ember,month 12,gregorian julian\nmese di gennaio,month 1,gregorian julian\nmese di febbraio,month 2,gregorian julian\nm\
-ese di marzo,month 3,gregorian julian\nmese di aprile,month 4,gregorian julian\nmese di maggio,month 5,gregorian julian\
-\nmese di giugno,month 6,gregorian julian\nmese di luglio,month 7,gregorian julian\nmese di agosto,month 8,gregorian ju\
-lian\nmese di settembre,month 9,gregorian julian\nmese di ottobre,month 10,gregorian julian\nmese di novembre,month 11,\
-gregorian julian\nmese di dicembre,month 12,gregorian julian\nmes de enero,month 1,gregorian julian\nmes de febrero,mon\
-th 2,gregorian julian\nmes de marzo,month 3,gregorian julian\nmes de abril,month 4,gregorian julian\nmes de mayo,month \
-5,gregorian julian\nmes de junio,month 6,gregorian julian\nmes de julio,month 7,gregorian julian\nmes de agosto,month 8\
-,gregorian julian\nmes de septiembre,month 9,gregorian julian\nmes de octubre,month 10,gregorian julian\nmes de noviemb\
-re,month 11,gregorian julian\nmes de diciembre,month 12,gregorian julian\nmiesiąca stycznia,month 1,gregorian julian\n\
-miesiąca lutego,month 2,gregorian julian\nmiesiąca marca,month 3,gregorian julian\nmiesiąca kwietnia,month 4,gregori\
-an julian\nmiesiąca maja,month 5,gregorian julian\nmiesiąca czerwca,month 6,gregorian julian\nmiesiąca lipca,month 7\
-,gregorian julian\nmiesiąca sierpnia,month 8,gregorian julian\nmiesiąca września,month 9,gregorian julian\nmiesiąc\
-a października,month 10,gregorian julian\nmiesiąca listopada,month 11,gregorian julian\nmiesiąca grudnia,month 12,gr\
-egorian julian\nmensis Ianuarii,month 1,gregorian julian\nmensis Iunii,month 6,gregorian julian\nmensis Iulii,month 7,g\
-regorian julian\nmensis Januarij,month 1,gregorian julian\nmensis Februarij,month 2,gregorian julian\nmensis Martij,mon\
-th 3,gregorian julian\nmensis Maij,month 5,gregorian julian\nmensis Junij,month 6,gregorian julian\nmensis Julij,month \
-7,gregorian julian\nmois d'avril,month 4,gregorian julian\nmois d’avril,month 4,gregorian julian\nmois d'août,month \
-8,gregorian julian\nmois d’août,month 8,gregorian julian\nmois d'aout,month 8,gregorian julian\nmois d’aout,month \
-8,gregorian julian\nmois d'octobre,month 10,gregorian julian\nmois d’octobre,month 10,gregorian julian\ndi gennaio,mo\
-nth 1,gregorian julian\ndi febbraio,month 2,gregorian julian\ndi marzo,month 3,gregorian julian\ndi aprile,month 4,greg\
-orian julian\ndi maggio,month 5,gregorian julian\ndi giugno,month 6,gregorian julian\ndi luglio,month 7,gregorian julia\
-n\ndi agosto,month 8,gregorian julian\ndi settembre,month 9,gregorian julian\ndi ottobre,month 10,gregorian julian\ndi \
-novembre,month 11,gregorian julian\ndi dicembre,month 12,gregorian julian\nd'aprile,month 4,gregorian julian\nd’april\
-e,month 4,gregorian julian\nd'agosto,month 8,gregorian julian\nd’agosto,month 8,gregorian julian\nd'ottobre,month 10,\
-gregorian julian\nd’ottobre,month 10,gregorian julian\nгенварь,month 1,gregorian julian\nгенваря,month \
-1,gregorian julian\nгенв,month 1,gregorian julian\nянв,month 1,gregorian julian\nянварь,month 1,gregorian \
-julian\nянваря,month 1,gregorian julian\nапрѣль,month 4,gregorian julian\nапрѣля,month 4,gregorian ju\
-lian\nіюнь,month 6,gregorian julian\nіюня,month 6,gregorian julian\nіюль,month 7,gregorian julian\nіюля\
-,month 7,gregorian julian\nсентября,month 9,gregorian julian\nоктября,month 10,gregorian julian\nноя\
-бря,month 11,gregorian julian\nдекабря,month 12,gregorian julian\nmarts,month 3,gregorian julian\ndesember,mo\
-nth 12,gregorian julian\ntammikuu,month 1,gregorian julian\ntammikuuta,month 1,gregorian julian\nhelmikuu,month 2,grego\
-rian julian\nhelmikuuta,month 2,gregorian julian\nmaaliskuu,month 3,gregorian julian\nmaaliskuuta,month 3,gregorian jul\
-ian\nhuhtikuu,month 4,gregorian julian\nhuhtikuuta,month 4,gregorian julian\ntoukokuu,month 5,gregorian julian\ntoukoku\
-uta,month 5,gregorian julian\nkesäkuu,month 6,gregorian julian\nkesäkuuta,month 6,gregorian julian\nheinäkuu,month 7\
-,gregorian julian\nheinäkuuta,month 7,gregorian julian\nelokuu,month 8,gregorian julian\nelokuuta,month 8,gregorian ju\
-lian\nsyyskuu,month 9,gregorian julian\nsyyskuuta,month 9,gregorian julian\nlokakuu,month 10,gregorian julian\nlokakuut\
-a,month 10,gregorian julian\nmarraskuu,month 11,gregorian julian\nmarraskuuta,month 11,gregorian julian\njoulukuu,mont\
-h 12,gregorian julian\njoulukuuta,month 12,gregorian julian\njanuár,month 1,gregorian julian\nfebruár,month 2,gregori\
-an julian\nmárcius,month 3,gregorian julian\nmárc,month 3,gregorian julian\náprilis,month 4,gregorian julian\nápr,m\
-onth 4,gregorian julian\nmájus,month 5,gregorian julian\nmáj,month 5,gregorian julian\njúnius,month 6,gregorian juli\
-an\njún,month 6,gregorian julian\njúlius,month 7,gregorian julian\njúl,month 7,gregorian julian\naugusztus,month 8,g\
-regorian julian\nszeptember,month 9,gregorian julian\nszept,month 9,gregorian julian\noktóber,month 10,gregorian julia\
-n\njaneiro,month 1,gregorian julian\nfevereiro,month 2,gregorian julian\nfev,month 2,gregorian julian\nmarço,month 3,g\
-regorian julian\njunho,month 6,gregorian julian\njulho,month 7,gregorian julian\nsetembro,month 9,gregorian julian\nout\
-ubro,month 10,gregorian julian\nout,month 10,gregorian julian\nnovembro,month 11,gregorian julian\ndezembro,month 12,gr\
-egorian julian\nфевраль,month 2,gregorian julian\nфевр,month 2,gregorian julian\nфевраля,month 2,greg\
-orian julian\nмарт,month 3,gregorian julian\nмарта,month 3,gregorian julian\nмар,month 3,gregorian julian\n\
-апрель,month 4,gregorian julian\nапр,month 4,gregorian julian\nапреля,month 4,gregorian julian\nмай,m\
-onth 5,gregorian julian\nмая,month 5,gregorian julian\nиюнь,month 6,gregorian julian\nиюня,month 6,gregoria\
-n julian\nиюн,month 6,gregorian julian\nиюль,month 7,gregorian julian\nиюля,month 7,gregorian julian\nиюл\
-,month 7,gregorian julian\nавгуст,month 8,gregorian julian\nавг,month 8,gregorian julian\nавгуста,mont\
-h 8,gregorian julian\nсентябрь,month 9,gregorian julian\nсент,month 9,gregorian julian\nоктябрь,mont\
-h 10,gregorian julian\nокт,month 10,gregorian julian\nноябрь,month 11,gregorian julian\nнояб,month 11,greg\
-orian julian\nдекабрь,month 12,gregorian julian\nдек,month 12,gregorian julian\nсічень,month 1,gregoria\
-n julian\nсіч,month 1,gregorian julian\nсічня,month 1,gregorian julian\nлютий,month 2,gregorian julian\nл\
-ют,month 2,gregorian julian\nлютого,month 2,gregorian julian\nберезень,month 3,gregorian julian\nбер\
-,month 3,gregorian julian\nберезня,month 3,gregorian julian\nквітень,month 4,gregorian julian\nквіт,m\
-onth 4,gregorian julian\nквітня,month 4,gregorian julian\nтравень,month 5,gregorian julian\nтрав,mont\
-h 5,gregorian julian\nтравня,month 5,gregorian julian\nчервень,month 6,gregorian julian\nчерв,month 6,\
-gregorian julian\nчервня,month 6,gregorian julian\nлипень,month 7,gregorian julian\nлип,month 7,gregoria\
-n julian\nлипня,month 7,gregorian julian\nсерпень,month 8,gregorian julian\nсерп,month 8,gregorian juli\
-an\nсерпня,month 8,gregorian julian\nвересень,month 9,gregorian julian\nвер,month 9,gregorian julian\n\
-вересня,month 9,gregorian julian\nжовтень,month 10,gregorian julian\nжовт,month 10,gregorian julian\n\
-жовтня,month 10,gregorian julian\nлистопад,month 11,gregorian julian\nлист,month 11,gregorian julian\
-\nлистопада,month 11,gregorian julian\nгрудень,month 12,gregorian julian\nгруд,month 12,gregorian j\
-ulian\nгрудня,month 12,gregorian julian\nΙανουαρίου,month 1,gregorian julian\nΙαν,month 1,gregorian \
-julian\nΦεβρουαρίου,month 2,gregorian julian\nΦεβ,month 2,gregorian julian\nΜαρτίου,month 3,gregor\
-ian julian\nΜαρ,month 3,gregorian julian\nΑπριλίου,month 4,gregorian julian\nΑπρ,month 4,gregorian julian\
-\nΜαΐου,month 5,gregorian julian\nΜαΐ,month 5,gregorian julian\nΙουνίου,month 6,gregorian julian\nΙου\
-ν,month 6,gregorian julian\nΙουλίου,month 7,gregorian julian\nΙουλ,month 7,gregorian julian\nΑυγούστ\
-ου,month 8,gregorian julian\nΑυγ,month 8,gregorian julian\nΣεπτεμβρίου,month 9,gregorian julian\nΣεπ\
-,month 9,gregorian julian\nΟκτωβρίου,month 10,gregorian julian\nΟκτ,month 10,gregorian julian\nΝοεμβρ\
-ίου,month 11,gregorian julian\nΝοε,month 11,gregorian julian\nΔεκεμβρίου,month 12,gregorian julian\nΔ\
-εκ,month 12,gregorian julian\nOcak,month 1,gregorian julian\nOca,month 1,gregorian julian\nŞubat,month 2,gregorian j\
-ulian\nŞub,month 2,gregorian julian\nNisan,month 4,gregorian julian\nNis,month 4,gregorian julian\nMayıs,month 5,greg\
-orian julian\nHaziran,month 6,gregorian julian\nHaz,month 6,gregorian julian\nTemmuz,month 7,gregorian julian\nTem,mont\
-h 7,gregorian julian\nAğustos,month 8,gregorian julian\nAğu,month 8,gregorian julian\nEylül,month 9,gregorian julian\
-\nEyl,month 9,gregorian julian\nEkim,month 10,gregorian julian\nEki,month 10,gregorian julian\nKasım,month 11,gregoria\
-n julian\nKas,month 11,gregorian julian\nAralık,month 12,gregorian julian\nAra,month 12,gregorian julian\nΙανουά\
-ριος,month 1,gregorian julian\nΦεβρουάριος,month 2,gregorian julian\nΜάρτιος,month 3,gregorian ju\
-lian\nΑπρίλιος,month 4,gregorian julian\nΜάιος,month 5,gregorian julian\nΙούνιος,month 6,gregorian \
-julian\nΙούλιος,month 7,gregorian julian\nΑύγουστος,month 8,gregorian julian\nΣεπτέμβριος,mo\
-nth 9,gregorian julian\nΟκτώβριος,month 10,gregorian julian\nΝοέμβριος,month 11,gregorian julian\nΔ\
-εκέμβριος,month 12,gregorian julian\nvendémiaire,month 1,french republican\nvendemiaire,month 1,french republ\
-ican\nvend,month 1,french republican\nvendém,month 1,french republican\nWeinlesemonat,month 1,french republican\nVende\
-miär,month 1,french republican\nVendémiär,month 1,french republican\nbrumaire,month 2,french republican\nbrum,month \
-2,french republican\nNebelmonat,month 2,french republican\nBrumär,month 2,french republican\nfrimaire,month 3,french r\
-epublican\nfrim,month 3,french republican\nReifmonat,month 3,french republican\nFrimär,month 3,french republican\nniv\
-ôse,month 4,french republican\nnivose,month 4,french republican\nniv,month 4,french republican\nSchneemonat,month 4,fr\
-ench republican\npluviôse,month 5,french republican\npluviose,month 5,french republican\npluv,month 5,french republica\
-n\nRegenmonat,month 5,french republican\nventôse,month 6,french republican\nventose,month 6,french republican\nvent,mo\
-nth 6,french republican\nWindmonat,month 6,french republican\ngerminal,month 7,french republican\ngerm,month 7,french r\
-epublican\nKeimmonat,month 7,french republican\nfloréal,month 8,french republican\nfloreal,month 8,french republican\n\
-flor,month 8,french republican\nBlütenmonat,month 8,french republican\nprairial,month 9,french republican\nprair,mont\
-h 9,french republican\nWiesenmonat,month 9,french republican\nmessidor,month 10,french republican\nmess,month 10,frenc\
-h republican\nErntemonat,month 10,french republican\nthermidor,month 11,french republican\ntherm,month 11,french republ\
-ican\nfervidor,month 11,french republican\nHitzemonat,month 11,french republican\nfructidor,month 12,french republican\
-\nfruct,month 12,french republican\nFruchtmonat,month 12,french republican\njours complémentaires,month 13,french repu\
-blican\njour complémentaire,month 13,french republican\ncomplémentaires,month 13,french republican\ncomplémentaire,m\
-onth 13,french republican\njours complementaires,month 13,french republican\njour complementaire,month 13,french republ\
-ican\ncomplementaires,month 13,french republican\ncomplementaire,month 13,french republican\nsansculottides,month 13,fr\
-ench republican\nsans-culottides,month 13,french republican\nsansculottide,month 13,french republican\nErgänzungstag,m\
-onth 13,french republican\nErgänzungstage,month 13,french republican\nNIVO,month 4,french republican\nPRAI,month 9,fre\
-nch republican\nTHER,month 11,french republican\nFRUC,month 12,french republican\nCOMP,month 13,french republican\nmoi\
-s de vendémiaire,month 1,french republican\nmois de brumaire,month 2,french republican\nmois de frimaire,month 3,frenc\
-h republican\nmois de nivôse,month 4,french republican\nmois de pluviôse,month 5,french republican\nmois de ventôse,\
-month 6,french republican\nmois de germinal,month 7,french republican\nmois de floréal,month 8,french republican\nmoi\
-s de prairial,month 9,french republican\nmois de messidor,month 10,french republican\nmois de thermidor,month 11,frenc\
-h republican\nmois de fructidor,month 12,french republican\nNisan,month 1,hebrew\nNissan,month 1,hebrew\nNisson,month 1\
-,hebrew\nIjar,month 2,hebrew\nIjjar,month 2,hebrew\nIyar,month 2,hebrew\nIyyar,month 2,hebrew\nIar,month 2,hebrew\nJjar\
-,month 2,hebrew\nSiwan,month 3,hebrew\nSivan,month 3,hebrew\nSiwon,month 3,hebrew\nSywan,month 3,hebrew\nTammus,month 4\
-,hebrew\nTamus,month 4,hebrew\nTammuz,month 4,hebrew\nTamuz,month 4,hebrew\nThammuz,month 4,hebrew\nThamus,month 4,hebr\
-ew\nAw,month 5,hebrew\nAb,month 5,hebrew\nAv,month 5,hebrew\nMenachem Aw,month 5,hebrew\nMenachem Ab,month 5,hebrew\nMe\
-nachem Av,month 5,hebrew\nElul,month 6,hebrew\nEllul,month 6,hebrew\nTischri,month 7,hebrew\nTischrei,month 7,hebrew\nT\
-hischri,month 7,hebrew\nTishri,month 7,hebrew\nTishrei,month 7,hebrew\nTiszri,month 7,hebrew\nTyszri,month 7,hebrew\nCh\
-eschwan,month 8,hebrew\nMarcheschwan,month 8,hebrew\nHeshvan,month 8,hebrew\nCheshvan,month 8,hebrew\nMarcheshvan,mont\
-h 8,hebrew\nMarheshvan,month 8,hebrew\nCheszwan,month 8,hebrew\nMarcheszwan,month 8,hebrew\nKislew,month 9,hebrew\nKisl\
-ev,month 9,hebrew\nKislow,month 9,hebrew\nTewet,month 10,hebrew\nTebet,month 10,hebrew\nTebeth,month 10,hebrew\nTevet,m\
-onth 10,hebrew\nTeweth,month 10,hebrew\nTeves,month 10,hebrew\nSchwat,month 11,hebrew\nSchewat,month 11,hebrew\nSchebat\
-,month 11,hebrew\nSchevat,month 11,hebrew\nShvat,month 11,hebrew\nShevat,month 11,hebrew\nShebat,month 11,hebrew\nSzwat\
-,month 11,hebrew\nSzewat,month 11,hebrew\nAdar I,month 12,hebrew\nAdar 1,month 12,hebrew\nAdar Rischon,month 12,hebrew\
-\nAdar Rishon,month 12,hebrew\nAdar Riszon,month 12,hebrew\nI Adar,month 12,hebrew\n1 Adar,month 12,hebrew\nAdar II,mon\
-th 13,hebrew\nAdar 2,month 13,hebrew\nAdar Scheni,month 13,hebrew\nAdar Sheni,month 13,hebrew\nAdar Szeni,month 13,hebr\
-ew\nWeadar,month 13,hebrew\nVeadar,month 13,hebrew\nII Adar,month 13,hebrew\n2 Adar,month 13,hebrew\nTSH,month 7,hebrew\
-\nCSH,month 8,hebrew\nKSL,month 9,hebrew\nTVT,month 10,hebrew\nSHV,month 11,hebrew\nADR,month 12,hebrew\nADS,month 13,h\
-ebrew\nNSN,month 1,hebrew\nIYR,month 2,hebrew\nSVN,month 3,hebrew\nTMZ,month 4,hebrew\nAAV,month 5,hebrew\nELL,month 6,\
-hebrew\nMuharram,month 1,islamic\nMoharram,month 1,islamic\nMuḥarram,month 1,islamic\nMuharrem,month 1,islamic\nSafar\
-,month 2,islamic\nṢafar,month 2,islamic\nSafer,month 2,islamic\nSefer,month 2,islamic\nRabi I,month 3,islamic\nRabi a\
-l-awwal,month 3,islamic\nRabīʿ al-awwal,month 3,islamic\nRabi al-auwal,month 3,islamic\nRebi I,month 3,islamic\nRebi \
-ül-evvel,month 3,islamic\nRebiülevvel,month 3,islamic\nRebiyülevvel,month 3,islamic\nRebiul-evvel,month 3,islamic\nR\
-abiʻ I,month 3,islamic\nRabi II,month 4,islamic\nRabi ath-thani,month 4,islamic\nRabi al-thani,month 4,islamic\nRabi a\
-l-akhir,month 4,islamic\nRabīʿ ath-thānī,month 4,islamic\nRebi II,month 4,islamic\nRebi ül-ahir,month 4,islamic\nR\
-ebiülahir,month 4,islamic\nRebiülâhir,month 4,islamic\nRebiyülahir,month 4,islamic\nRabiʻ II,month 4,islamic\nJuma\
-da I,month 5,islamic\nJumada al-ula,month 5,islamic\nDschumada I,month 5,islamic\nDschumada al-ula,month 5,islamic\nǦu\
-mādā al-ūlā,month 5,islamic\nCemazi I,month 5,islamic\nCemaziyelevvel,month 5,islamic\nCemâziyelevvel,month 5,isla\
-mic\nJumada II,month 6,islamic\nJumada al-akhira,month 6,islamic\nJumada al-thani,month 6,islamic\nDschumada II,month 6\
-,islamic\nDschumada th-thaniya,month 6,islamic\nǦumādā al-āḫira,month 6,islamic\nCemazi II,month 6,islamic\nCemaz\
-iyelahir,month 6,islamic\nCemâziyelâhir,month 6,islamic\nRajab,month 7,islamic\nRadschab,month 7,islamic\nRaǧab,mont\
-h 7,islamic\nRecep,month 7,islamic\nReceb,month 7,islamic\nShaban,month 8,islamic\nSha'ban,month 8,islamic\nSchaban,mon\
-th 8,islamic\nScha'ban,month 8,islamic\nŠaʿbān,month 8,islamic\nŞaban,month 8,islamic\nŞaʿbân,month 8,islamic\nS\
-haʻban,month 8,islamic\nRamadan,month 9,islamic\nRamaḍān,month 9,islamic\nRamazan,month 9,islamic\nShawwal,month 10\
-,islamic\nSchawwal,month 10,islamic\nŠawwāl,month 10,islamic\nŞevval,month 10,islamic\nDhu al-Qada,month 11,islamic\
-\nDhu al-Qa'da,month 11,islamic\nDhu l-Qada,month 11,islamic\nDhul-Qada,month 11,islamic\nDhu l-qaʿda,month 11,islamic\
-\nDhū l-qaʿda,month 11,islamic\nDhu l-Qa'da,month 11,islamic\nZilkade,month 11,islamic\nZi'l-ka'de,month 11,islamic\n\
-Dhuʻl-Qiʻdah,month 11,islamic\nDhu al-Hijja,month 12,islamic\nDhu l-Hijja,month 12,islamic\nDhul-Hijja,month 12,islam\
-ic\nDhu l-hiddscha,month 12,islamic\nDhū l-ḥiǧǧa,month 12,islamic\nZilhicce,month 12,islamic\nZi'l-hicce,month 12,\
-islamic\nDhuʻl-Hijjah,month 12,islamic\nMoharrem,month 1,islamic\nMucharrem,month 1,islamic\nSsafer,month 2,islamic\nS\
-safar,month 2,islamic\nSaphar,month 2,islamic\nRebiul-ewwel,month 3,islamic\nRebi ül-ewwel,month 3,islamic\nRebi ul-ew\
-wel,month 3,islamic\nRebi el-ewwel,month 3,islamic\nRebi el-awwel,month 3,islamic\nRebiulewwel,month 3,islamic\nRebiül\
-ewwel,month 3,islamic\nRabi el-auwal,month 3,islamic\nRabi el-awwal,month 3,islamic\nRebi el-auwel,month 3,islamic\nReb\
-iul-achir,month 4,islamic\nRebi ül-achir,month 4,islamic\nRebi ul-achir,month 4,islamic\nRebi el-achir,month 4,islamic\
-\nRebiulachir,month 4,islamic\nRebiülachir,month 4,islamic\nRabi el-achir,month 4,islamic\nRabi al-achir,month 4,islam\
-ic\nRebi el-accher,month 4,islamic\nDschemasi ül-ewwel,month 5,islamic\nDschemasiul-ewwel,month 5,islamic\nDschemasiul\
-ewwel,month 5,islamic\nDschemadi el-ewwel,month 5,islamic\nDschumada el-ula,month 5,islamic\nDschumadi I,month 5,islami\
-c\nDschemadi I,month 5,islamic\nDschemasi I,month 5,islamic\nDschumadi el-ewwel,month 5,islamic\nDschemadi ül-ewwel,mo\
-nth 5,islamic\nDschemasi ül-achir,month 6,islamic\nDschemasiul-achir,month 6,islamic\nDschemasiulachir,month 6,islamic\
-\nDschemadi el-achir,month 6,islamic\nDschumada el-achira,month 6,islamic\nDschumadi II,month 6,islamic\nDschemadi II,m\
-onth 6,islamic\nDschemasi II,month 6,islamic\nDschumadi el-achir,month 6,islamic\nDschemadi ül-achir,month 6,islamic\n\
-Redscheb,month 7,islamic\nRedschep,month 7,islamic\nRedjeb,month 7,islamic\nRadscheb,month 7,islamic\nSchaaban,month 8,\
-islamic\nScha'abân,month 8,islamic\nSchabân,month 8,islamic\nSchâban,month 8,islamic\nRamasan,month 9,islamic\nRamaz\
-ân,month 9,islamic\nRamadân,month 9,islamic\nSchewwal,month 10,islamic\nSchewal,month 10,islamic\nSchauwal,month 10,i\
-slamic\nSchawal,month 10,islamic\nSilkade,month 11,islamic\nSilkide,month 11,islamic\nSulkade,month 11,islamic\nDulkade\
-,month 11,islamic\nDsulkade,month 11,islamic\nDhulkade,month 11,islamic\nDsu'l-kade,month 11,islamic\nDhu'l-Kade,month \
-11,islamic\nDhu l-Kade,month 11,islamic\nSilkaade,month 11,islamic\nZilkide,month 11,islamic\nSilhidsche,month 12,islam\
-ic\nSilhidje,month 12,islamic\nSilhiddsche,month 12,islamic\nSulhidsche,month 12,islamic\nDulhidsche,month 12,islamic\n\
-Dsulhidsche,month 12,islamic\nDhulhidsche,month 12,islamic\nDhulhiddsche,month 12,islamic\nDsu'l-hidsche,month 12,islam\
-ic\nDhu'l-Hidscha,month 12,islamic\nDhu l-Hidscha,month 12,islamic\nDhul-Hidscha,month 12,islamic\nThout,month 1,coptic\
-\nThot,month 1,coptic\nThoth,month 1,coptic\nTut,month 1,coptic\nTout,month 1,coptic\nPaopi,month 2,coptic\nPhaophi,mon\
-th 2,coptic\nBabah,month 2,coptic\nBaba,month 2,coptic\nHathor,month 3,coptic\nAthyr,month 3,coptic\nHatur,month 3,copt\
-ic\nHator,month 3,coptic\nKoiak,month 4,coptic\nChoiak,month 4,coptic\nKiyahk,month 4,coptic\nKiahk,month 4,coptic\nTob\
-i,month 5,coptic\nTybi,month 5,coptic\nTubah,month 5,coptic\nToba,month 5,coptic\nMeshir,month 6,coptic\nMechir,month 6\
-,coptic\nAmshir,month 6,coptic\nAmschir,month 6,coptic\nMeschir,month 6,coptic\nParemhat,month 7,coptic\nPhamenoth,mont\
-h 7,coptic\nBaramhat,month 7,coptic\nParmouti,month 8,coptic\nPharmuthi,month 8,coptic\nBaramudah,month 8,coptic\nBaram\
-uda,month 8,coptic\nBaramouda,month 8,coptic\nParemoude,month 8,coptic\nPashons,month 9,coptic\nPachon,month 9,coptic\n\
-Bashans,month 9,coptic\nBaschans,month 9,coptic\nPaschons,month 9,coptic\nPaoni,month 10,coptic\nPayni,month 10,coptic\
-\nBaunah,month 10,coptic\nBauna,month 10,coptic\nPaona,month 10,coptic\nEpip,month 11,coptic\nEpiphi,month 11,coptic\nA\
-bib,month 11,coptic\nEpep,month 11,coptic\nMesori,month 12,coptic\nMesore,month 12,coptic\nMisra,month 12,coptic\nMesra\
-,month 12,coptic\nNasie,month 13,coptic\nEpagomenen,month 13,coptic\nPi Kogi Enavot,month 13,coptic\nNasi,month 13,copt\
-ic\nMaskaram,month 1,ethiopic\nMeskerem,month 1,ethiopic\nMäskäräm,month 1,ethiopic\nTeqemt,month 2,ethiopic\nTikimt\
-,month 2,ethiopic\nTiqimt,month 2,ethiopic\nṬəqəmt,month 2,ethiopic\nTekemt,month 2,ethiopic\nHedar,month 3,ethiopi\
-c\nHidar,month 3,ethiopic\nḪədar,month 3,ethiopic\nTahsas,month 4,ethiopic\nTachsas,month 4,ethiopic\nTaḫśaś,mon\
-th 4,ethiopic\nTer,month 5,ethiopic\nTir,month 5,ethiopic\nṬərr,month 5,ethiopic\nYakatit,month 6,ethiopic\nYekatit,\
-month 6,ethiopic\nYäkatit,month 6,ethiopic\nMagabit,month 7,ethiopic\nMegabit,month 7,ethiopic\nMäggabit,month 7,ethi\
-opic\nMägabit,month 7,ethiopic\nMiyazya,month 8,ethiopic\nMiazia,month 8,ethiopic\nMiyazia,month 8,ethiopic\nGenbot,mo\
-nth 9,ethiopic\nGinbot,month 9,ethiopic\nGənbot,month 9,ethiopic\nSane,month 10,ethiopic\nSene,month 10,ethiopic\nSän\
-e,month 10,ethiopic\nHamle,month 11,ethiopic\nHamlé,month 11,ethiopic\nḤamle,month 11,ethiopic\nNahase,month 12,ethi\
-opic\nNehase,month 12,ethiopic\nNähase,month 12,ethiopic\nNehasse,month 12,ethiopic\nPagumen,month 13,ethiopic\nPagume\
-,month 13,ethiopic\nPagwemen,month 13,ethiopic\nṖagʷəmen,month 13,ethiopic\nṖagumen,month 13,ethiopic\nKalendas,K\
-,roman\nKalendis,K,roman\nKalendae,K,roman\nKalendarum,K,roman\nKal,K,roman\nKl,K,roman\nK,K,roman\nCalendas,K,roman\nC\
-alendis,K,roman\nCalendae,K,roman\nCal,K,roman\nNonas,N,roman\nNonis,N,roman\nNonae,N,roman\nNonarum,N,roman\nNon,N,rom\
-an\nN,N,roman\nIdus,I,roman\nIdibus,I,roman\nIduum,I,roman\nId,I,roman\nEid,I,roman\npridie,2,roman\nprid,2,roman\npr,2\
-,roman\ntertio,3,roman\nquarto,4,roman\nquinto,5,roman\nsexto,6,roman\nseptimo,7,roman\noctavo,8,roman\nnono,9,roman\nd\
-ecimo,10,roman\nundecimo,11,roman\nduodecimo,12,roman\ntertio decimo,13,roman\nquarto decimo,14,roman\nquinto decimo,15\
-,roman\nsexto decimo,16,roman\nseptimo decimo,17,roman\nduodevicesimo,18,roman\nundevicesimo,19,roman\ndecimo tertio,13\
-,roman\ndecimo quarto,14,roman\ndecimo quinto,15,roman\ndecimo sexto,16,roman\ndecimo septimo,17,roman\nIIII,4,french r\
-epublican\nVIIII,9,french republican\nXIIII,14,french republican\n2d,2,\n3d,3,\n22d,22,\n23d,23,\n1 ten,1,\nd 1,1,\nd \
-1 ten,1,\n2 ten,2,\nd 2,2,\nd 2 ten,2,\n3 ten,3,\nd 3,3,\nd 3 ten,3,\n4 ten,4,\nd 4,4,\nd 4 ten,4,\n5 ten,5,\nd 5,5,\n\
-d 5 ten,5,\n6 ten,6,\nd 6,6,\nd 6 ten,6,\n7 ten,7,\nd 7,7,\nd 7 ten,7,\n8 ten,8,\nd 8,8,\nd 8 ten,8,\n9 ten,9,\nd 9,9,\
-\nd 9 ten,9,\n10 ten,10,\nd 10,10,\nd 10 ten,10,\n11 ten,11,\nd 11,11,\nd 11 ten,11,\n12 ten,12,\nd 12,12,\nd 12 ten,12\
-,\n13 ten,13,\nd 13,13,\nd 13 ten,13,\n14 ten,14,\nd 14,14,\nd 14 ten,14,\n15 ten,15,\nd 15,15,\nd 15 ten,15,\n16 ten,1\
-6,\nd 16,16,\nd 16 ten,16,\n17 ten,17,\nd 17,17,\nd 17 ten,17,\n18 ten,18,\nd 18,18,\nd 18 ten,18,\n19 ten,19,\nd 19,19\
-,\nd 19 ten,19,\n20 ten,20,\nd 20,20,\nd 20 ten,20,\n21 ten,21,\nd 21,21,\nd 21 ten,21,\n22 ten,22,\nd 22,22,\nd 22 ten\
-,22,\n23 ten,23,\nd 23,23,\nd 23 ten,23,\n24 ten,24,\nd 24,24,\nd 24 ten,24,\n25 ten,25,\nd 25,25,\nd 25 ten,25,\n26 te\
-n,26,\nd 26,26,\nd 26 ten,26,\n27 ten,27,\nd 27,27,\nd 27 ten,27,\n28 ten,28,\nd 28,28,\nd 28 ten,28,\n29 ten,29,\nd 29\
-,29,\nd 29 ten,29,\n30 ten,30,\nd 30,30,\nd 30 ten,30,\n31 ten,31,\nd 31,31,\nd 31 ten,31,\ntwo,2,\nthree,3,\nfour,4,\n\
-five,5,\nsix,6,\nseven,7,\neight,8,\nnine,9,\nten,10,\neleven,11,\ntwelve,12,\nthirteen,13,\nfourteen,14,\nfifteen,15,\
-\nsixteen,16,\nseventeen,17,\neighteen,18,\nnineteen,19,\ntwenty,20,\ntwenty-one,21,\ntwenty-two,22,\ntwenty-three,23,\
-\ntwenty-four,24,\ntwenty-five,25,\ntwenty-six,26,\ntwenty-seven,27,\ntwenty-eight,28,\ntwenty-nine,29,\nthirty,30,\nth\
-irty-one,31,\nthirty-two,32,\nthirty-three,33,\nthirty-four,34,\nthirty-five,35,\nthirty-six,36,\nthirty-seven,37,\nthi\
-rty-eight,38,\nthirty-nine,39,\nforty,40,\nforty-one,41,\nforty-two,42,\nforty-three,43,\nforty-four,44,\nforty-five,45\
-,\nforty-six,46,\nforty-seven,47,\nforty-eight,48,\nforty-nine,49,\nfifty,50,\nfifty-one,51,\nfifty-two,52,\nfifty-thre\
-e,53,\nfifty-four,54,\nfifty-five,55,\nfifty-six,56,\nfifty-seven,57,\nfifty-eight,58,\nfifty-nine,59,\nsixty,60,\nsixt\
-y-one,61,\nsixty-two,62,\nsixty-three,63,\nsixty-four,64,\nsixty-five,65,\nsixty-six,66,\nsixty-seven,67,\nsixty-eight,\
-68,\nsixty-nine,69,\nseventy,70,\nseventy-one,71,\nseventy-two,72,\nseventy-three,73,\nseventy-four,74,\nseventy-five,7\
-5,\nseventy-six,76,\nseventy-seven,77,\nseventy-eight,78,\nseventy-nine,79,\neighty,80,\neighty-one,81,\neighty-two,82,\
-\neighty-three,83,\neighty-four,84,\neighty-five,85,\neighty-six,86,\neighty-seven,87,\neighty-eight,88,\neighty-nine,8\
-9,\nninety,90,\nninety-one,91,\nninety-two,92,\nninety-three,93,\nninety-four,94,\nninety-five,95,\nninety-six,96,\nnin\
-ety-seven,97,\nninety-eight,98,\nninety-nine,99,\nfirst,1,\nsecond,2,\nthird,3,\nfourth,4,\nfifth,5,\nsixth,6,\nseventh\
-,7,\neighth,8,\nninth,9,\ntenth,10,\neleventh,11,\ntwelfth,12,\nthirteenth,13,\nfourteenth,14,\nfifteenth,15,\nsixteent\
-h,16,\nseventeenth,17,\neighteenth,18,\nnineteenth,19,\ntwentieth,20,\ntwenty-first,21,\ntwenty-second,22,\ntwenty-thir\
-d,23,\ntwenty-fourth,24,\ntwenty-fifth,25,\ntwenty-sixth,26,\ntwenty-seventh,27,\ntwenty-eighth,28,\ntwenty-ninth,29,\n\
-thirtieth,30,\nthirty-first,31,\none hundred,100,\none hundred and,100,\none hundred one,101,\none hundred and one,101,\
-\na hundred,100,\na hundred and,100,\na hundred one,101,\na hundred and one,101,\ntwo hundred,200,\ntwo hundred and,200\
-,\ntwo hundred one,201,\ntwo hundred and one,201,\nthree hundred,300,\nthree hundred and,300,\nthree hundred one,301,\n\
-three hundred and one,301,\nfour hundred,400,\nfour hundred and,400,\nfour hundred one,401,\nfour hundred and one,401,\
-\nfive hundred,500,\nfive hundred and,500,\nfive hundred one,501,\nfive hundred and one,501,\nsix hundred,600,\nsix hun\
-dred and,600,\nsix hundred one,601,\nsix hundred and one,601,\nseven hundred,700,\nseven hundred and,700,\nseven hundre\
-d one,701,\nseven hundred and one,701,\neight hundred,800,\neight hundred and,800,\neight hundred one,801,\neight hundr\
-ed and one,801,\nnine hundred,900,\nnine hundred and,900,\nnine hundred one,901,\nnine hundred and one,901,\neleven hun\
-dred,1100,\neleven hundred and,1100,\neleven hundred one,1101,\neleven hundred and one,1101,\ntwelve hundred,1200,\ntwe\
-lve hundred and,1200,\ntwelve hundred one,1201,\ntwelve hundred and one,1201,\nthirteen hundred,1300,\nthirteen hundre\
-d and,1300,\nthirteen hundred one,1301,\nthirteen hundred and one,1301,\nfourteen hundred,1400,\nfourteen hundred and,1\
-400,\nfourteen hundred one,1401,\nfourteen hundred and one,1401,\nfifteen hundred,1500,\nfifteen hundred and,1500,\nfif\
-teen hundred one,1501,\nfifteen hundred and one,1501,\nsixteen hundred,1600,\nsixteen hundred and,1600,\nsixteen hundre\
-d one,1601,\nsixteen hundred and one,1601,\nseventeen hundred,1700,\nseventeen hundred and,1700,\nseventeen hundred one\
-,1701,\nseventeen hundred and one,1701,\neighteen hundred,1800,\neighteen hundred and,1800,\neighteen hundred one,1801,\
-\neighteen hundred and one,1801,\nnineteen hundred,1900,\nnineteen hundred and,1900,\nnineteen hundred one,1901,\nninet\
-een hundred and one,1901,\none thousand,1000,\none thousand and,1000,\none thousand and one,1001,\na thousand,1000,\na \
-thousand and,1000,\na thousand and one,1001,\ntwo thousand,2000,\ntwo thousand and,2000,\ntwo thousand and one,2001,\nd\
-eux,2,\ntrois,3,\nquatre,4,\ncinq,5,\nsept,7,coptic ethiopic egyptian armenian islamic hebrew french republican\nle sep\
-t,7,gregorian julian\nhuit,8,\nneuf,9,\ndix,10,\nonze,11,\ndouze,12,\ntreize,13,\nquatorze,14,\nquinze,15,\nseize,16,\n\
-dix-sept,17,\ndix-huit,18,\ndix-neuf,19,\nvingt,20,\nvingt et un,21,\nvingt-un,21,\nvingt-deux,22,\nvingt-trois,23,\nvi\
-ngt-quatre,24,\nvingt-cinq,25,\nvingt-six,26,\nvingt-sept,27,\nvingt-huit,28,\nvingt-neuf,29,\ntrente,30,\ntrente et un\
-,31,\ntrente-un,31,\ntrente-deux,32,\ntrente-trois,33,\ntrente-quatre,34,\ntrente-cinq,35,\ntrente-six,36,\ntrente-sept\
-,37,\ntrente-huit,38,\ntrente-neuf,39,\nquarante,40,\nquarante et un,41,\nquarante-un,41,\nquarante-deux,42,\nquarante-\
-trois,43,\nquarante-quatre,44,\nquarante-cinq,45,\nquarante-six,46,\nquarante-sept,47,\nquarante-huit,48,\nquarante-neu\
-f,49,\ncinquante,50,\ncinquante et un,51,\ncinquante-un,51,\ncinquante-deux,52,\ncinquante-trois,53,\ncinquante-quatre,\
-54,\ncinquante-cinq,55,\ncinquante-six,56,\ncinquante-sept,57,\ncinquante-huit,58,\ncinquante-neuf,59,\nsoixante,60,\ns\
-oixante et un,61,\nsoixante-un,61,\nsoixante-deux,62,\nsoixante-trois,63,\nsoixante-quatre,64,\nsoixante-cinq,65,\nsoix\
-ante-six,66,\nsoixante-sept,67,\nsoixante-huit,68,\nsoixante-neuf,69,\nsoixante-dix,70,\nseptante,70,\nsoixante et onze\
-,71,\nsoixante-onze,71,\nseptante et un,71,\nseptante-un,71,\nsoixante-douze,72,\nseptante-deux,72,\nsoixante-treize,73\
-,\nseptante-trois,73,\nsoixante-quatorze,74,\nseptante-quatre,74,\nsoixante-quinze,75,\nseptante-cinq,75,\nsoixante-sei\
-ze,76,\nseptante-six,76,\nsoixante-dix-sept,77,\nseptante-sept,77,\nsoixante-dix-huit,78,\nseptante-huit,78,\nsoixante-\
-dix-neuf,79,\nseptante-neuf,79,\nquatre-vingts,80,\nquatre-vingt,80,\noctante,80,\nhuitante,80,\nquatre-vingt-un,81,\no\
-ctante-un,81,\nhuitante-un,81,\nquatre-vingt-deux,82,\noctante-deux,82,\nhuitante-deux,82,\nquatre-vingt-trois,83,\noct\
-ante-trois,83,\nhuitante-trois,83,\nquatre-vingt-quatre,84,\noctante-quatre,84,\nhuitante-quatre,84,\nquatre-vingt-cinq\
-,85,\noctante-cinq,85,\nhuitante-cinq,85,\nquatre-vingt-six,86,\noctante-six,86,\nhuitante-six,86,\nquatre-vingt-sept,8\
-7,\noctante-sept,87,\nhuitante-sept,87,\nquatre-vingt-huit,88,\noctante-huit,88,\nhuitante-huit,88,\nquatre-vingt-neuf,\
-89,\noctante-neuf,89,\nhuitante-neuf,89,\nquatre-vingt-dix,90,\nnonante,90,\nquatre-vingt-onze,91,\nnonante et un,91,\n\
-nonante-un,91,\nquatre-vingt-douze,92,\nnonante-deux,92,\nquatre-vingt-treize,93,\nnonante-trois,93,\nquatre-vingt-quat\
-orze,94,\nnonante-quatre,94,\nquatre-vingt-quinze,95,\nnonante-cinq,95,\nquatre-vingt-seize,96,\nnonante-six,96,\nquatr\
-e-vingt-dix-sept,97,\nnonante-sept,97,\nquatre-vingt-dix-huit,98,\nnonante-huit,98,\nquatre-vingt-dix-neuf,99,\nnonante\
--neuf,99,\nan un,1,french republican\npremier,1,\ndeuxième,2,\ndeuxieme,2,\ndeuxiesme,2,\ntroisième,3,\ntroisieme,3,\
-\ntroisiesme,3,\nquatrième,4,\nquatrieme,4,\nquatriesme,4,\ncinquième,5,\ncinquieme,5,\ncinquiesme,5,\nsixième,6,\ns\
-ixieme,6,\nsixiesme,6,\nseptième,7,\nseptieme,7,\nseptiesme,7,\nhuitième,8,\nhuitieme,8,\nhuitiesme,8,\nneuvième,9,\
-\nneuvieme,9,\nneuviesme,9,\ndixième,10,\ndixieme,10,\ndixiesme,10,\nonzième,11,\nonzieme,11,\nonziesme,11,\ndouzièm\
-e,12,\ndouzieme,12,\ndouziesme,12,\ntreizième,13,\ntreizieme,13,\ntreiziesme,13,\nquatorzième,14,\nquatorzieme,14,\nq\
-uatorziesme,14,\nquinzième,15,\nquinzieme,15,\nquinziesme,15,\nseizième,16,\nseizieme,16,\nseiziesme,16,\ndix-septiè\
-me,17,\ndix-septieme,17,\ndix-septiesme,17,\ndix-huitième,18,\ndix-huitieme,18,\ndix-huitiesme,18,\ndix-neuvième,19,\
-\ndix-neuvieme,19,\ndix-neuviesme,19,\nvingtième,20,\nvingtieme,20,\nvingtiesme,20,\nvingt et unième,21,\nvingt et un\
-ieme,21,\nvingt et uniesme,21,\nvingt-unième,21,\nvingt-unieme,21,\nvingt-uniesme,21,\nvingt-deuxième,22,\nvingt-deux\
-ieme,22,\nvingt-deuxiesme,22,\nvingt-troisième,23,\nvingt-troisieme,23,\nvingt-troisiesme,23,\nvingt-quatrième,24,\nv\
-ingt-quatrieme,24,\nvingt-quatriesme,24,\nvingt-cinquième,25,\nvingt-cinquieme,25,\nvingt-cinquiesme,25,\nvingt-sixiè\
-me,26,\nvingt-sixieme,26,\nvingt-sixiesme,26,\nvingt-septième,27,\nvingt-septieme,27,\nvingt-septiesme,27,\nvingt-huit\
-ième,28,\nvingt-huitieme,28,\nvingt-huitiesme,28,\nvingt-neuvième,29,\nvingt-neuvieme,29,\nvingt-neuviesme,29,\ntrent\
-ième,30,\ntrentieme,30,\ntrentiesme,30,\ntrente et unième,31,\ntrente et unieme,31,\ntrente et uniesme,31,\ntrente-un\
-ième,31,\ntrente-unieme,31,\ntrente-uniesme,31,\ncent,100,\ncent un,101,\ncent sept,107,\ndeux cent,200,\ndeux cent un\
-,201,\ndeux cent sept,207,\ndeux cents,200,\ndeux cents un,201,\ndeux cents sept,207,\ntrois cent,300,\ntrois cent un,3\
-01,\ntrois cent sept,307,\ntrois cents,300,\ntrois cents un,301,\ntrois cents sept,307,\nquatre cent,400,\nquatre cent \
-un,401,\nquatre cent sept,407,\nquatre cents,400,\nquatre cents un,401,\nquatre cents sept,407,\ncinq cent,500,\ncinq c\
-ent un,501,\ncinq cent sept,507,\ncinq cents,500,\ncinq cents un,501,\ncinq cents sept,507,\nsix cent,600,\nsix cent un\
-,601,\nsix cent sept,607,\nsix cents,600,\nsix cents un,601,\nsix cents sept,607,\nsept cent,700,\nsept cent un,701,\ns\
-ept cent sept,707,\nsept cents,700,\nsept cents un,701,\nsept cents sept,707,\nhuit cent,800,\nhuit cent un,801,\nhuit \
-cent sept,807,\nhuit cents,800,\nhuit cents un,801,\nhuit cents sept,807,\nneuf cent,900,\nneuf cent un,901,\nneuf cen\
-t sept,907,\nneuf cents,900,\nneuf cents un,901,\nneuf cents sept,907,\nonze cent,1100,\nonze cent un,1101,\nonze cent \
-sept,1107,\nonze cents,1100,\nonze cents un,1101,\nonze cents sept,1107,\ndouze cent,1200,\ndouze cent un,1201,\ndouze \
-cent sept,1207,\ndouze cents,1200,\ndouze cents un,1201,\ndouze cents sept,1207,\ntreize cent,1300,\ntreize cent un,130\
-1,\ntreize cent sept,1307,\ntreize cents,1300,\ntreize cents un,1301,\ntreize cents sept,1307,\nquatorze cent,1400,\nqu\
-atorze cent un,1401,\nquatorze cent sept,1407,\nquatorze cents,1400,\nquatorze cents un,1401,\nquatorze cents sept,1407\
-,\nquinze cent,1500,\nquinze cent un,1501,\nquinze cent sept,1507,\nquinze cents,1500,\nquinze cents un,1501,\nquinze c\
-ents sept,1507,\nseize cent,1600,\nseize cent un,1601,\nseize cent sept,1607,\nseize cents,1600,\nseize cents un,1601,\
-\nseize cents sept,1607,\ndix-sept cent,1700,\ndix-sept cent un,1701,\ndix-sept cent sept,1707,\ndix-sept cents,1700,\n\
-dix-sept cents un,1701,\ndix-sept cents sept,1707,\ndix-huit cent,1800,\ndix-huit cent un,1801,\ndix-huit cent sept,180\
-7,\ndix-huit cents,1800,\ndix-huit cents un,1801,\ndix-huit cents sept,1807,\ndix-neuf cent,1900,\ndix-neuf cent un,190\
-1,\ndix-neuf cent sept,1907,\ndix-neuf cents,1900,\ndix-neuf cents un,1901,\ndix-neuf cents sept,1907,\nmil,1000,\nmil \
-un,1001,\nmille,1000,\nmille un,1001,\ndeux mil,2000,\ndeux mille,2000,\ndeux mil un,2001,\ndeux mille un,2001,\neins,1\
-,\nzwei,2,\nzwey,2,\ndrei,3,\ndrey,3,\nvier,4,\nfünf,5,\nsechs,6,\nsieben,7,\nacht,8,\nneun,9,\nzehn,10,\nelf,11,\nzw\
-ölf,12,\ndreizehn,13,\ndreyzehn,13,\nvierzehn,14,\nfünfzehn,15,\nsechzehn,16,\nsiebzehn,17,\nachtzehn,18,\nneunzehn,1\
-9,\nzwanzig,20,\neinundzwanzig,21,\nein und zwanzig,21,\nzweiundzwanzig,22,\nzweyundzwanzig,22,\nzwei und zwanzig,22,\n\
-zwey und zwanzig,22,\ndreiundzwanzig,23,\ndreyundzwanzig,23,\ndrei und zwanzig,23,\ndrey und zwanzig,23,\nvierundzwanzi\
-g,24,\nvier und zwanzig,24,\nfünfundzwanzig,25,\nfünf und zwanzig,25,\nsechsundzwanzig,26,\nsechs und zwanzig,26,\nsi\
-ebenundzwanzig,27,\nsieben und zwanzig,27,\nachtundzwanzig,28,\nacht und zwanzig,28,\nneunundzwanzig,29,\nneun und zwan\
-zig,29,\ndreißig,30,\ndreyßig,30,\neinunddreißig,31,\neinunddreyßig,31,\nein und dreißig,31,\nein und dreyßig,31,\
-\nzweiunddreißig,32,\nzweyunddreißig,32,\nzweiunddreyßig,32,\nzweyunddreyßig,32,\nzwei und dreißig,32,\nzwey und d\
-reißig,32,\nzwei und dreyßig,32,\nzwey und dreyßig,32,\ndreiunddreißig,33,\ndreyunddreyßig,33,\ndrei und dreißig,\
-33,\ndrey und dreyßig,33,\nvierunddreißig,34,\nvierunddreyßig,34,\nvier und dreißig,34,\nvier und dreyßig,34,\nfü\
-nfunddreißig,35,\nfünfunddreyßig,35,\nfünf und dreißig,35,\nfünf und dreyßig,35,\nsechsunddreißig,36,\nsechsund\
-dreyßig,36,\nsechs und dreißig,36,\nsechs und dreyßig,36,\nsiebenunddreißig,37,\nsiebenunddreyßig,37,\nsieben und \
-dreißig,37,\nsieben und dreyßig,37,\nachtunddreißig,38,\nachtunddreyßig,38,\nacht und dreißig,38,\nacht und dreyß\
-ig,38,\nneununddreißig,39,\nneununddreyßig,39,\nneun und dreißig,39,\nneun und dreyßig,39,\nvierzig,40,\neinundvier\
-zig,41,\nein und vierzig,41,\nzweiundvierzig,42,\nzweyundvierzig,42,\nzwei und vierzig,42,\nzwey und vierzig,42,\ndreiu\
-ndvierzig,43,\ndreyundvierzig,43,\ndrei und vierzig,43,\ndrey und vierzig,43,\nvierundvierzig,44,\nvier und vierzig,44,\
-\nfünfundvierzig,45,\nfünf und vierzig,45,\nsechsundvierzig,46,\nsechs und vierzig,46,\nsiebenundvierzig,47,\nsieben \
-und vierzig,47,\nachtundvierzig,48,\nacht und vierzig,48,\nneunundvierzig,49,\nneun und vierzig,49,\nfünfzig,50,\neinu\
-ndfünfzig,51,\nein und fünfzig,51,\nzweiundfünfzig,52,\nzweyundfünfzig,52,\nzwei und fünfzig,52,\nzwey und fünfzi\
-g,52,\ndreiundfünfzig,53,\ndreyundfünfzig,53,\ndrei und fünfzig,53,\ndrey und fünfzig,53,\nvierundfünfzig,54,\nvie\
-r und fünfzig,54,\nfünfundfünfzig,55,\nfünf und fünfzig,55,\nsechsundfünfzig,56,\nsechs und fünfzig,56,\nsiebenu\
-ndfünfzig,57,\nsieben und fünfzig,57,\nachtundfünfzig,58,\nacht und fünfzig,58,\nneunundfünfzig,59,\nneun und fün\
-fzig,59,\nsechzig,60,\neinundsechzig,61,\nein und sechzig,61,\nzweiundsechzig,62,\nzweyundsechzig,62,\nzwei und sechzig\
-,62,\nzwey und sechzig,62,\ndreiundsechzig,63,\ndreyundsechzig,63,\ndrei und sechzig,63,\ndrey und sechzig,63,\nvierund\
-sechzig,64,\nvier und sechzig,64,\nfünfundsechzig,65,\nfünf und sechzig,65,\nsechsundsechzig,66,\nsechs und sechzig,6\
-6,\nsiebenundsechzig,67,\nsieben und sechzig,67,\nachtundsechzig,68,\nacht und sechzig,68,\nneunundsechzig,69,\nneun un\
-d sechzig,69,\nsiebzig,70,\neinundsiebzig,71,\nein und siebzig,71,\nzweiundsiebzig,72,\nzweyundsiebzig,72,\nzwei und si\
-ebzig,72,\nzwey und siebzig,72,\ndreiundsiebzig,73,\ndreyundsiebzig,73,\ndrei und siebzig,73,\ndrey und siebzig,73,\nvi\
-erundsiebzig,74,\nvier und siebzig,74,\nfünfundsiebzig,75,\nfünf und siebzig,75,\nsechsundsiebzig,76,\nsechs und sieb\
-zig,76,\nsiebenundsiebzig,77,\nsieben und siebzig,77,\nachtundsiebzig,78,\nacht und siebzig,78,\nneunundsiebzig,79,\nne\
-un und siebzig,79,\nachtzig,80,\neinundachtzig,81,\nein und achtzig,81,\nzweiundachtzig,82,\nzweyundachtzig,82,\nzwei u\
-nd achtzig,82,\nzwey und achtzig,82,\ndreiundachtzig,83,\ndreyundachtzig,83,\ndrei und achtzig,83,\ndrey und achtzig,83\
-,\nvierundachtzig,84,\nvier und achtzig,84,\nfünfundachtzig,85,\nfünf und achtzig,85,\nsechsundachtzig,86,\nsechs un\
-d achtzig,86,\nsiebenundachtzig,87,\nsieben und achtzig,87,\nachtundachtzig,88,\nacht und achtzig,88,\nneunundachtzig,8\
-9,\nneun und achtzig,89,\nneunzig,90,\neinundneunzig,91,\nein und neunzig,91,\nzweiundneunzig,92,\nzweyundneunzig,92,\n\
-zwei und neunzig,92,\nzwey und neunzig,92,\ndreiundneunzig,93,\ndreyundneunzig,93,\ndrei und neunzig,93,\ndrey und neun\
-zig,93,\nvierundneunzig,94,\nvier und neunzig,94,\nfünfundneunzig,95,\nfünf und neunzig,95,\nsechsundneunzig,96,\nsec\
-hs und neunzig,96,\nsiebenundneunzig,97,\nsieben und neunzig,97,\nachtundneunzig,98,\nacht und neunzig,98,\nneunundneun\
-zig,99,\nneun und neunzig,99,\nzwo,2,\neilf,11,\nerste,1,\nersten,1,\nerster,1,\nzweite,2,\nzweiten,2,\nzweiter,2,\nzwe\
-yte,2,\nzweyten,2,\nzweyter,2,\nzwote,2,\nzwoten,2,\nzwoter,2,\ndritte,3,\ndritten,3,\ndritter,3,\nvierte,4,\nvierten,4\
-,\nvierter,4,\nfünfte,5,\nfünften,5,\nfünfter,5,\nsechste,6,\nsechsten,6,\nsechster,6,\nsiebente,7,\nsiebenten,7,\ns\
-iebenter,7,\nsiebte,7,\nsiebten,7,\nsiebter,7,\nachte,8,\nachten,8,\nachter,8,\nneunte,9,\nneunten,9,\nneunter,9,\nzehn\
-te,10,\nzehnten,10,\nzehnter,10,\nelfte,11,\nelften,11,\nelfter,11,\neilfte,11,\neilften,11,\neilfter,11,\nzwölfte,12,\
-\nzwölften,12,\nzwölfter,12,\ndreizehnte,13,\ndreizehnten,13,\ndreizehnter,13,\ndreyzehnte,13,\ndreyzehnten,13,\ndrey\
-zehnter,13,\nvierzehnte,14,\nvierzehnten,14,\nvierzehnter,14,\nfünfzehnte,15,\nfünfzehnten,15,\nfünfzehnter,15,\nsec\
-hzehnte,16,\nsechzehnten,16,\nsechzehnter,16,\nsiebzehnte,17,\nsiebzehnten,17,\nsiebzehnter,17,\nachtzehnte,18,\nachtze\
-hnten,18,\nachtzehnter,18,\nneunzehnte,19,\nneunzehnten,19,\nneunzehnter,19,\nzwanzigste,20,\nzwanzigsten,20,\nzwanzigs\
-ter,20,\neinundzwanzigste,21,\neinundzwanzigsten,21,\neinundzwanzigster,21,\nein und zwanzigste,21,\nein und zwanzigste\
-n,21,\nein und zwanzigster,21,\nzweiundzwanzigste,22,\nzweiundzwanzigsten,22,\nzweiundzwanzigster,22,\nzweyundzwanzigst\
-e,22,\nzweyundzwanzigsten,22,\nzweyundzwanzigster,22,\nzwei und zwanzigste,22,\nzwei und zwanzigsten,22,\nzwei und zwan\
-zigster,22,\nzwey und zwanzigste,22,\nzwey und zwanzigsten,22,\nzwey und zwanzigster,22,\ndreiundzwanzigste,23,\ndreiun\
-dzwanzigsten,23,\ndreiundzwanzigster,23,\ndreyundzwanzigste,23,\ndreyundzwanzigsten,23,\ndreyundzwanzigster,23,\ndrei u\
-nd zwanzigste,23,\ndrei und zwanzigsten,23,\ndrei und zwanzigster,23,\ndrey und zwanzigste,23,\ndrey und zwanzigsten,23\
-,\ndrey und zwanzigster,23,\nvierundzwanzigste,24,\nvierundzwanzigsten,24,\nvierundzwanzigster,24,\nvier und zwanzigste\
-,24,\nvier und zwanzigsten,24,\nvier und zwanzigster,24,\nfünfundzwanzigste,25,\nfünfundzwanzigsten,25,\nfünfundzwan\
-zigster,25,\nfünf und zwanzigste,25,\nfünf und zwanzigsten,25,\nfünf und zwanzigster,25,\nsechsundzwanzigste,26,\nse\
-chsundzwanzigsten,26,\nsechsundzwanzigster,26,\nsechs und zwanzigste,26,\nsechs und zwanzigsten,26,\nsechs und zwanzigs\
-ter,26,\nsiebenundzwanzigste,27,\nsiebenundzwanzigsten,27,\nsiebenundzwanzigster,27,\nsieben und zwanzigste,27,\nsiebe\
-n und zwanzigsten,27,\nsieben und zwanzigster,27,\nachtundzwanzigste,28,\nachtundzwanzigsten,28,\nachtundzwanzigster,28\
-,\nacht und zwanzigste,28,\nacht und zwanzigsten,28,\nacht und zwanzigster,28,\nneunundzwanzigste,29,\nneunundzwanzigst\
-en,29,\nneunundzwanzigster,29,\nneun und zwanzigste,29,\nneun und zwanzigsten,29,\nneun und zwanzigster,29,\ndreißigst\
-e,30,\ndreißigsten,30,\ndreißigster,30,\ndreyßigste,30,\ndreyßigsten,30,\ndreyßigster,30,\neinunddreißigste,31,\n\
-einunddreißigsten,31,\neinunddreißigster,31,\neinunddreyßigste,31,\neinunddreyßigsten,31,\neinunddreyßigster,31,\n\
-ein und dreißigste,31,\nein und dreißigsten,31,\nein und dreißigster,31,\nein und dreyßigste,31,\nein und dreyßigs\
-ten,31,\nein und dreyßigster,31,\neinhundert,100,\neinhundert und,100,\nein hundert,100,\nein hundert und,100,\nhunder\
-t,100,\nhundert und,100,\nzweihundert,200,\nzweihundert und,200,\nzwei hundert,200,\nzwei hundert und,200,\nzweyhundert\
-,200,\nzweyhundert und,200,\nzwey hundert,200,\nzwey hundert und,200,\ndreihundert,300,\ndreihundert und,300,\ndrei hun\
-dert,300,\ndrei hundert und,300,\ndreyhundert,300,\ndreyhundert und,300,\ndrey hundert,300,\ndrey hundert und,300,\nvie\
-rhundert,400,\nvierhundert und,400,\nvier hundert,400,\nvier hundert und,400,\nfünfhundert,500,\nfünfhundert und,500,\
-\nfünf hundert,500,\nfünf hundert und,500,\nsechshundert,600,\nsechshundert und,600,\nsechs hundert,600,\nsechs hunde\
-rt und,600,\nsiebenhundert,700,\nsiebenhundert und,700,\nsieben hundert,700,\nsieben hundert und,700,\nachthundert,800,\
-\nachthundert und,800,\nacht hundert,800,\nacht hundert und,800,\nneunhundert,900,\nneunhundert und,900,\nneun hundert,\
-900,\nneun hundert und,900,\nelfhundert,1100,\nelfhundert und,1100,\nelf hundert,1100,\nelf hundert und,1100,\nzwölfhu\
-ndert,1200,\nzwölfhundert und,1200,\nzwölf hundert,1200,\nzwölf hundert und,1200,\ndreizehnhundert,1300,\ndreizehnhu\
-ndert und,1300,\ndreizehn hundert,1300,\ndreizehn hundert und,1300,\ndreyzehnhundert,1300,\ndreyzehnhundert und,1300,\n\
-dreyzehn hundert,1300,\ndreyzehn hundert und,1300,\nvierzehnhundert,1400,\nvierzehnhundert und,1400,\nvierzehn hundert,\
-1400,\nvierzehn hundert und,1400,\nfünfzehnhundert,1500,\nfünfzehnhundert und,1500,\nfünfzehn hundert,1500,\nfünfze\
-hn hundert und,1500,\nsechzehnhundert,1600,\nsechzehnhundert und,1600,\nsechzehn hundert,1600,\nsechzehn hundert und,16\
-00,\nsiebzehnhundert,1700,\nsiebzehnhundert und,1700,\nsiebzehn hundert,1700,\nsiebzehn hundert und,1700,\nachtzehnhund\
-ert,1800,\nachtzehnhundert und,1800,\nachtzehn hundert,1800,\nachtzehn hundert und,1800,\nneunzehnhundert,1900,\nneunze\
-hnhundert und,1900,\nneunzehn hundert,1900,\nneunzehn hundert und,1900,\ntausend,1000,\ntausend und,1000,\neintausend,1\
-000,\neintausend und,1000,\nein tausend,1000,\nein tausend und,1000,\nzweitausend,2000,\nzweitausend und,2000,\nzwei ta\
-usend,2000,\nzwei tausend und,2000,\nMontag,weekday 1,\nDienstag,weekday 2,\nMittwoch,weekday 3,\nDonnerstag,weekday 4,\
-\nFreitag,weekday 5,\nSamstag,weekday 6,\nSonnabend,weekday 6,\nSonntag,weekday 0,\nMo,weekday 1,\nDi,weekday 2,gregori\
-an julian coptic ethiopic egyptian armenian islamic hebrew french republican\nMi,weekday 3,gregorian julian coptic ethi\
-opic egyptian armenian islamic hebrew french republican\nDo,weekday 4,\nFr,weekday 5,\nSa,weekday 6,\nSo,weekday 0,\nMo\
-nday,weekday 1,\nTuesday,weekday 2,\nWednesday,weekday 3,\nThursday,weekday 4,\nFriday,weekday 5,\nSaturday,weekday 6,\
-\nSunday,weekday 0,\nMon,weekday 1,\nTue,weekday 2,\nTues,weekday 2,\nWed,weekday 3,\nThu,weekday 4,\nThur,weekday 4,\n\
-Thurs,weekday 4,\nFri,weekday 5,\nSat,weekday 6,\nSun,weekday 0,\nlundi,weekday 1,\nmardi,weekday 2,\nmercredi,weekday \
-3,\njeudi,weekday 4,\nvendredi,weekday 5,\nsamedi,weekday 6,\ndimanche,weekday 0,\nlun,weekday 1,\nmer,weekday 3,\njeu,\
-weekday 4,\nven,weekday 5,\nsam,weekday 6,\ndim,weekday 0,\nmaandag,weekday 1,\ndinsdag,weekday 2,\nwoensdag,weekday 3,\
-\ndonderdag,weekday 4,\nvrijdag,weekday 5,\nzaterdag,weekday 6,\nzondag,weekday 0,\nma,weekday 1,\nwo,weekday 3,\nvr,we\
-ekday 5,\nza,weekday 6,\nzo,weekday 0,\nlunedì,weekday 1,\nmartedì,weekday 2,\nmercoledì,weekday 3,\ngiovedì,weekda\
-y 4,\nvenerdì,weekday 5,\nsabato,weekday 6,\ndomenica,weekday 0,\nlunes,weekday 1,\nmartes,weekday 2,\nmiércoles,week\
-day 3,\njueves,weekday 4,\nviernes,weekday 5,\nsábado,weekday 6,\ndomingo,weekday 0,\nponiedziałek,weekday 1,\nwtorek\
-,weekday 2,\nśroda,weekday 3,\nczwartek,weekday 4,\npiątek,weekday 5,\nsobota,weekday 6,\nniedziela,weekday 0,\npond\
-ělí,weekday 1,\núterý,weekday 2,\nstředa,weekday 3,\nčtvrtek,weekday 4,\npátek,weekday 5,\nneděle,weekday 0,\nd\
-ies Lunae,weekday 1,\ndies Martis,weekday 2,\ndies Mercurii,weekday 3,\ndies Iovis,weekday 4,\ndies Jovis,weekday 4,\nd\
-ies Veneris,weekday 5,\ndies Saturni,weekday 6,\ndies Sabbati,weekday 6,\ndies Dominica,weekday 0,\nsøndag,weekday 0,\
-\nmandag,weekday 1,\ntirsdag,weekday 2,\nonsdag,weekday 3,\ntorsdag,weekday 4,\nfredag,weekday 5,\nlørdag,weekday 6,\n\
-söndag,weekday 0,\nmåndag,weekday 1,\ntisdag,weekday 2,\nlördag,weekday 6,\nsunnuntai,weekday 0,\nmaanantai,weekday \
-1,\ntiistai,weekday 2,\nkeskiviikko,weekday 3,\ntorstai,weekday 4,\nperjantai,weekday 5,\nlauantai,weekday 6,\nvasárna\
-p,weekday 0,\nhétfő,weekday 1,\nkedd,weekday 2,\nszerda,weekday 3,\ncsütörtök,weekday 4,\npéntek,weekday 5,\nszom\
-bat,weekday 6,\nsegunda-feira,weekday 1,\nterça-feira,weekday 2,\nquarta-feira,weekday 3,\nquinta-feira,weekday 4,\nse\
-xta-feira,weekday 5,\nвоскресенье,weekday 0,\nпонедельник,weekday 1,\nвторник,weekday 2,\n\
-среда,weekday 3,\nчетверг,weekday 4,\nпятница,weekday 5,\nсуббота,weekday 6,\nнеділя,we\
-ekday 0,\nпонеділок,weekday 1,\nвівторок,weekday 2,\nсереда,weekday 3,\nчетвер,weekday 4,\
-\nпʼятниця,weekday 5,\nсубота,weekday 6,\nΚυριακή,weekday 0,\nΔευτέρα,weekday 1,\nΤρίτ\
-η,weekday 2,\nΤετάρτη,weekday 3,\nΠέμπτη,weekday 4,\nΠαρασκευή,weekday 5,\nΣάββατο,weekda\
-y 6,\nPazar,weekday 0,\nPazartesi,weekday 1,\nSalı,weekday 2,\nÇarşamba,weekday 3,\nPerşembe,weekday 4,\nCuma,weekd\
-ay 5,\nCumartesi,weekday 6,\nSonntags,weekday 0,\nSontag,weekday 0,\ndies dominicus,weekday 0,\ndie Dominica,weekday 0,\
-\ndie Dominico,weekday 0,\ndominico die,weekday 0,\nMontags,weekday 1,\nMondtag,weekday 1,\ndie Lunae,weekday 1,\ndie L\
-une,weekday 1,\nDienstags,weekday 2,\nDinstag,weekday 2,\nDinstags,weekday 2,\nErchtag,weekday 2,\nErtag,weekday 2,\nZi\
-nstag,weekday 2,\nZistag,weekday 2,\ndie Martis,weekday 2,\nMittwochs,weekday 3,\nMitwoch,weekday 3,\nMittichen,weekda\
-y 3,\ndie Mercurii,weekday 3,\nDonnerstags,weekday 4,\nDornstag,weekday 4,\nPfinztag,weekday 4,\ndie Jovis,weekday 4,\n\
-die Iovis,weekday 4,\nFreitags,weekday 5,\nFreytag,weekday 5,\nFreytags,weekday 5,\ndie Veneris,weekday 5,\nSamstags,we\
-ekday 6,\nSonnabends,weekday 6,\nSambstag,weekday 6,\ndie Sabbati,weekday 6,\ndie Saturni,weekday 6,\ndie Sabbato,weekd\
-ay 6,\nSonnabent,weekday 6,\ndominica,weekday 0,\ndom,weekday 0,\nferia secunda,weekday 1,\nferia 2,weekday 1,\nferia t\
-ertia,weekday 2,\nferia tercia,weekday 2,\nferia 3,weekday 2,\nferia quarta,weekday 3,\nferia 4,weekday 3,\nferia quint\
-a,weekday 4,\nferia 5,weekday 4,\nferia sexta,weekday 5,\nferia 6,weekday 5,\nsabbato,weekday 6,\nsabbatum,weekday 6,\n\
-primidi,decade 1,french republican\nduodi,decade 2,french republican\ntridi,decade 3,french republican\nquartidi,decad\
-e 4,french republican\nquintidi,decade 5,french republican\nsextidi,decade 6,french republican\nseptidi,decade 7,frenc\
-h republican\noctidi,decade 8,french republican\nnonidi,decade 9,french republican\ndécadi,decade 10,french republican\
-\ndecadi,decade 10,french republican\nday after,morrow,gregorian julian\nTag nach,morrow,gregorian julian\nTags nach,mo\
-rrow,gregorian julian\njour après,morrow,gregorian julian\nlendemain de,morrow,gregorian julian\ndie post,morrow,grego\
-rian julian\ndies post,morrow,gregorian julian\nday before,eve,gregorian julian\nTag vor,eve,gregorian julian\nTags vor\
-,eve,gregorian julian\njour avant,eve,gregorian julian\ndie ante,eve,gregorian julian\ndies ante,eve,gregorian julian\n\
-in profesto,eve,gregorian julian\nafter,after,gregorian julian\nnach,after,gregorian julian\npost,after,gregorian julia\
-n\np,after,gregorian julian\naprès,after,gregorian julian\nbefore,before,gregorian julian\nvor,before,gregorian julian\
-\nante,before,gregorian julian\navant,before,gregorian julian\neve of,eve,gregorian julian\nvigilia,eve,gregorian julia\
-n\nin vigilia,eve,gregorian julian\nVigil,eve,gregorian julian\nVorabend,eve,gregorian julian\nprofesto,eve,gregorian j\
-ulian\nveille de,eve,gregorian julian\noctava,octave,gregorian julian\nin octava,octave,gregorian julian\nOktav,octave,\
-gregorian julian\noctave of,octave,gregorian julian\nin crastino,morrow,gregorian julian\ncrastino,morrow,gregorian jul\
-ian\nmorrow of,morrow,gregorian julian\nOstern,easter 0,gregorian julian\nOstersonntag,easter 0,gregorian julian\nOster\
-tag,easter 0,gregorian julian\nPascha,easter 0,gregorian julian\nPaschae,easter 0,gregorian julian\nPasche,easter 0,gre\
-gorian julian\nResurrectionis Domini,easter 0,gregorian julian\nEaster,easter 0,gregorian julian\nEaster Day,easter 0,g\
-regorian julian\nEaster Sunday,easter 0,gregorian julian\nPâques,easter 0,gregorian julian\nOstermontag,easter 1,grego\
-rian julian\nEaster Monday,easter 1,gregorian julian\nlundi de Pâques,easter 1,gregorian julian\nOsterdienstag,easter \
-2,gregorian julian\nEaster Tuesday,easter 2,gregorian julian\nSeptuagesima,easter -63,gregorian julian\nSeptuagesimae,e\
-aster -63,gregorian julian\nSeptuagésime,easter -63,gregorian julian\nCircumdederunt,easter -63,gregorian julian\nSexa\
-gesima,easter -56,gregorian julian\nSexagesimae,easter -56,gregorian julian\nExsurge,easter -56,gregorian julian\nExurg\
-e,easter -56,gregorian julian\nQuinquagesima,easter -49,gregorian julian\nQuinquagesimae,easter -49,gregorian julian\nE\
-stomihi,easter -49,gregorian julian\nEsto mihi,easter -49,gregorian julian\nHerrenfastnacht,easter -49,gregorian julian\
-\nFastnachtsdienstag,easter -47,gregorian julian\nShrove Tuesday,easter -47,gregorian julian\nMardi gras,easter -47,gre\
-gorian julian\nAschermittwoch,easter -46,gregorian julian\ndies Cinerum,easter -46,gregorian julian\nCinerum,easter -46\
-,gregorian julian\nAsh Wednesday,easter -46,gregorian julian\nmercredi des Cendres,easter -46,gregorian julian\nInvocav\
-it,easter -42,gregorian julian\nInvocabit,easter -42,gregorian julian\nQuadragesima,easter -42,gregorian julian\nRemini\
-scere,easter -35,gregorian julian\nOculi,easter -28,gregorian julian\nLaetare,easter -21,gregorian julian\nLetare,easte\
-r -21,gregorian julian\nLätare,easter -21,gregorian julian\nJudica,easter -14,gregorian julian\nIudica,easter -14,greg\
-orian julian\nPalmarum,easter -7,gregorian julian\nPalmsonntag,easter -7,gregorian julian\nPalm Sunday,easter -7,gregor\
-ian julian\ndimanche des Rameaux,easter -7,gregorian julian\nRameaux,easter -7,gregorian julian\nGründonnerstag,easte\
-r -3,gregorian julian\nCoena Domini,easter -3,gregorian julian\nCoenae Domini,easter -3,gregorian julian\nCene Domini,e\
-aster -3,gregorian julian\nMaundy Thursday,easter -3,gregorian julian\nJeudi saint,easter -3,gregorian julian\nKarfreit\
-ag,easter -2,gregorian julian\nCharfreitag,easter -2,gregorian julian\nParasceve,easter -2,gregorian julian\nGood Frida\
-y,easter -2,gregorian julian\nVendredi saint,easter -2,gregorian julian\nKarsamstag,easter -1,gregorian julian\nSabbatu\
-m sanctum,easter -1,gregorian julian\nQuasimodogeniti,easter 7,gregorian julian\nQuasi modo geniti,easter 7,gregorian j\
-ulian\nQuasimodo,easter 7,gregorian julian\nLow Sunday,easter 7,gregorian julian\nMisericordias Domini,easter 14,gregor\
-ian julian\nMisericordia Domini,easter 14,gregorian julian\nJubilate,easter 21,gregorian julian\nIubilate,easter 21,gre\
-gorian julian\nCantate,easter 28,gregorian julian\nKantate,easter 28,gregorian julian\nRogate,easter 35,gregorian julia\
-n\nVocem jucunditatis,easter 35,gregorian julian\nRogation Sunday,easter 35,gregorian julian\nHimmelfahrt,easter 39,gre\
-gorian julian\nChristi Himmelfahrt,easter 39,gregorian julian\nAuffahrt,easter 39,gregorian julian\nAscensionis Domini,\
-easter 39,gregorian julian\nAscensionis,easter 39,gregorian julian\nAscension Day,easter 39,gregorian julian\nAscension\
-,easter 39,gregorian julian\nExaudi,easter 42,gregorian julian\nPfingsten,easter 49,gregorian julian\nPfingstsonntag,ea\
-ster 49,gregorian julian\nPentecostes,easter 49,gregorian julian\nPentecoste,easter 49,gregorian julian\nPentecost,east\
-er 49,gregorian julian\nWhitsunday,easter 49,gregorian julian\nWhit Sunday,easter 49,gregorian julian\nPentecôte,easte\
-r 49,gregorian julian\nPfingstmontag,easter 50,gregorian julian\nWhit Monday,easter 50,gregorian julian\nTrinitatis,eas\
-ter 56,gregorian julian\nTrin,easter 56,gregorian julian\nTrinity Sunday,easter 56,gregorian julian\nTrinity,easter 56,\
-gregorian julian\nTrinité,easter 56,gregorian julian\nFronleichnam,easter 60,gregorian julian\nCorporis Christi,easte\
-r 60,gregorian julian\nCorpus Christi,easter 60,gregorian julian\nFête-Dieu,easter 60,gregorian julian\nAdvent,sunday\
-s advent,gregorian julian\nAdventus,sundays advent,gregorian julian\nAdventus Domini,sundays advent,gregorian julian\nA\
-dv,sundays advent,gregorian julian\nAdventssonntag,sundays advent,gregorian julian\nSunday in Advent,sundays advent,gre\
-gorian julian\ndimanche de l'Avent,sundays advent,gregorian julian\nFastensonntag,sundays lent,gregorian julian\nQuadra\
-gesimae,sundays lent,gregorian julian\nSunday in Lent,sundays lent,gregorian julian\nAd te levavi,sunday advent 1,grego\
-rian julian\nPopulus Sion,sunday advent 2,gregorian julian\nGaudete,sunday advent 3,gregorian julian\nRorate,sunday adv\
-ent 4,gregorian julian\nAdvent Sunday,sunday advent 1,gregorian julian\nNeujahr,feast 1-1,gregorian julian\nCircumcisio\
-nis Domini,feast 1-1,gregorian julian\nCircumcisionis,feast 1-1,gregorian julian\nEpiphaniae,feast 1-6,gregorian julian\
-\nEpiphanie,feast 1-6,gregorian julian\nEpiphanias,feast 1-6,gregorian julian\nEpiph,feast 1-6,gregorian julian\nEpipha\
-ny,feast 1-6,gregorian julian\nTrium Regum,feast 1-6,gregorian julian\nDreikönig,feast 1-6,gregorian julian\nHeilige D\
-rei Könige,feast 1-6,gregorian julian\nFabiani et Sebastiani,feast 1-20,gregorian julian\nAgnetis,feast 1-21,gregoria\
-n julian\nVincentii,feast 1-22,gregorian julian\nConversionis Pauli,feast 1-25,gregorian julian\nPauli Bekehrung,feast \
-1-25,gregorian julian\nLichtmess,feast 2-2,gregorian julian\nMariä Lichtmess,feast 2-2,gregorian julian\nPurificationi\
-s Mariae,feast 2-2,gregorian julian\nPurificationis,feast 2-2,gregorian julian\nCandlemas,feast 2-2,gregorian julian\nC\
-handeleur,feast 2-2,gregorian julian\nBlasii,feast 2-3,gregorian julian\nAgathae,feast 2-5,gregorian julian\nValentini,\
-feast 2-14,gregorian julian\nCathedra Petri,feast 2-22,gregorian julian\nPetri Stuhlfeier,feast 2-22,gregorian julian\n\
-Matthiae,feast 3-1 -5,gregorian julian\nMathie,feast 3-1 -5,gregorian julian\nGertrudis,feast 3-17,gregorian julian\nBe\
-nedicti,feast 3-21,gregorian julian\nAnnunciationis Mariae,feast 3-25,gregorian julian\nAnnuntiationis Mariae,feast 3-2\
-5,gregorian julian\nMariä Verkündigung,feast 3-25,gregorian julian\nLady Day,feast 3-25,gregorian julian\nAnnonciatio\
-n,feast 3-25,gregorian julian\nTiburtii et Valeriani,feast 4-14,gregorian julian\nMarci,feast 4-25,gregorian julian\nPh\
-ilippi et Jacobi,feast 5-1,gregorian julian\nWalpurgis,feast 5-1,gregorian julian\nWalburgis,feast 5-1,gregorian julian\
-\nInventionis crucis,feast 5-3,gregorian julian\nKreuzauffindung,feast 5-3,gregorian julian\nUrbani,feast 5-25,gregoria\
-n julian\nViti,feast 6-15,gregorian julian\nJohannistag,feast 6-24,gregorian julian\nJohannis Baptistae,feast 6-24,greg\
-orian julian\nJohannis Baptiste,feast 6-24,gregorian julian\nNativitatis Johannis Baptistae,feast 6-24,gregorian julian\
-\nMidsummer Day,feast 6-24,gregorian julian\nla Saint-Jean,feast 6-24,gregorian julian\nJohannis et Pauli,feast 6-26,gr\
-egorian julian\nPetri et Pauli,feast 6-29,gregorian julian\nPeter und Paul,feast 6-29,gregorian julian\nVisitationis Ma\
-riae,feast 7-2,gregorian julian\nMariä Heimsuchung,feast 7-2,gregorian julian\nKiliani,feast 7-8,gregorian julian\nDiv\
-isionis apostolorum,feast 7-15,gregorian julian\nMariae Magdalenae,feast 7-22,gregorian julian\nMarie Magdalene,feast 7\
--22,gregorian julian\nJacobi,feast 7-25,gregorian julian\nJakobi,feast 7-25,gregorian julian\nAnnae,feast 7-26,gregoria\
-n julian\nPetri ad vincula,feast 8-1,gregorian julian\nPetri Kettenfeier,feast 8-1,gregorian julian\nLammas,feast 8-1,g\
-regorian julian\nLaurentii,feast 8-10,gregorian julian\nAssumptionis Mariae,feast 8-15,gregorian julian\nMariä Himmelf\
-ahrt,feast 8-15,gregorian julian\nAssomption,feast 8-15,gregorian julian\nBartholomaei,feast 8-24,gregorian julian\nBar\
-tholomäi,feast 8-24,gregorian julian\nBartholomei,feast 8-24,gregorian julian\nDecollationis Johannis,feast 8-29,grego\
-rian julian\nAegidii,feast 9-1,gregorian julian\nEgidii,feast 9-1,gregorian julian\nNativitatis Mariae,feast 9-8,gregor\
-ian julian\nMariä Geburt,feast 9-8,gregorian julian\nExaltationis crucis,feast 9-14,gregorian julian\nKreuzerhöhung,f\
-east 9-14,gregorian julian\nHoly Cross Day,feast 9-14,gregorian julian\nLamberti,feast 9-17,gregorian julian\nMatthaei,\
-feast 9-21,gregorian julian\nMatthäi,feast 9-21,gregorian julian\nMauritii,feast 9-22,gregorian julian\nMichaelis,feas\
-t 9-29,gregorian julian\nMichael,feast 9-29,gregorian julian\nMichaelmas,feast 9-29,gregorian julian\nSaint-Michel,feas\
-t 9-29,gregorian julian\nRemigii,feast 10-1,gregorian julian\nFrancisci,feast 10-4,gregorian julian\nDionysii,feast 10-\
-9,gregorian julian\nGalli,feast 10-16,gregorian julian\nLucae,feast 10-18,gregorian julian\nUndecim milium virginum,fea\
-st 10-21,gregorian julian\nCrispini et Crispiniani,feast 10-25,gregorian julian\nSimonis et Judae,feast 10-28,gregoria\
-n julian\nSimonis et Jude,feast 10-28,gregorian julian\nAllerheiligen,feast 11-1,gregorian julian\nOmnium Sanctorum,fea\
-st 11-1,gregorian julian\nAll Saints,feast 11-1,gregorian julian\nToussaint,feast 11-1,gregorian julian\nAllerseelen,fe\
-ast 11-2,gregorian julian\nAnimarum,feast 11-2,gregorian julian\nAll Souls,feast 11-2,gregorian julian\nLeonhardi,feas\
-t 11-6,gregorian julian\nMartini,feast 11-11,gregorian julian\nMartinmas,feast 11-11,gregorian julian\nSaint-Martin,fea\
-st 11-11,gregorian julian\nElisabethae,feast 11-19,gregorian julian\nPraesentationis Mariae,feast 11-21,gregorian julia\
-n\nCaeciliae,feast 11-22,gregorian julian\nClementis,feast 11-23,gregorian julian\nCatharinae,feast 11-25,gregorian jul\
-ian\nKatharinae,feast 11-25,gregorian julian\nKatherine,feast 11-25,gregorian julian\nAndreae,feast 11-30,gregorian jul\
-ian\nAndree,feast 11-30,gregorian julian\nBarbarae,feast 12-4,gregorian julian\nNicolai,feast 12-6,gregorian julian\nNi\
-kolai,feast 12-6,gregorian julian\nConceptionis Mariae,feast 12-8,gregorian julian\nMariä Empfängnis,feast 12-8,grego\
-rian julian\nLuciae,feast 12-13,gregorian julian\nLucie,feast 12-13,gregorian julian\nThomae,feast 12-21,gregorian juli\
-an\nThome,feast 12-21,gregorian julian\nHeiligabend,feast 12-24,gregorian julian\nWeihnachten,feast 12-25,gregorian jul\
-ian\nNativitatis Domini,feast 12-25,gregorian julian\nNativitatis Christi,feast 12-25,gregorian julian\nNativitatis,fea\
-st 12-25,gregorian julian\nChristmas,feast 12-25,gregorian julian\nChristmas Day,feast 12-25,gregorian julian\nNoël,fe\
-ast 12-25,gregorian julian\nStephani,feast 12-26,gregorian julian\nJohannis Evangelistae,feast 12-27,gregorian julian\n\
-Innocentum,feast 12-28,gregorian julian\nUnschuldige Kinder,feast 12-28,gregorian julian\nSilvestri,feast 12-31,gregori\
-an julian\nSilvester,feast 12-31,gregorian julian\nPurificationis Mariae virginis,feast 2-2,gregorian julian\nPurificat\
-ionis Marie virginis,feast 2-2,gregorian julian\nPurificationis Marie,feast 2-2,gregorian julian\nPurificationis beata\
-e Mariae,feast 2-2,gregorian julian\nPurificationis beate Marie,feast 2-2,gregorian julian\nPurificationis beatae Maria\
-e virginis,feast 2-2,gregorian julian\nPurificationis beate Marie virginis,feast 2-2,gregorian julian\nPurificationis \
-B M V,feast 2-2,gregorian julian\nAnnunciationis Mariae virginis,feast 3-25,gregorian julian\nAnnunciationis Marie virg\
-inis,feast 3-25,gregorian julian\nAnnunciationis Marie,feast 3-25,gregorian julian\nAnnunciationis beatae Mariae,feast \
-3-25,gregorian julian\nAnnunciationis beate Marie,feast 3-25,gregorian julian\nAnnunciationis beatae Mariae virginis,fe\
-ast 3-25,gregorian julian\nAnnunciationis beate Marie virginis,feast 3-25,gregorian julian\nAnnunciationis B M V,feast \
-3-25,gregorian julian\nAnnuntiationis Mariae virginis,feast 3-25,gregorian julian\nAnnuntiationis Marie virginis,feast \
-3-25,gregorian julian\nAnnuntiationis Marie,feast 3-25,gregorian julian\nAnnuntiationis beatae Mariae,feast 3-25,gregor\
-ian julian\nAnnuntiationis beate Marie,feast 3-25,gregorian julian\nAnnuntiationis beatae Mariae virginis,feast 3-25,gr\
-egorian julian\nAnnuntiationis beate Marie virginis,feast 3-25,gregorian julian\nAnnuntiationis B M V,feast 3-25,gregor\
-ian julian\nVisitationis Mariae virginis,feast 7-2,gregorian julian\nVisitationis Marie virginis,feast 7-2,gregorian ju\
-lian\nVisitationis Marie,feast 7-2,gregorian julian\nVisitationis beatae Mariae,feast 7-2,gregorian julian\nVisitationi\
-s beate Marie,feast 7-2,gregorian julian\nVisitationis beatae Mariae virginis,feast 7-2,gregorian julian\nVisitationis \
-beate Marie virginis,feast 7-2,gregorian julian\nVisitationis B M V,feast 7-2,gregorian julian\nAssumptionis Mariae vir\
-ginis,feast 8-15,gregorian julian\nAssumptionis Marie virginis,feast 8-15,gregorian julian\nAssumptionis Marie,feast 8-\
-15,gregorian julian\nAssumptionis beatae Mariae,feast 8-15,gregorian julian\nAssumptionis beate Marie,feast 8-15,gregor\
-ian julian\nAssumptionis beatae Mariae virginis,feast 8-15,gregorian julian\nAssumptionis beate Marie virginis,feast 8-\
-15,gregorian julian\nAssumptionis B M V,feast 8-15,gregorian julian\nNativitatis Mariae virginis,feast 9-8,gregorian ju\
-lian\nNativitatis Marie virginis,feast 9-8,gregorian julian\nNativitatis Marie,feast 9-8,gregorian julian\nNativitatis \
-beatae Mariae,feast 9-8,gregorian julian\nNativitatis beate Marie,feast 9-8,gregorian julian\nNativitatis beatae Maria\
-e virginis,feast 9-8,gregorian julian\nNativitatis beate Marie virginis,feast 9-8,gregorian julian\nNativitatis B M V,f\
-east 9-8,gregorian julian\nConceptionis Mariae virginis,feast 12-8,gregorian julian\nConceptionis Marie virginis,feast \
-12-8,gregorian julian\nConceptionis Marie,feast 12-8,gregorian julian\nConceptionis beatae Mariae,feast 12-8,gregorian \
-julian\nConceptionis beate Marie,feast 12-8,gregorian julian\nConceptionis beatae Mariae virginis,feast 12-8,gregorian \
-julian\nConceptionis beate Marie virginis,feast 12-8,gregorian julian\nConceptionis B M V,feast 12-8,gregorian julian\n\
-Épiphanie,feast 1-6,gregorian julian\nTheophaniae,feast 1-6,gregorian julian\nEpiphaniae Domini,feast 1-6,gregorian ju\
-lian\nEpiphanie Domini,feast 1-6,gregorian julian\nThomae martyris,feast 12-29,gregorian julian\nThome martyris,feast 1\
-2-29,gregorian julian\nStephani protomartyris,feast 12-26,gregorian julian\nMichaelistag,feast 9-29,gregorian julian\nM\
-artinstag,feast 11-11,gregorian julian\nMartinitag,feast 11-11,gregorian julian\nWeihnachtstag,feast 12-25,gregorian ju\
-lian\nChristtag,feast 12-25,gregorian julian\nPaschatis,easter 0,gregorian julian\nPaschatos,easter 0,gregorian julian\
-\nPfingsttag,easter 49,gregorian julian\nHimmelfahrtstag,easter 39,gregorian julian\nFronleichnamstag,easter 60,gregori\
-an julian\nChristmas Eve,feast 12-24,gregorian julian\nNew Year's Day,feast 1-1,gregorian julian\nNew Year’s Day,feas\
-t 1-1,gregorian julian\nNeujahrstag,feast 1-1,gregorian julian\nInnocentium,feast 12-28,gregorian julian\nante,,roman\n\
-ante diem,,roman\na,,roman\nden,,\nder,,\ndes,,\ndem,,\nam,,\nvom,,\nim,,\nin,,\nanno,year,\nanno domini,year,\nao,year\
-,\nAD,year,\nA D,year,\nthe,,\nof,,\non,,\nday,day,\nle,,\nla,,\ndu,,\nde,,\nl'an,year,\nl’an,year,\nan,year,\nannée\
-,year,\nl'année,year,\nl’année,year,\nen,,\nil,,\ndel,,\ndell'anno,year,\ndell’anno,year,\nel,,\ndía,day,\ndel a\
-ño,year,\naño,year,\ndnia,day,\nroku,year,\nr,year,\ndne,day,\ndie,day,\nde dato,,\nvan,,\nhet,,\ner,,\nère,,\nere,,\
-\nème,,\neme,,\nre,,\nst,,\nnd,,\nrd,,\nth,,\nte,,\nter,,gregorian julian hebrew islamic french republican\nsten,,\nst\
-e,,\ntes,,\nens,,\nº,,\nª,,\no,,\ne,,\nster,,\nyear,year,\nyear of our Lord,year,\nof our Lord,year,\nour Lord,year,\
-\nJahr,year,\nJahre,year,\nJahres,year,\nnach Christi Geburt,year,\nn Chr,year,\nanno Dni,year,\nanno salutis,year,\nan\
-ni,year,\nannus,year,\nAo Dni,year,\nA°,year,\nAº,year,\njaar,year,\njaer,year,\ndo ano,year,\nano,year,\nannée de g\
-râce,year,\nl'an de grâce,year,\nl’an de grâce,year,\nl'an de grace,year,\nl’an de grace,year,\nгода,year,\n\
-году,year,\nгодъ,year,\nгода от Рождества Христова,year,\nг,year,\nлета,year,\når,\
-year,\naar,year,\nár,year,\nAnno Christi,year,\nnell'anno,year,\nnell’anno,year,\nго,,\nого,,\nye,,\njour de,da\
-y,\nдня,day,\nчисла,day,\ndag,day,\nTag des,day,\ndì,day,\na dì,day,\nadì,day,\naddì,day,\nde la Républiqu\
-e,,french republican\nde la Republique,,french republican\nde la République française,,french republican\nde la Répu\
-blique francaise,,french republican\nde la République françoise,,french republican\nde la Republique francaise,,frenc\
-h republican\nde la Republique françoise,,french republican\nde la Republique francoise,,french republican\nde la Rép\
-ublique une et indivisible,,french republican\nde la République française une et indivisible,,french republican\nder \
-Republik,,french republican\nder fränkischen Republik,,french republican\nder französischen Republik,,french republic\
-an\nder fränk. Republik,,french republican\nder frz. Republik,,french republican\nrépublicain,,french republican\nré\
-publicaine,,french republican\nde l'ère républicaine,,french republican\nde l’ère républicaine,,french republican\
-\nfestum,,gregorian julian\nfesti,,gregorian julian\nfest,,gregorian julian\nfeast of,,gregorian julian\nfête de,,greg\
-orian julian\ndivi,,gregorian julian\ndivae,,gregorian julian\nbeate,,gregorian julian\nsancte,,gregorian julian\nfesto\
-,,gregorian julian\nin festo,,gregorian julian\nin die,day,gregorian julian\nS,,gregorian julian\nSankt,,gregorian juli\
-an\nsancti,,gregorian julian\nsanctae,,gregorian julian\nbeati,,gregorian julian\nbeatae,,gregorian julian\napostoli,,g\
-regorian julian\napostolorum,,gregorian julian\nevangelistae,,gregorian julian\narchangeli,,gregorian julian\nten jare,\
-year,\n\
-";
+pub const BUILT_NAMES: &str = crate::with_first_half!("\
+neununddreißig,39,\nneununddreyßig,39,\nneun und dreißig,39,\nneun und dreyßig,39,\nvierzig,40,\neinundvierzig,41,\
+\nein und vierzig,41,\nzweiundvierzig,42,\nzweyundvierzig,42,\nzwei und vierzig,42,\nzwey und vierzig,42,\ndreiundvierz\
+ig,43,\ndreyundvierzig,43,\ndrei und vierzig,43,\ndrey und vierzig,43,\nvierundvierzig,44,\nvier und vierzig,44,\nfünf\
+undvierzig,45,\nfünf und vierzig,45,\nsechsundvierzig,46,\nsechs und vierzig,46,\nsiebenundvierzig,47,\nsieben und vie\
+rzig,47,\nachtundvierzig,48,\nacht und vierzig,48,\nneunundvierzig,49,\nneun und vierzig,49,\nfünfzig,50,\neinundfünf\
+zig,51,\nein und fünfzig,51,\nzweiundfünfzig,52,\nzweyundfünfzig,52,\nzwei und fünfzig,52,\nzwey und fünfzig,52,\n\
+dreiundfünfzig,53,\ndreyundfünfzig,53,\ndrei und fünfzig,53,\ndrey und fünfzig,53,\nvierundfünfzig,54,\nvier und f\
+ünfzig,54,\nfünfundfünfzig,55,\nfünf und fünfzig,55,\nsechsundfünfzig,56,\nsechs und fünfzig,56,\nsiebenundfünf\
+zig,57,\nsieben und fünfzig,57,\nachtundfünfzig,58,\nacht und fünfzig,58,\nneunundfünfzig,59,\nneun und fünfzig,59\
+,\nsechzig,60,\neinundsechzig,61,\nein und sechzig,61,\nzweiundsechzig,62,\nzweyundsechzig,62,\nzwei und sechzig,62,\nz\
+wey und sechzig,62,\ndreiundsechzig,63,\ndreyundsechzig,63,\ndrei und sechzig,63,\ndrey und sechzig,63,\nvierundsechzig\
+,64,\nvier und sechzig,64,\nfünfundsechzig,65,\nfünf und sechzig,65,\nsechsundsechzig,66,\nsechs und sechzig,66,\nsie\
+benundsechzig,67,\nsieben und sechzig,67,\nachtundsechzig,68,\nacht und sechzig,68,\nneunundsechzig,69,\nneun und sechz\
+ig,69,\nsiebzig,70,\neinundsiebzig,71,\nein und siebzig,71,\nzweiundsiebzig,72,\nzweyundsiebzig,72,\nzwei und siebzig,7\
+2,\nzwey und siebzig,72,\ndreiundsiebzig,73,\ndreyundsiebzig,73,\ndrei und siebzig,73,\ndrey und siebzig,73,\nvierundsi\
+ebzig,74,\nvier und siebzig,74,\nfünfundsiebzig,75,\nfünf und siebzig,75,\nsechsundsiebzig,76,\nsechs und siebzig,76,\
+\nsiebenundsiebzig,77,\nsieben und siebzig,77,\nachtundsiebzig,78,\nacht und siebzig,78,\nneunundsiebzig,79,\nneun und \
+siebzig,79,\nachtzig,80,\neinundachtzig,81,\nein und achtzig,81,\nzweiundachtzig,82,\nzweyundachtzig,82,\nzwei und acht\
+zig,82,\nzwey und achtzig,82,\ndreiundachtzig,83,\ndreyundachtzig,83,\ndrei und achtzig,83,\ndrey und achtzig,83,\nvier\
+undachtzig,84,\nvier und achtzig,84,\nfünfundachtzig,85,\nfünf und achtzig,85,\nsechsundachtzig,86,\nsechs und achtzi\
+g,86,\nsiebenundachtzig,87,\nsieben und achtzig,87,\nachtundachtzig,88,\nacht und achtzig,88,\nneunundachtzig,89,\nneu\
+n und achtzig,89,\nneunzig,90,\neinundneunzig,91,\nein und neunzig,91,\nzweiundneunzig,92,\nzweyundneunzig,92,\nzwei un\
+d neunzig,92,\nzwey und neunzig,92,\ndreiundneunzig,93,\ndreyundneunzig,93,\ndrei und neunzig,93,\ndrey und neunzig,93,\
+\nvierundneunzig,94,\nvier und neunzig,94,\nfünfundneunzig,95,\nfünf und neunzig,95,\nsechsundneunzig,96,\nsechs und \
+neunzig,96,\nsiebenundneunzig,97,\nsieben und neunzig,97,\nachtundneunzig,98,\nacht und neunzig,98,\nneunundneunzig,99,\
+\nneun und neunzig,99,\nzwo,2,\neilf,11,\nerste,1,\nersten,1,\nerster,1,\nzweite,2,\nzweiten,2,\nzweiter,2,\nzweyte,2,\
+\nzweyten,2,\nzweyter,2,\nzwote,2,\nzwoten,2,\nzwoter,2,\ndritte,3,\ndritten,3,\ndritter,3,\nvierte,4,\nvierten,4,\nvie\
+rter,4,\nfünfte,5,\nfünften,5,\nfünfter,5,\nsechste,6,\nsechsten,6,\nsechster,6,\nsiebente,7,\nsiebenten,7,\nsiebent\
+er,7,\nsiebte,7,\nsiebten,7,\nsiebter,7,\nachte,8,\nachten,8,\nachter,8,\nneunte,9,\nneunten,9,\nneunter,9,\nzehnte,10,\
+\nzehnten,10,\nzehnter,10,\nelfte,11,\nelften,11,\nelfter,11,\neilfte,11,\neilften,11,\neilfter,11,\nzwölfte,12,\nzwö\
+lften,12,\nzwölfter,12,\ndreizehnte,13,\ndreizehnten,13,\ndreizehnter,13,\ndreyzehnte,13,\ndreyzehnten,13,\ndreyzehnte\
+r,13,\nvierzehnte,14,\nvierzehnten,14,\nvierzehnter,14,\nfünfzehnte,15,\nfünfzehnten,15,\nfünfzehnter,15,\nsechzehnt\
+e,16,\nsechzehnten,16,\nsechzehnter,16,\nsiebzehnte,17,\nsiebzehnten,17,\nsiebzehnter,17,\nachtzehnte,18,\nachtzehnten,\
+18,\nachtzehnter,18,\nneunzehnte,19,\nneunzehnten,19,\nneunzehnter,19,\nzwanzigste,20,\nzwanzigsten,20,\nzwanzigster,20\
+,\neinundzwanzigste,21,\neinundzwanzigsten,21,\neinundzwanzigster,21,\nein und zwanzigste,21,\nein und zwanzigsten,21,\
+\nein und zwanzigster,21,\nzweiundzwanzigste,22,\nzweiundzwanzigsten,22,\nzweiundzwanzigster,22,\nzweyundzwanzigste,22,\
+\nzweyundzwanzigsten,22,\nzweyundzwanzigster,22,\nzwei und zwanzigste,22,\nzwei und zwanzigsten,22,\nzwei und zwanzigst\
+er,22,\nzwey und zwanzigste,22,\nzwey und zwanzigsten,22,\nzwey und zwanzigster,22,\ndreiundzwanzigste,23,\ndreiundzwan\
+zigsten,23,\ndreiundzwanzigster,23,\ndreyundzwanzigste,23,\ndreyundzwanzigsten,23,\ndreyundzwanzigster,23,\ndrei und zw\
+anzigste,23,\ndrei und zwanzigsten,23,\ndrei und zwanzigster,23,\ndrey und zwanzigste,23,\ndrey und zwanzigsten,23,\ndr\
+ey und zwanzigster,23,\nvierundzwanzigste,24,\nvierundzwanzigsten,24,\nvierundzwanzigster,24,\nvier und zwanzigste,24,\
+\nvier und zwanzigsten,24,\nvier und zwanzigster,24,\nfünfundzwanzigste,25,\nfünfundzwanzigsten,25,\nfünfundzwanzigs\
+ter,25,\nfünf und zwanzigste,25,\nfünf und zwanzigsten,25,\nfünf und zwanzigster,25,\nsechsundzwanzigste,26,\nsechsu\
+ndzwanzigsten,26,\nsechsundzwanzigster,26,\nsechs und zwanzigste,26,\nsechs und zwanzigsten,26,\nsechs und zwanzigster,\
+26,\nsiebenundzwanzigste,27,\nsiebenundzwanzigsten,27,\nsiebenundzwanzigster,27,\nsieben und zwanzigste,27,\nsieben un\
+d zwanzigsten,27,\nsieben und zwanzigster,27,\nachtundzwanzigste,28,\nachtundzwanzigsten,28,\nachtundzwanzigster,28,\na\
+cht und zwanzigste,28,\nacht und zwanzigsten,28,\nacht und zwanzigster,28,\nneunundzwanzigste,29,\nneunundzwanzigsten,2\
+9,\nneunundzwanzigster,29,\nneun und zwanzigste,29,\nneun und zwanzigsten,29,\nneun und zwanzigster,29,\ndreißigste,30\
+,\ndreißigsten,30,\ndreißigster,30,\ndreyßigste,30,\ndreyßigsten,30,\ndreyßigster,30,\neinunddreißigste,31,\neinu\
+nddreißigsten,31,\neinunddreißigster,31,\neinunddreyßigste,31,\neinunddreyßigsten,31,\neinunddreyßigster,31,\nein \
+und dreißigste,31,\nein und dreißigsten,31,\nein und dreißigster,31,\nein und dreyßigste,31,\nein und dreyßigsten,\
+31,\nein und dreyßigster,31,\neinhundert,100,\neinhundert und,100,\nein hundert,100,\nein hundert und,100,\nhundert,10\
+0,\nhundert und,100,\nzweihundert,200,\nzweihundert und,200,\nzwei hundert,200,\nzwei hundert und,200,\nzweyhundert,200\
+,\nzweyhundert und,200,\nzwey hundert,200,\nzwey hundert und,200,\ndreihundert,300,\ndreihundert und,300,\ndrei hundert\
+,300,\ndrei hundert und,300,\ndreyhundert,300,\ndreyhundert und,300,\ndrey hundert,300,\ndrey hundert und,300,\nvierhun\
+dert,400,\nvierhundert und,400,\nvier hundert,400,\nvier hundert und,400,\nfünfhundert,500,\nfünfhundert und,500,\nf\
+ünf hundert,500,\nfünf hundert und,500,\nsechshundert,600,\nsechshundert und,600,\nsechs hundert,600,\nsechs hundert \
+und,600,\nsiebenhundert,700,\nsiebenhundert und,700,\nsieben hundert,700,\nsieben hundert und,700,\nachthundert,800,\na\
+chthundert und,800,\nacht hundert,800,\nacht hundert und,800,\nneunhundert,900,\nneunhundert und,900,\nneun hundert,900\
+,\nneun hundert und,900,\nelfhundert,1100,\nelfhundert und,1100,\nelf hundert,1100,\nelf hundert und,1100,\nzwölfhunde\
+rt,1200,\nzwölfhundert und,1200,\nzwölf hundert,1200,\nzwölf hundert und,1200,\ndreizehnhundert,1300,\ndreizehnhunde\
+rt und,1300,\ndreizehn hundert,1300,\ndreizehn hundert und,1300,\ndreyzehnhundert,1300,\ndreyzehnhundert und,1300,\ndre\
+yzehn hundert,1300,\ndreyzehn hundert und,1300,\nvierzehnhundert,1400,\nvierzehnhundert und,1400,\nvierzehn hundert,140\
+0,\nvierzehn hundert und,1400,\nfünfzehnhundert,1500,\nfünfzehnhundert und,1500,\nfünfzehn hundert,1500,\nfünfzehn \
+hundert und,1500,\nsechzehnhundert,1600,\nsechzehnhundert und,1600,\nsechzehn hundert,1600,\nsechzehn hundert und,1600,\
+\nsiebzehnhundert,1700,\nsiebzehnhundert und,1700,\nsiebzehn hundert,1700,\nsiebzehn hundert und,1700,\nachtzehnhundert\
+,1800,\nachtzehnhundert und,1800,\nachtzehn hundert,1800,\nachtzehn hundert und,1800,\nneunzehnhundert,1900,\nneunzehnh\
+undert und,1900,\nneunzehn hundert,1900,\nneunzehn hundert und,1900,\ntausend,1000,\ntausend und,1000,\neintausend,1000\
+,\neintausend und,1000,\nein tausend,1000,\nein tausend und,1000,\nzweitausend,2000,\nzweitausend und,2000,\nzwei tause\
+nd,2000,\nzwei tausend und,2000,\nMontag,weekday 1,\nDienstag,weekday 2,\nMittwoch,weekday 3,\nDonnerstag,weekday 4,\nF\
+reitag,weekday 5,\nSamstag,weekday 6,\nSonnabend,weekday 6,\nSonntag,weekday 0,\nMo,weekday 1,\nDi,weekday 2,gregorian \
+julian coptic ethiopic egyptian armenian islamic hebrew french republican\nMi,weekday 3,gregorian julian coptic ethiopi\
+c egyptian armenian islamic hebrew french republican\nDo,weekday 4,\nFr,weekday 5,\nSa,weekday 6,\nSo,weekday 0,\nMonda\
+y,weekday 1,\nTuesday,weekday 2,\nWednesday,weekday 3,\nThursday,weekday 4,\nFriday,weekday 5,\nSaturday,weekday 6,\nSu\
+nday,weekday 0,\nMon,weekday 1,\nTue,weekday 2,\nTues,weekday 2,\nWed,weekday 3,\nThu,weekday 4,\nThur,weekday 4,\nThur\
+s,weekday 4,\nFri,weekday 5,\nSat,weekday 6,\nSun,weekday 0,\nlundi,weekday 1,\nmardi,weekday 2,\nmercredi,weekday 3,\n\
+jeudi,weekday 4,\nvendredi,weekday 5,\nsamedi,weekday 6,\ndimanche,weekday 0,\nlun,weekday 1,\nmer,weekday 3,\njeu,week\
+day 4,\nven,weekday 5,\nsam,weekday 6,\ndim,weekday 0,\nmaandag,weekday 1,\ndinsdag,weekday 2,\nwoensdag,weekday 3,\ndo\
+nderdag,weekday 4,\nvrijdag,weekday 5,\nzaterdag,weekday 6,\nzondag,weekday 0,\nma,weekday 1,\nwo,weekday 3,\nvr,weekda\
+y 5,\nza,weekday 6,\nzo,weekday 0,\nlunedì,weekday 1,\nmartedì,weekday 2,\nmercoledì,weekday 3,\ngiovedì,weekday 4,\
+\nvenerdì,weekday 5,\nsabato,weekday 6,\ndomenica,weekday 0,\nlunes,weekday 1,\nmartes,weekday 2,\nmiércoles,weekday \
+3,\njueves,weekday 4,\nviernes,weekday 5,\nsábado,weekday 6,\ndomingo,weekday 0,\nponiedziałek,weekday 1,\nwtorek,wee\
+kday 2,\nśroda,weekday 3,\nczwartek,weekday 4,\npiątek,weekday 5,\nsobota,weekday 6,\nniedziela,weekday 0,\npondělí\
+,weekday 1,\núterý,weekday 2,\nstředa,weekday 3,\nčtvrtek,weekday 4,\npátek,weekday 5,\nneděle,weekday 0,\ndies L\
+unae,weekday 1,\ndies Martis,weekday 2,\ndies Mercurii,weekday 3,\ndies Iovis,weekday 4,\ndies Jovis,weekday 4,\ndies V\
+eneris,weekday 5,\ndies Saturni,weekday 6,\ndies Sabbati,weekday 6,\ndies Dominica,weekday 0,\nsøndag,weekday 0,\nmand\
+ag,weekday 1,\ntirsdag,weekday 2,\nonsdag,weekday 3,\ntorsdag,weekday 4,\nfredag,weekday 5,\nlørdag,weekday 6,\nsönda\
+g,weekday 0,\nmåndag,weekday 1,\ntisdag,weekday 2,\nlördag,weekday 6,\nsunnuntai,weekday 0,\nmaanantai,weekday 1,\nti\
+istai,weekday 2,\nkeskiviikko,weekday 3,\ntorstai,weekday 4,\nperjantai,weekday 5,\nlauantai,weekday 6,\nvasárnap,week\
+day 0,\nhétfő,weekday 1,\nkedd,weekday 2,\nszerda,weekday 3,\ncsütörtök,weekday 4,\npéntek,weekday 5,\nszombat,we\
+ekday 6,\nsegunda-feira,weekday 1,\nterça-feira,weekday 2,\nquarta-feira,weekday 3,\nquinta-feira,weekday 4,\nsexta-fe\
+ira,weekday 5,\nвоскресенье,weekday 0,\nпонедельник,weekday 1,\nвторник,weekday 2,\nсре\
+да,weekday 3,\nчетверг,weekday 4,\nпятница,weekday 5,\nсуббота,weekday 6,\nнеділя,weekday \
+0,\nпонеділок,weekday 1,\nвівторок,weekday 2,\nсереда,weekday 3,\nчетвер,weekday 4,\nпʼ\
+ятниця,weekday 5,\nсубота,weekday 6,\nΚυριακή,weekday 0,\nΔευτέρα,weekday 1,\nΤρίτη,week\
+day 2,\nΤετάρτη,weekday 3,\nΠέμπτη,weekday 4,\nΠαρασκευή,weekday 5,\nΣάββατο,weekday 6,\nP\
+azar,weekday 0,\nPazartesi,weekday 1,\nSalı,weekday 2,\nÇarşamba,weekday 3,\nPerşembe,weekday 4,\nCuma,weekday 5,\n\
+Cumartesi,weekday 6,\nSonntags,weekday 0,\nSontag,weekday 0,\ndies dominicus,weekday 0,\ndie Dominica,weekday 0,\ndie D\
+ominico,weekday 0,\ndominico die,weekday 0,\nMontags,weekday 1,\nMondtag,weekday 1,\ndie Lunae,weekday 1,\ndie Lune,wee\
+kday 1,\nDienstags,weekday 2,\nDinstag,weekday 2,\nDinstags,weekday 2,\nErchtag,weekday 2,\nErtag,weekday 2,\nZinstag,w\
+eekday 2,\nZistag,weekday 2,\ndie Martis,weekday 2,\nMittwochs,weekday 3,\nMitwoch,weekday 3,\nMittichen,weekday 3,\ndi\
+e Mercurii,weekday 3,\nDonnerstags,weekday 4,\nDornstag,weekday 4,\nPfinztag,weekday 4,\ndie Jovis,weekday 4,\ndie Iovi\
+s,weekday 4,\nFreitags,weekday 5,\nFreytag,weekday 5,\nFreytags,weekday 5,\ndie Veneris,weekday 5,\nSamstags,weekday 6,\
+\nSonnabends,weekday 6,\nSambstag,weekday 6,\ndie Sabbati,weekday 6,\ndie Saturni,weekday 6,\ndie Sabbato,weekday 6,\nS\
+onnabent,weekday 6,\ndominica,weekday 0,\ndom,weekday 0,\nferia secunda,weekday 1,\nferia 2,weekday 1,\nferia tertia,we\
+ekday 2,\nferia tercia,weekday 2,\nferia 3,weekday 2,\nferia quarta,weekday 3,\nferia 4,weekday 3,\nferia quinta,weekda\
+y 4,\nferia 5,weekday 4,\nferia sexta,weekday 5,\nferia 6,weekday 5,\nsabbato,weekday 6,\nsabbatum,weekday 6,\nprimidi,\
+decade 1,french republican\nduodi,decade 2,french republican\ntridi,decade 3,french republican\nquartidi,decade 4,frenc\
+h republican\nquintidi,decade 5,french republican\nsextidi,decade 6,french republican\nseptidi,decade 7,french republic\
+an\noctidi,decade 8,french republican\nnonidi,decade 9,french republican\ndécadi,decade 10,french republican\ndecadi,d\
+ecade 10,french republican\nday after,morrow,gregorian julian\nTag nach,morrow,gregorian julian\nTags nach,morrow,grego\
+rian julian\njour après,morrow,gregorian julian\nlendemain de,morrow,gregorian julian\ndie post,morrow,gregorian julia\
+n\ndies post,morrow,gregorian julian\nday before,eve,gregorian julian\nTag vor,eve,gregorian julian\nTags vor,eve,grego\
+rian julian\njour avant,eve,gregorian julian\ndie ante,eve,gregorian julian\ndies ante,eve,gregorian julian\nin profest\
+o,eve,gregorian julian\nafter,after,gregorian julian\nnach,after,gregorian julian\npost,after,gregorian julian\np,after\
+,gregorian julian\naprès,after,gregorian julian\nbefore,before,gregorian julian\nvor,before,gregorian julian\nante,bef\
+ore,gregorian julian\navant,before,gregorian julian\neve of,eve,gregorian julian\nvigilia,eve,gregorian julian\nin vigi\
+lia,eve,gregorian julian\nVigil,eve,gregorian julian\nVorabend,eve,gregorian julian\nprofesto,eve,gregorian julian\nvei\
+lle de,eve,gregorian julian\noctava,octave,gregorian julian\nin octava,octave,gregorian julian\nOktav,octave,gregorian \
+julian\noctave of,octave,gregorian julian\nin crastino,morrow,gregorian julian\ncrastino,morrow,gregorian julian\nmorro\
+w of,morrow,gregorian julian\nOstern,easter 0,gregorian julian\nOstersonntag,easter 0,gregorian julian\nOstertag,easte\
+r 0,gregorian julian\nPascha,easter 0,gregorian julian\nPaschae,easter 0,gregorian julian\nPasche,easter 0,gregorian ju\
+lian\nResurrectionis Domini,easter 0,gregorian julian\nEaster,easter 0,gregorian julian\nEaster Day,easter 0,gregorian \
+julian\nEaster Sunday,easter 0,gregorian julian\nPâques,easter 0,gregorian julian\nOstermontag,easter 1,gregorian juli\
+an\nEaster Monday,easter 1,gregorian julian\nlundi de Pâques,easter 1,gregorian julian\nOsterdienstag,easter 2,gregori\
+an julian\nEaster Tuesday,easter 2,gregorian julian\nSeptuagesima,easter -63,gregorian julian\nSeptuagesimae,easter -63\
+,gregorian julian\nSeptuagésime,easter -63,gregorian julian\nCircumdederunt,easter -63,gregorian julian\nSexagesima,ea\
+ster -56,gregorian julian\nSexagesimae,easter -56,gregorian julian\nExsurge,easter -56,gregorian julian\nExurge,easter \
+-56,gregorian julian\nQuinquagesima,easter -49,gregorian julian\nQuinquagesimae,easter -49,gregorian julian\nEstomihi,e\
+aster -49,gregorian julian\nEsto mihi,easter -49,gregorian julian\nHerrenfastnacht,easter -49,gregorian julian\nFastnac\
+htsdienstag,easter -47,gregorian julian\nShrove Tuesday,easter -47,gregorian julian\nMardi gras,easter -47,gregorian ju\
+lian\nAschermittwoch,easter -46,gregorian julian\ndies Cinerum,easter -46,gregorian julian\nCinerum,easter -46,gregoria\
+n julian\nAsh Wednesday,easter -46,gregorian julian\nmercredi des Cendres,easter -46,gregorian julian\nInvocavit,easte\
+r -42,gregorian julian\nInvocabit,easter -42,gregorian julian\nQuadragesima,easter -42,gregorian julian\nReminiscere,ea\
+ster -35,gregorian julian\nOculi,easter -28,gregorian julian\nLaetare,easter -21,gregorian julian\nLetare,easter -21,gr\
+egorian julian\nLätare,easter -21,gregorian julian\nJudica,easter -14,gregorian julian\nIudica,easter -14,gregorian ju\
+lian\nPalmarum,easter -7,gregorian julian\nPalmsonntag,easter -7,gregorian julian\nPalm Sunday,easter -7,gregorian juli\
+an\ndimanche des Rameaux,easter -7,gregorian julian\nRameaux,easter -7,gregorian julian\nGründonnerstag,easter -3,greg\
+orian julian\nCoena Domini,easter -3,gregorian julian\nCoenae Domini,easter -3,gregorian julian\nCene Domini,easter -3,\
+gregorian julian\nMaundy Thursday,easter -3,gregorian julian\nJeudi saint,easter -3,gregorian julian\nKarfreitag,easte\
+r -2,gregorian julian\nCharfreitag,easter -2,gregorian julian\nParasceve,easter -2,gregorian julian\nGood Friday,easte\
+r -2,gregorian julian\nVendredi saint,easter -2,gregorian julian\nKarsamstag,easter -1,gregorian julian\nSabbatum sanct\
+um,easter -1,gregorian julian\nQuasimodogeniti,easter 7,gregorian julian\nQuasi modo geniti,easter 7,gregorian julian\n\
+Quasimodo,easter 7,gregorian julian\nLow Sunday,easter 7,gregorian julian\nMisericordias Domini,easter 14,gregorian jul\
+ian\nMisericordia Domini,easter 14,gregorian julian\nJubilate,easter 21,gregorian julian\nIubilate,easter 21,gregorian \
+julian\nCantate,easter 28,gregorian julian\nKantate,easter 28,gregorian julian\nRogate,easter 35,gregorian julian\nVoce\
+m jucunditatis,easter 35,gregorian julian\nRogation Sunday,easter 35,gregorian julian\nHimmelfahrt,easter 39,gregorian \
+julian\nChristi Himmelfahrt,easter 39,gregorian julian\nAuffahrt,easter 39,gregorian julian\nAscensionis Domini,easter \
+39,gregorian julian\nAscensionis,easter 39,gregorian julian\nAscension Day,easter 39,gregorian julian\nAscension,easte\
+r 39,gregorian julian\nExaudi,easter 42,gregorian julian\nPfingsten,easter 49,gregorian julian\nPfingstsonntag,easter 4\
+9,gregorian julian\nPentecostes,easter 49,gregorian julian\nPentecoste,easter 49,gregorian julian\nPentecost,easter 49,\
+gregorian julian\nWhitsunday,easter 49,gregorian julian\nWhit Sunday,easter 49,gregorian julian\nPentecôte,easter 49,g\
+regorian julian\nPfingstmontag,easter 50,gregorian julian\nWhit Monday,easter 50,gregorian julian\nTrinitatis,easter 56\
+,gregorian julian\nTrin,easter 56,gregorian julian\nTrinity Sunday,easter 56,gregorian julian\nTrinity,easter 56,gregor\
+ian julian\nTrinité,easter 56,gregorian julian\nFronleichnam,easter 60,gregorian julian\nCorporis Christi,easter 60,gr\
+egorian julian\nCorpus Christi,easter 60,gregorian julian\nFête-Dieu,easter 60,gregorian julian\nAdvent,sundays advent\
+,gregorian julian\nAdventus,sundays advent,gregorian julian\nAdventus Domini,sundays advent,gregorian julian\nAdv,sunda\
+ys advent,gregorian julian\nAdventssonntag,sundays advent,gregorian julian\nSunday in Advent,sundays advent,gregorian j\
+ulian\ndimanche de l'Avent,sundays advent,gregorian julian\nFastensonntag,sundays lent,gregorian julian\nQuadragesimae,\
+sundays lent,gregorian julian\nSunday in Lent,sundays lent,gregorian julian\nAd te levavi,sunday advent 1,gregorian jul\
+ian\nPopulus Sion,sunday advent 2,gregorian julian\nGaudete,sunday advent 3,gregorian julian\nRorate,sunday advent 4,gr\
+egorian julian\nAdvent Sunday,sunday advent 1,gregorian julian\nNeujahr,feast 1-1,gregorian julian\nCircumcisionis Domi\
+ni,feast 1-1,gregorian julian\nCircumcisionis,feast 1-1,gregorian julian\nEpiphaniae,feast 1-6,gregorian julian\nEpipha\
+nie,feast 1-6,gregorian julian\nEpiphanias,feast 1-6,gregorian julian\nEpiph,feast 1-6,gregorian julian\nEpiphany,feas\
+t 1-6,gregorian julian\nTrium Regum,feast 1-6,gregorian julian\nDreikönig,feast 1-6,gregorian julian\nHeilige Drei Kö\
+nige,feast 1-6,gregorian julian\nFabiani et Sebastiani,feast 1-20,gregorian julian\nAgnetis,feast 1-21,gregorian julian\
+\nVincentii,feast 1-22,gregorian julian\nConversionis Pauli,feast 1-25,gregorian julian\nPauli Bekehrung,feast 1-25,gre\
+gorian julian\nLichtmess,feast 2-2,gregorian julian\nMariä Lichtmess,feast 2-2,gregorian julian\nPurificationis Mariae\
+,feast 2-2,gregorian julian\nPurificationis,feast 2-2,gregorian julian\nCandlemas,feast 2-2,gregorian julian\nChandeleu\
+r,feast 2-2,gregorian julian\nBlasii,feast 2-3,gregorian julian\nAgathae,feast 2-5,gregorian julian\nValentini,feast 2-\
+14,gregorian julian\nCathedra Petri,feast 2-22,gregorian julian\nPetri Stuhlfeier,feast 2-22,gregorian julian\nMatthiae\
+,feast 3-1 -5,gregorian julian\nMathie,feast 3-1 -5,gregorian julian\nGertrudis,feast 3-17,gregorian julian\nBenedicti,\
+feast 3-21,gregorian julian\nAnnunciationis Mariae,feast 3-25,gregorian julian\nAnnuntiationis Mariae,feast 3-25,gregor\
+ian julian\nMariä Verkündigung,feast 3-25,gregorian julian\nLady Day,feast 3-25,gregorian julian\nAnnonciation,feast \
+3-25,gregorian julian\nTiburtii et Valeriani,feast 4-14,gregorian julian\nMarci,feast 4-25,gregorian julian\nPhilippi e\
+t Jacobi,feast 5-1,gregorian julian\nWalpurgis,feast 5-1,gregorian julian\nWalburgis,feast 5-1,gregorian julian\nInvent\
+ionis crucis,feast 5-3,gregorian julian\nKreuzauffindung,feast 5-3,gregorian julian\nUrbani,feast 5-25,gregorian julian\
+\nViti,feast 6-15,gregorian julian\nJohannistag,feast 6-24,gregorian julian\nJohannis Baptistae,feast 6-24,gregorian ju\
+lian\nJohannis Baptiste,feast 6-24,gregorian julian\nNativitatis Johannis Baptistae,feast 6-24,gregorian julian\nMidsum\
+mer Day,feast 6-24,gregorian julian\nla Saint-Jean,feast 6-24,gregorian julian\nJohannis et Pauli,feast 6-26,gregorian \
+julian\nPetri et Pauli,feast 6-29,gregorian julian\nPeter und Paul,feast 6-29,gregorian julian\nVisitationis Mariae,fea\
+st 7-2,gregorian julian\nMariä Heimsuchung,feast 7-2,gregorian julian\nKiliani,feast 7-8,gregorian julian\nDivisionis \
+apostolorum,feast 7-15,gregorian julian\nMariae Magdalenae,feast 7-22,gregorian julian\nMarie Magdalene,feast 7-22,greg\
+orian julian\nJacobi,feast 7-25,gregorian julian\nJakobi,feast 7-25,gregorian julian\nAnnae,feast 7-26,gregorian julian\
+\nPetri ad vincula,feast 8-1,gregorian julian\nPetri Kettenfeier,feast 8-1,gregorian julian\nLammas,feast 8-1,gregoria\
+n julian\nLaurentii,feast 8-10,gregorian julian\nAssumptionis Mariae,feast 8-15,gregorian julian\nMariä Himmelfahrt,fe\
+ast 8-15,gregorian julian\nAssomption,feast 8-15,gregorian julian\nBartholomaei,feast 8-24,gregorian julian\nBartholom\
+äi,feast 8-24,gregorian julian\nBartholomei,feast 8-24,gregorian julian\nDecollationis Johannis,feast 8-29,gregorian j\
+ulian\nAegidii,feast 9-1,gregorian julian\nEgidii,feast 9-1,gregorian julian\nNativitatis Mariae,feast 9-8,gregorian ju\
+lian\nMariä Geburt,feast 9-8,gregorian julian\nExaltationis crucis,feast 9-14,gregorian julian\nKreuzerhöhung,feast 9\
+-14,gregorian julian\nHoly Cross Day,feast 9-14,gregorian julian\nLamberti,feast 9-17,gregorian julian\nMatthaei,feast \
+9-21,gregorian julian\nMatthäi,feast 9-21,gregorian julian\nMauritii,feast 9-22,gregorian julian\nMichaelis,feast 9-29\
+,gregorian julian\nMichael,feast 9-29,gregorian julian\nMichaelmas,feast 9-29,gregorian julian\nSaint-Michel,feast 9-29\
+,gregorian julian\nRemigii,feast 10-1,gregorian julian\nFrancisci,feast 10-4,gregorian julian\nDionysii,feast 10-9,greg\
+orian julian\nGalli,feast 10-16,gregorian julian\nLucae,feast 10-18,gregorian julian\nUndecim milium virginum,feast 10-\
+21,gregorian julian\nCrispini et Crispiniani,feast 10-25,gregorian julian\nSimonis et Judae,feast 10-28,gregorian julia\
+n\nSimonis et Jude,feast 10-28,gregorian julian\nAllerheiligen,feast 11-1,gregorian julian\nOmnium Sanctorum,feast 11-1\
+,gregorian julian\nAll Saints,feast 11-1,gregorian julian\nToussaint,feast 11-1,gregorian julian\nAllerseelen,feast 11-\
+2,gregorian julian\nAnimarum,feast 11-2,gregorian julian\nAll Souls,feast 11-2,gregorian julian\nLeonhardi,feast 11-6,g\
+regorian julian\nMartini,feast 11-11,gregorian julian\nMartinmas,feast 11-11,gregorian julian\nSaint-Martin,feast 11-11\
+,gregorian julian\nElisabethae,feast 11-19,gregorian julian\nPraesentationis Mariae,feast 11-21,gregorian julian\nCaeci\
+liae,feast 11-22,gregorian julian\nClementis,feast 11-23,gregorian julian\nCatharinae,feast 11-25,gregorian julian\nKat\
+harinae,feast 11-25,gregorian julian\nKatherine,feast 11-25,gregorian julian\nAndreae,feast 11-30,gregorian julian\nAnd\
+ree,feast 11-30,gregorian julian\nBarbarae,feast 12-4,gregorian julian\nNicolai,feast 12-6,gregorian julian\nNikolai,fe\
+ast 12-6,gregorian julian\nConceptionis Mariae,feast 12-8,gregorian julian\nMariä Empfängnis,feast 12-8,gregorian jul\
+ian\nLuciae,feast 12-13,gregorian julian\nLucie,feast 12-13,gregorian julian\nThomae,feast 12-21,gregorian julian\nThom\
+e,feast 12-21,gregorian julian\nHeiligabend,feast 12-24,gregorian julian\nWeihnachten,feast 12-25,gregorian julian\nNat\
+ivitatis Domini,feast 12-25,gregorian julian\nNativitatis Christi,feast 12-25,gregorian julian\nNativitatis,feast 12-25\
+,gregorian julian\nChristmas,feast 12-25,gregorian julian\nChristmas Day,feast 12-25,gregorian julian\nNoël,feast 12-2\
+5,gregorian julian\nStephani,feast 12-26,gregorian julian\nJohannis Evangelistae,feast 12-27,gregorian julian\nInnocent\
+um,feast 12-28,gregorian julian\nUnschuldige Kinder,feast 12-28,gregorian julian\nSilvestri,feast 12-31,gregorian julia\
+n\nSilvester,feast 12-31,gregorian julian\nPurificationis Mariae virginis,feast 2-2,gregorian julian\nPurificationis Ma\
+rie virginis,feast 2-2,gregorian julian\nPurificationis Marie,feast 2-2,gregorian julian\nPurificationis beatae Mariae,\
+feast 2-2,gregorian julian\nPurificationis beate Marie,feast 2-2,gregorian julian\nPurificationis beatae Mariae virgini\
+s,feast 2-2,gregorian julian\nPurificationis beate Marie virginis,feast 2-2,gregorian julian\nPurificationis B M V,feas\
+t 2-2,gregorian julian\nAnnunciationis Mariae virginis,feast 3-25,gregorian julian\nAnnunciationis Marie virginis,feas\
+t 3-25,gregorian julian\nAnnunciationis Marie,feast 3-25,gregorian julian\nAnnunciationis beatae Mariae,feast 3-25,greg\
+orian julian\nAnnunciationis beate Marie,feast 3-25,gregorian julian\nAnnunciationis beatae Mariae virginis,feast 3-25,\
+gregorian julian\nAnnunciationis beate Marie virginis,feast 3-25,gregorian julian\nAnnunciationis B M V,feast 3-25,greg\
+orian julian\nAnnuntiationis Mariae virginis,feast 3-25,gregorian julian\nAnnuntiationis Marie virginis,feast 3-25,greg\
+orian julian\nAnnuntiationis Marie,feast 3-25,gregorian julian\nAnnuntiationis beatae Mariae,feast 3-25,gregorian julia\
+n\nAnnuntiationis beate Marie,feast 3-25,gregorian julian\nAnnuntiationis beatae Mariae virginis,feast 3-25,gregorian j\
+ulian\nAnnuntiationis beate Marie virginis,feast 3-25,gregorian julian\nAnnuntiationis B M V,feast 3-25,gregorian julia\
+n\nVisitationis Mariae virginis,feast 7-2,gregorian julian\nVisitationis Marie virginis,feast 7-2,gregorian julian\nVis\
+itationis Marie,feast 7-2,gregorian julian\nVisitationis beatae Mariae,feast 7-2,gregorian julian\nVisitationis beate M\
+arie,feast 7-2,gregorian julian\nVisitationis beatae Mariae virginis,feast 7-2,gregorian julian\nVisitationis beate Mar\
+ie virginis,feast 7-2,gregorian julian\nVisitationis B M V,feast 7-2,gregorian julian\nAssumptionis Mariae virginis,fea\
+st 8-15,gregorian julian\nAssumptionis Marie virginis,feast 8-15,gregorian julian\nAssumptionis Marie,feast 8-15,gregor\
+ian julian\nAssumptionis beatae Mariae,feast 8-15,gregorian julian\nAssumptionis beate Marie,feast 8-15,gregorian julia\
+n\nAssumptionis beatae Mariae virginis,feast 8-15,gregorian julian\nAssumptionis beate Marie virginis,feast 8-15,gregor\
+ian julian\nAssumptionis B M V,feast 8-15,gregorian julian\nNativitatis Mariae virginis,feast 9-8,gregorian julian\nNat\
+ivitatis Marie virginis,feast 9-8,gregorian julian\nNativitatis Marie,feast 9-8,gregorian julian\nNativitatis beatae Ma\
+riae,feast 9-8,gregorian julian\nNativitatis beate Marie,feast 9-8,gregorian julian\nNativitatis beatae Mariae virginis\
+,feast 9-8,gregorian julian\nNativitatis beate Marie virginis,feast 9-8,gregorian julian\nNativitatis B M V,feast 9-8,g\
+regorian julian\nConceptionis Mariae virginis,feast 12-8,gregorian julian\nConceptionis Marie virginis,feast 12-8,grego\
+rian julian\nConceptionis Marie,feast 12-8,gregorian julian\nConceptionis beatae Mariae,feast 12-8,gregorian julian\nCo\
+nceptionis beate Marie,feast 12-8,gregorian julian\nConceptionis beatae Mariae virginis,feast 12-8,gregorian julian\nCo\
+nceptionis beate Marie virginis,feast 12-8,gregorian julian\nConceptionis B M V,feast 12-8,gregorian julian\nÉpiphanie\
+,feast 1-6,gregorian julian\nTheophaniae,feast 1-6,gregorian julian\nEpiphaniae Domini,feast 1-6,gregorian julian\nEpip\
+hanie Domini,feast 1-6,gregorian julian\nThomae martyris,feast 12-29,gregorian julian\nThome martyris,feast 12-29,grego\
+rian julian\nStephani protomartyris,feast 12-26,gregorian julian\nMichaelistag,feast 9-29,gregorian julian\nMartinstag,\
+feast 11-11,gregorian julian\nMartinitag,feast 11-11,gregorian julian\nWeihnachtstag,feast 12-25,gregorian julian\nChri\
+sttag,feast 12-25,gregorian julian\nPaschatis,easter 0,gregorian julian\nPaschatos,easter 0,gregorian julian\nPfingstta\
+g,easter 49,gregorian julian\nHimmelfahrtstag,easter 39,gregorian julian\nFronleichnamstag,easter 60,gregorian julian\n\
+Christmas Eve,feast 12-24,gregorian julian\nNew Year's Day,feast 1-1,gregorian julian\nNew Year’s Day,feast 1-1,grego\
+rian julian\nNeujahrstag,feast 1-1,gregorian julian\nInnocentium,feast 12-28,gregorian julian\nante,,roman\nante diem,,\
+roman\na,,roman\nden,,\nder,,\ndes,,\ndem,,\nam,,\nvom,,\nim,,\nin,,\nanno,year,\nanno domini,year,\nao,year,\nAD,year,\
+\nA D,year,\nthe,,\nof,,\non,,\nday,day,\nle,,\nla,,\ndu,,\nde,,\nl'an,year,\nl’an,year,\nan,year,\nannée,year,\nl'a\
+nnée,year,\nl’année,year,\nen,,\nil,,\ndel,,\ndell'anno,year,\ndell’anno,year,\nel,,\ndía,day,\ndel año,year,\n\
+año,year,\ndnia,day,\nroku,year,\nr,year,\ndne,day,\ndie,day,\nde dato,,\nvan,,\nhet,,\ner,,\nère,,\nere,,\nème,,\ne\
+me,,\nre,,\nst,,\nnd,,\nrd,,\nth,,\nte,,\nter,,gregorian julian hebrew islamic french republican\nsten,,\nste,,\ntes,,\
+\nens,,\nº,,\nª,,\no,,\ne,,\nster,,\nyear,year,\nyear of our Lord,year,\nof our Lord,year,\nour Lord,year,\nJahr,year\
+,\nJahre,year,\nJahres,year,\nnach Christi Geburt,year,\nn Chr,year,\nanno Dni,year,\nanno salutis,year,\nanni,year,\na\
+nnus,year,\nAo Dni,year,\nA°,year,\nAº,year,\njaar,year,\njaer,year,\ndo ano,year,\nano,year,\nannée de grâce,year,\
+\nl'an de grâce,year,\nl’an de grâce,year,\nl'an de grace,year,\nl’an de grace,year,\nгода,year,\nгоду,ye\
+ar,\nгодъ,year,\nгода от Рождества Христова,year,\nг,year,\nлета,year,\når,year,\naar,\
+year,\nár,year,\nAnno Christi,year,\nnell'anno,year,\nnell’anno,year,\nго,,\nого,,\nye,,\njour de,day,\nдня,\
+day,\nчисла,day,\ndag,day,\nTag des,day,\ndì,day,\na dì,day,\nadì,day,\naddì,day,\nde la République,,french r\
+epublican\nde la Republique,,french republican\nde la République française,,french republican\nde la République fran\
+caise,,french republican\nde la République françoise,,french republican\nde la Republique francaise,,french republica\
+n\nde la Republique françoise,,french republican\nde la Republique francoise,,french republican\nde la République un\
+e et indivisible,,french republican\nde la République française une et indivisible,,french republican\nder Republik,,\
+french republican\nder fränkischen Republik,,french republican\nder französischen Republik,,french republican\nder fr\
+änk. Republik,,french republican\nder frz. Republik,,french republican\nrépublicain,,french republican\nrépublicaine\
+,,french republican\nde l'ère républicaine,,french republican\nde l’ère républicaine,,french republican\nfestum,,\
+gregorian julian\nfesti,,gregorian julian\nfest,,gregorian julian\nfeast of,,gregorian julian\nfête de,,gregorian juli\
+an\ndivi,,gregorian julian\ndivae,,gregorian julian\nbeate,,gregorian julian\nsancte,,gregorian julian\nfesto,,gregoria\
+n julian\nin festo,,gregorian julian\nin die,day,gregorian julian\nS,,gregorian julian\nSankt,,gregorian julian\nsancti\
+,,gregorian julian\nsanctae,,gregorian julian\nbeati,,gregorian julian\nbeatae,,gregorian julian\napostoli,,gregorian j\
+ulian\napostolorum,,gregorian julian\nevangelistae,,gregorian julian\narchangeli,,gregorian julian\nten jare,year,\nJa\
+n y,month 1,gregorian julian\nJan ry,month 1,gregorian julian\nFeb y,month 2,gregorian julian\nFeb ry,month 2,gregoria\
+n julian\nMch,month 3,gregorian julian\nAp'l,month 4,gregorian julian\nAp’l,month 4,gregorian julian\nAp l,month 4,gr\
+egorian julian\nAug't,month 8,gregorian julian\nAug’t,month 8,gregorian julian\nAug t,month 8,gregorian julian\nSept'\
+r,month 9,gregorian julian\nSept’r,month 9,gregorian julian\nSept r,month 9,gregorian julian\nSep'r,month 9,gregoria\
+n julian\nSep’r,month 9,gregorian julian\nSep r,month 9,gregorian julian\nOct'r,month 10,gregorian julian\nOct’r,mo\
+nth 10,gregorian julian\nOct r,month 10,gregorian julian\nNov'r,month 11,gregorian julian\nNov’r,month 11,gregorian j\
+ulian\nNov r,month 11,gregorian julian\nDec'r,month 12,gregorian julian\nDec’r,month 12,gregorian julian\nDec r,mont\
+h 12,gregorian julian\nJanuarie,month 1,gregorian julian\nJanuarye,month 1,gregorian julian\nFebruarie,month 2,gregoria\
+n julian\nFebruarye,month 2,gregorian julian\nMarche,month 3,gregorian julian\nAprill,month 4,gregorian julian\nMaye,mo\
+nth 5,gregorian julian\nMaie,month 5,gregorian julian\nIune,month 6,gregorian julian\nIuly,month 7,gregorian julian\nIu\
+lie,month 7,gregorian julian\nJulie,month 7,gregorian julian\nJulye,month 7,gregorian julian\nAuguste,month 8,gregoria\
+n julian\nSeptemb,month 9,gregorian julian\nOctob,month 10,gregorian julian\nNovemb,month 11,gregorian julian\nDecemb,m\
+onth 12,gregorian julian\nLord's Day,weekday 0,\nLord’s Day,weekday 0,\nLords Day,weekday 0,\nWeds,weekday 3,\nWednes\
+,weekday 3,\nJanuario,month 1,gregorian julian\nIanuario,month 1,gregorian julian\nFebruario,month 2,gregorian julian\n\
+Martio,month 3,gregorian julian\nAprili,month 4,gregorian julian\nIunio,month 6,gregorian julian\nIulio,month 7,gregori\
+an julian\nAugusto,month 8,gregorian julian\nSeptembri,month 9,gregorian julian\n7bri,month 9,gregorian julian\nVII bri\
+s,month 9,gregorian julian\nOctobri,month 10,gregorian julian\n8bri,month 10,gregorian julian\nVIII bris,month 10,grego\
+rian julian\nNovembri,month 11,gregorian julian\n9bri,month 11,gregorian julian\nIX bris,month 11,gregorian julian\nDec\
+embri,month 12,gregorian julian\n10bri,month 12,gregorian julian\nXbri,month 12,gregorian julian\nX bris,month 12,grego\
+rian julian\nX ber,month 12,gregorian julian\nX bre,month 12,gregorian julian\nIanuar,month 1,gregorian julian\nSeptemb\
+r,month 9,gregorian julian\nNovembr,month 11,gregorian julian\nDecembr,month 12,gregorian julian\ndie Solis,weekday 0,\
+\ndies Solis,weekday 0,\nferia II,weekday 1,\nfer 2,weekday 1,\nfer II,weekday 1,\nferia III,weekday 2,\nfer 3,weekday \
+2,\nfer III,weekday 2,\nferia IV,weekday 3,\nferia IIII,weekday 3,\nfer 4,weekday 3,\nfer IV,weekday 3,\nferia V,weekda\
+y 4,\nfer 5,weekday 4,\nfer V,weekday 4,\nferia VI,weekday 5,\nfer 6,weekday 5,\nfer VI,weekday 5,\nsabbati,weekday 6,\
+\nsabbathi,weekday 6,\ndie Sabbathi,weekday 6,\nsabbatho,weekday 6,\nіануарій,month 1,gregorian julian\nіан\
+уарія,month 1,gregorian julian\nянуарій,month 1,gregorian julian\nянуарія,month 1,gregorian julian\n\
+фев,month 2,gregorian julian\nфевруарій,month 2,gregorian julian\nфевруарія,month 2,gregorian juli\
+an\nмартъ,month 3,gregorian julian\nаприлій,month 4,gregorian julian\nаприлія,month 4,gregorian juli\
+an\nмаій,month 5,gregorian julian\nмаія,month 5,gregorian julian\nмаия,month 5,gregorian julian\nмайя,m\
+onth 5,gregorian julian\nіуній,month 6,gregorian julian\nіунія,month 6,gregorian julian\nиюния,month 6,g\
+regorian julian\nіюн,month 6,gregorian julian\nіулій,month 7,gregorian julian\nіулія,month 7,gregorian jul\
+ian\nиюлия,month 7,gregorian julian\nіюл,month 7,gregorian julian\nавгустъ,month 8,gregorian julian\nс\
+ептемврій,month 9,gregorian julian\nсептемврія,month 9,gregorian julian\nсен,month 9,gregorian ju\
+lian\nсентебря,month 9,gregorian julian\nоктоврій,month 10,gregorian julian\nоктоврія,month 10,\
+gregorian julian\nоктебря,month 10,gregorian julian\nноемврій,month 11,gregorian julian\nноемврі\
+я,month 11,gregorian julian\nноя,month 11,gregorian julian\nдекемврій,month 12,gregorian julian\nдеке\
+мврія,month 12,gregorian julian\nвоскресеніе,weekday 0,\nвоскресение,weekday 0,\nвоскр,\
+weekday 0,\nвс,weekday 0,\nпонедѣльникъ,weekday 1,\nпонедѣльник,weekday 1,\nпн,weekday 1,\n\
+вторникъ,weekday 2,\nвт,weekday 2,\nсреду,weekday 3,\nсереду,weekday 3,\nср,weekday 3,\nчетв\
+ергъ,weekday 4,\nчетвертокъ,weekday 4,\nчт,weekday 4,\nпятницу,weekday 5,\nпятокъ,weekday \
+5,\nпт,weekday 5,\nсубботу,weekday 6,\nсб,weekday 6,\nсїчень,month 1,gregorian julian\nсїчня,mont\
+h 1,gregorian julian\nмарець,month 3,gregorian julian\nмарця,month 3,gregorian julian\nкві,month 4,gregor\
+ian julian\nцвітень,month 4,gregorian julian\nцвітня,month 4,gregorian julian\nтра,month 5,gregorian ju\
+lian\nчер,month 6,gregorian julian\nсер,month 8,gregorian julian\nжов,month 10,gregorian julian\nлис,month \
+11,gregorian julian\nгру,month 12,gregorian julian\nнеділю,weekday 0,\nнд,weekday 0,\nп'ятниця,weekda\
+y 5,\nп’ятниця,weekday 5,\nп'ятницю,weekday 5,\nп’ятницю,weekday 5,\nпʼятницю,weekday \
+5,\nсуботу,weekday 6,\nJanuárius,month 1,gregorian julian\nFebruárius,month 2,gregorian julian\nMártius,month \
+3,gregorian julian\nMárczius,month 3,gregorian julian\nMártzius,month 3,gregorian julian\nMarcius,month 3,gregorian j\
+ulian\nDeczember,month 12,gregorian julian\nDeczber,month 12,gregorian julian\njanuár hó,month 1,gregorian julian\nja\
+nuár hava,month 1,gregorian julian\njanuár havának,month 1,gregorian julian\nfebruár hó,month 2,gregorian julian\n\
+február hava,month 2,gregorian julian\nfebruár havának,month 2,gregorian julian\nmárcius hó,month 3,gregorian juli\
+an\nmárcius hava,month 3,gregorian julian\nmárcius havának,month 3,gregorian julian\náprilis hó,month 4,gregorian \
+julian\náprilis hava,month 4,gregorian julian\náprilis havának,month 4,gregorian julian\nmájus hó,month 5,gregoria\
+n julian\nmájus hava,month 5,gregorian julian\nmájus havának,month 5,gregorian julian\njúnius hó,month 6,gregoria\
+n julian\njúnius hava,month 6,gregorian julian\njúnius havának,month 6,gregorian julian\njúlius hó,month 7,gregori\
+an julian\njúlius hava,month 7,gregorian julian\njúlius havának,month 7,gregorian julian\naugusztus hó,month 8,greg\
+orian julian\naugusztus hava,month 8,gregorian julian\naugusztus havának,month 8,gregorian julian\nszeptember hó,mont\
+h 9,gregorian julian\nszeptember hava,month 9,gregorian julian\nszeptember havának,month 9,gregorian julian\noktóber \
+hó,month 10,gregorian julian\noktóber hava,month 10,gregorian julian\noktóber havának,month 10,gregorian julian\nno\
+vember hó,month 11,gregorian julian\nnovember hava,month 11,gregorian julian\nnovember havának,month 11,gregorian jul\
+ian\ndecember hó,month 12,gregorian julian\ndecember hava,month 12,gregorian julian\ndecember havának,month 12,gregor\
+ian julian\nBoldogasszony hava,month 1,gregorian julian\nBöjtelő hava,month 2,gregorian julian\nBöjtmás hava,month \
+3,gregorian julian\nSzent György hava,month 4,gregorian julian\nPünkösd hava,month 5,gregorian julian\nSzent Iván h\
+ava,month 6,gregorian julian\nSzent Jakab hava,month 7,gregorian julian\nKisasszony hava,month 8,gregorian julian\nSzen\
+t Mihály hava,month 9,gregorian julian\nMindszent hava,month 10,gregorian julian\nSzent András hava,month 11,gregoria\
+n julian\nKarácsony hava,month 12,gregorian julian\nvasarnap,weekday 0,\nhétfőn,weekday 1,\nhetfo,weekday 1,\nhétf,\
+weekday 1,\nkedden,weekday 2,\nszerdán,weekday 3,\nszerdan,weekday 3,\ncsütörtökön,weekday 4,\ncsutortok,weekday 4\
+,\ncsüt,weekday 4,\npénteken,weekday 5,\npentek,weekday 5,\npént,weekday 5,\nszombaton,weekday 6,\nszomb,weekday 6,\
+\nJaneyro,month 1,gregorian julian\nJanro,month 1,gregorian julian\nJan ro,month 1,gregorian julian\nFevereyro,month 2,\
+gregorian julian\nFevro,month 2,gregorian julian\nFev ro,month 2,gregorian julian\nmarco,month 3,gregorian julian\nmars\
+o,month 3,gregorian julian\nSeptembro,month 9,gregorian julian\n7bro,month 9,gregorian julian\nSetbro,month 9,gregoria\
+n julian\nOctubro,month 10,gregorian julian\n8bro,month 10,gregorian julian\nOutbro,month 10,gregorian julian\n9bro,mon\
+th 11,gregorian julian\nNovbro,month 11,gregorian julian\nDecembro,month 12,gregorian julian\n10bro,month 12,gregorian \
+julian\nXbro,month 12,gregorian julian\nDezbro,month 12,gregorian julian\nmês de janeiro,month 1,gregorian julian\nme\
+z de janeiro,month 1,gregorian julian\ndo mês de janeiro,month 1,gregorian julian\ndo mez de janeiro,month 1,gregoria\
+n julian\nmês de fevereiro,month 2,gregorian julian\nmez de fevereiro,month 2,gregorian julian\ndo mês de fevereiro,m\
+onth 2,gregorian julian\ndo mez de fevereiro,month 2,gregorian julian\nmês de março,month 3,gregorian julian\nmez de \
+março,month 3,gregorian julian\ndo mês de março,month 3,gregorian julian\ndo mez de março,month 3,gregorian julian\
+\nmês de abril,month 4,gregorian julian\nmez de abril,month 4,gregorian julian\ndo mês de abril,month 4,gregorian jul\
+ian\ndo mez de abril,month 4,gregorian julian\nmês de maio,month 5,gregorian julian\nmez de maio,month 5,gregorian jul\
+ian\ndo mês de maio,month 5,gregorian julian\ndo mez de maio,month 5,gregorian julian\nmês de junho,month 6,gregoria\
+n julian\nmez de junho,month 6,gregorian julian\ndo mês de junho,month 6,gregorian julian\ndo mez de junho,month 6,gre\
+gorian julian\nmês de julho,month 7,gregorian julian\nmez de julho,month 7,gregorian julian\ndo mês de julho,month 7,\
+gregorian julian\ndo mez de julho,month 7,gregorian julian\nmês de agosto,month 8,gregorian julian\nmez de agosto,mont\
+h 8,gregorian julian\ndo mês de agosto,month 8,gregorian julian\ndo mez de agosto,month 8,gregorian julian\nmês de se\
+tembro,month 9,gregorian julian\nmez de setembro,month 9,gregorian julian\ndo mês de setembro,month 9,gregorian julian\
+\ndo mez de setembro,month 9,gregorian julian\nmês de outubro,month 10,gregorian julian\nmez de outubro,month 10,grego\
+rian julian\ndo mês de outubro,month 10,gregorian julian\ndo mez de outubro,month 10,gregorian julian\nmês de novembr\
+o,month 11,gregorian julian\nmez de novembro,month 11,gregorian julian\ndo mês de novembro,month 11,gregorian julian\n\
+do mez de novembro,month 11,gregorian julian\nmês de dezembro,month 12,gregorian julian\nmez de dezembro,month 12,greg\
+orian julian\ndo mês de dezembro,month 12,gregorian julian\ndo mez de dezembro,month 12,gregorian julian\nseg,weekday \
+1,\n2ª feira,weekday 1,\nterca-feira,weekday 2,\n3ª feira,weekday 2,\nqua,weekday 3,\n4ª feira,weekday 3,\nqui,weekd\
+ay 4,\n5ª feira,weekday 4,\n6ª feira,weekday 5,\nsáb,weekday 6,\nsabado,weekday 6,\nsab,weekday 6,\nenº,month 1,gre\
+gorian julian\nen.º,month 1,gregorian julian\nhenero,month 1,gregorian julian\nfebº,month 2,gregorian julian\nhebrero\
+,month 2,gregorian julian\nfebro,month 2,gregorian julian\nmço,month 3,gregorian julian\nmzo,month 3,gregorian julian\
+\nabl,month 4,gregorian julian\njunº,month 6,gregorian julian\njulº,month 7,gregorian julian\nagto,month 8,gregorian \
+julian\nagº,month 8,gregorian julian\nag to,month 8,gregorian julian\nseptbre,month 9,gregorian julian\nsetbre,month 9\
+,gregorian julian\noctbre,month 10,gregorian julian\notubre,month 10,gregorian julian\nnobiembre,month 11,gregorian jul\
+ian\nnovbre,month 11,gregorian julian\nnovre,month 11,gregorian julian\ndiziembre,month 12,gregorian julian\ndeziembre,\
+month 12,gregorian julian\ndicbre,month 12,gregorian julian\ndizbre,month 12,gregorian julian\ndel mes de enero,month 1\
+,gregorian julian\ndel mes de febrero,month 2,gregorian julian\ndel mes de marzo,month 3,gregorian julian\ndel mes de a\
+bril,month 4,gregorian julian\ndel mes de mayo,month 5,gregorian julian\ndel mes de junio,month 6,gregorian julian\nde\
+l mes de julio,month 7,gregorian julian\ndel mes de agosto,month 8,gregorian julian\ndel mes de septiembre,month 9,greg\
+orian julian\ndel mes de octubre,month 10,gregorian julian\ndel mes de noviembre,month 11,gregorian julian\ndel mes de \
+diciembre,month 12,gregorian julian\nmié,weekday 3,\nmiercoles,weekday 3,\nmie,weekday 3,\njue,weekday 4,\nvie,weekda\
+y 5,\nKânunusani,month 1,gregorian julian\nKanunusani,month 1,gregorian julian\nKânun-ı sani,month 1,gregorian julia\
+n\nKanun-ı sani,month 1,gregorian julian\nİkincikânun,month 1,gregorian julian\nİkinci Kânun,month 1,gregorian jul\
+ian\nSonkânun,month 1,gregorian julian\nSonkanun,month 1,gregorian julian\nKânunisani,month 1,gregorian julian\nsubat\
+,month 2,gregorian julian\nNİSAN,month 4,gregorian julian\nmayis,month 5,gregorian julian\nHAZİRAN,month 6,gregorian \
+julian\nagustos,month 8,gregorian julian\neylul,month 9,gregorian julian\nEylûl,month 9,gregorian julian\nEKİM,month \
+10,gregorian julian\nTeşrinievvel,month 10,gregorian julian\nTeşrin-i evvel,month 10,gregorian julian\nTesrinievvel,m\
+onth 10,gregorian julian\nBirinciteşrin,month 10,gregorian julian\nBirinci Teşrin,month 10,gregorian julian\nİlkteş\
+rin,month 10,gregorian julian\nkasim,month 11,gregorian julian\nTeşrinisani,month 11,gregorian julian\nTeşrin-i sani,\
+month 11,gregorian julian\nTesrinisani,month 11,gregorian julian\nİkinciteşrin,month 11,gregorian julian\nİkinci Te\
+şrin,month 11,gregorian julian\nSonteşrin,month 11,gregorian julian\nSontesrin,month 11,gregorian julian\naralik,mont\
+h 12,gregorian julian\nKânunuevvel,month 12,gregorian julian\nKanunuevvel,month 12,gregorian julian\nKânun-ı evvel,m\
+onth 12,gregorian julian\nKanun-ı evvel,month 12,gregorian julian\nBirincikânun,month 12,gregorian julian\nBirinci K\
+ânun,month 12,gregorian julian\nİlkkânun,month 12,gregorian julian\nKânunievvel,month 12,gregorian julian\nPaz,week\
+day 0,\nPzt,weekday 1,\nsali,weekday 2,\nÇar,weekday 3,\ncarsamba,weekday 3,\npersembe,weekday 4,\nCmt,weekday 6,\nPaz\
+ar günü,weekday 0,\nPazartesi günü,weekday 1,\nSalı günü,weekday 2,\nÇarşamba günü,weekday 3,\nPerşembe gü\
+nü,weekday 4,\nCuma günü,weekday 5,\nCumartesi günü,weekday 6,\nΙανουαριος,month 1,gregorian julian\nΦ\
+εβρουαριος,month 2,gregorian julian\nΜαρτιος,month 3,gregorian julian\nΑπριλιος,month 4,gregor\
+ian julian\nΜαιος,month 5,gregorian julian\nΙουνιος,month 6,gregorian julian\nΙουλιος,month 7,gregor\
+ian julian\nΑυγουστος,month 8,gregorian julian\nΣεπτεμβριος,month 9,gregorian julian\nΟκτωβρ\
+ιος,month 10,gregorian julian\nΝοεμβριος,month 11,gregorian julian\nΔεκεμβριος,month 12,gregoria\
+n julian\nΙανουαριου,month 1,gregorian julian\nΦεβρουαριου,month 2,gregorian julian\nΜαρτιο\
+υ,month 3,gregorian julian\nΑπριλιου,month 4,gregorian julian\nΜαιου,month 5,gregorian julian\nΙουνι\
+ου,month 6,gregorian julian\nΙουλιου,month 7,gregorian julian\nΑυγουστου,month 8,gregorian julian\nΣ\
+επτεμβριου,month 9,gregorian julian\nΟκτωβριου,month 10,gregorian julian\nΝοεμβριου,month 1\
+1,gregorian julian\nΔεκεμβριου,month 12,gregorian julian\nἸανουάριος,month 1,gregorian julian\nἸ\
+ανουαρίου,month 1,gregorian julian\nἈπρίλιος,month 4,gregorian julian\nἈπριλίου,month 4,greg\
+orian julian\nΜάϊος,month 5,gregorian julian\nἸούνιος,month 6,gregorian julian\nἸουνίου,month 6,gr\
+egorian julian\nἸούλιος,month 7,gregorian julian\nἸουλίου,month 7,gregorian julian\nΑὔγουστος\
+,month 8,gregorian julian\nΑὐγούστου,month 8,gregorian julian\nὈκτώβριος,month 10,gregorian julian\
+\nὈκτωβρίου,month 10,gregorian julian\nΓενάρης,month 1,gregorian julian\nΓενάρη,month 1,gregoria\
+n julian\nΦλεβάρης,month 2,gregorian julian\nΦλεβάρη,month 2,gregorian julian\nΜάρτης,month 3,greg\
+orian julian\nΜάρτη,month 3,gregorian julian\nΑπρίλης,month 4,gregorian julian\nΑπρίλη,month 4,gregor\
+ian julian\nΜάης,month 5,gregorian julian\nΜάη,month 5,gregorian julian\nΙούνης,month 6,gregorian julian\n\
+Ιούνη,month 6,gregorian julian\nΙούλης,month 7,gregorian julian\nΙούλη,month 7,gregorian julian\nΣεπ\
+τέμβρης,month 9,gregorian julian\nΣεπτέμβρη,month 9,gregorian julian\nΟκτώβρης,month 10,gregori\
+an julian\nΟκτώβρη,month 10,gregorian julian\nΝοέμβρης,month 11,gregorian julian\nΝοέμβρη,month 1\
+1,gregorian julian\nΔεκέμβρης,month 12,gregorian julian\nΔεκέμβρη,month 12,gregorian julian\nΓενα\
+ρης,month 1,gregorian julian\nΓεναρη,month 1,gregorian julian\nΦλεβαρης,month 2,gregorian julian\nΦλ\
+εβαρη,month 2,gregorian julian\nΜαρτης,month 3,gregorian julian\nΜαρτη,month 3,gregorian julian\nΑπρ\
+ιλης,month 4,gregorian julian\nΑπριλη,month 4,gregorian julian\nΜαης,month 5,gregorian julian\nΜαη,mon\
+th 5,gregorian julian\nΙουνης,month 6,gregorian julian\nΙουνη,month 6,gregorian julian\nΙουλης,month 7\
+,gregorian julian\nΙουλη,month 7,gregorian julian\nΣεπτεμβρης,month 9,gregorian julian\nΣεπτεμβρ\
+η,month 9,gregorian julian\nΟκτωβρης,month 10,gregorian julian\nΟκτωβρη,month 10,gregorian julian\nΝο\
+εμβρης,month 11,gregorian julian\nΝοεμβρη,month 11,gregorian julian\nΔεκεμβρης,month 12,gregoria\
+n julian\nΔεκεμβρη,month 12,gregorian julian\nἸαν,month 1,gregorian julian\nΦεβρ,month 2,gregorian juli\
+an\nΜάρ,month 3,gregorian julian\nΜαρτ,month 3,gregorian julian\nἈπρ,month 4,gregorian julian\nΜάι,month \
+5,gregorian julian\nΜαϊ,month 5,gregorian julian\nΜαι,month 5,gregorian julian\nΙούν,month 6,gregorian julian\
+\nἸουν,month 6,gregorian julian\nΙούλ,month 7,gregorian julian\nἸουλ,month 7,gregorian julian\nΑύγ,mon\
+th 8,gregorian julian\nΑὐγ,month 8,gregorian julian\nΣεπτ,month 9,gregorian julian\nὈκτ,month 10,gregorian \
+julian\nΟκτωβρ,month 10,gregorian julian\nΝοέ,month 11,gregorian julian\nΝοεμβρ,month 11,gregorian julia\
+n\nΔεκεμβρ,month 12,gregorian julian\nΚυριακη,weekday 0,\nΔευτερα,weekday 1,\nΤριτη,weekday 2\
+,\nΤεταρτη,weekday 3,\nΠεμπτη,weekday 4,\nΠαρασκευη,weekday 5,\nΣαββατο,weekday 6,\nΚυρ\
+,weekday 0,\nΚυριακήν,weekday 0,\nΔευ,weekday 1,\nΔευτέραν,weekday 1,\nΤρί,weekday 2,\nΤρι,wee\
+kday 2,\nΤρίτην,weekday 2,\nΤετ,weekday 3,\nΤετάρτην,weekday 3,\nΠέμ,weekday 4,\nΠεμ,weekday 4,\
+\nΠέμπτην,weekday 4,\nΠαρ,weekday 5,\nΠαρασκευήν,weekday 5,\nΣάβ,weekday 6,\nΣαβ,weekday 6,\n\
+Σάββατον,weekday 6,\ntammi,month 1,gregorian julian\ntammik,month 1,gregorian julian\ntammikuun,month 1,gregori\
+an julian\nhelmi,month 2,gregorian julian\nhelmik,month 2,gregorian julian\nhelmikuun,month 2,gregorian julian\nmaalis,\
+month 3,gregorian julian\nmaalisk,month 3,gregorian julian\nmaaliskuun,month 3,gregorian julian\nhuhti,month 4,gregoria\
+n julian\nhuhtik,month 4,gregorian julian\nhuhtikuun,month 4,gregorian julian\ntouko,month 5,gregorian julian\ntoukok,m\
+onth 5,gregorian julian\ntoukokuun,month 5,gregorian julian\nkesä,month 6,gregorian julian\nkesäk,month 6,gregorian j\
+ulian\nkesäkuun,month 6,gregorian julian\nheinä,month 7,gregorian julian\nheinäk,month 7,gregorian julian\nheinäkuu\
+n,month 7,gregorian julian\nelo,month 8,gregorian julian\nelok,month 8,gregorian julian\nelokuun,month 8,gregorian juli\
+an\nsyys,month 9,gregorian julian\nsyysk,month 9,gregorian julian\nsyyskuun,month 9,gregorian julian\nloka,month 10,gre\
+gorian julian\nlokak,month 10,gregorian julian\nlokakuun,month 10,gregorian julian\nmarras,month 11,gregorian julian\nm\
+arrask,month 11,gregorian julian\nmarraskuun,month 11,gregorian julian\njoulu,month 12,gregorian julian\njouluk,month 1\
+2,gregorian julian\njoulukuun,month 12,gregorian julian\nkesakuu,month 6,gregorian julian\nkesakuuta,month 6,gregorian \
+julian\nkesakuun,month 6,gregorian julian\nheinakuu,month 7,gregorian julian\nheinakuuta,month 7,gregorian julian\nhein\
+akuun,month 7,gregorian julian\nsu,weekday 0,\nsunnuntaina,weekday 0,\nmaanantaina,weekday 1,\ntiistaina,weekday 2,\nke\
+,weekday 3,\nkeskiviikkona,weekday 3,\ntorstaina,weekday 4,\npe,weekday 5,\nperjantaina,weekday 5,\nlauantaina,weekday \
+6,\nsön,weekday 0,\nsöndagen,weekday 0,\nsondag,weekday 0,\nmån,weekday 1,\nmåndagen,weekday 1,\ntis,weekday 2,\nti\
+sdagen,weekday 2,\nons,weekday 3,\nonsdagen,weekday 3,\ntors,weekday 4,\ntorsdagen,weekday 4,\nthorsdag,weekday 4,\nfre\
+,weekday 5,\nfredagen,weekday 5,\nlör,weekday 6,\nlördagen,weekday 6,\nlordag,weekday 6,\nsøn,weekday 0,\nsøndagen,\
+weekday 0,\nsundag,weekday 0,\nman,weekday 1,\nmandagen,weekday 1,\ntirs,weekday 2,\ntirsdagen,weekday 2,\ntysdag,weekd\
+ay 2,\ntys,weekday 2,\ntor,weekday 4,\nlør,weekday 6,\nlørdagen,weekday 6,\nløverdag,weekday 6,\nlaurdag,weekday 6,\
+\nlau,weekday 6,\nniedz,weekday 0,\npon,weekday 1,\nwt,weekday 2,\nśr,weekday 3,\ngio,weekday 4,\nczw,weekday 4,\nčt,\
+weekday 4,\npt,weekday 5,\npá,weekday 5,\nsob,weekday 6,\nsze,weekday 3,\nçrş,weekday 3,\ncs,weekday 4,\nprş,weekda\
+y 4,\nszo,weekday 6,\ncts,weekday 6,\nέτος,year,\nέτους,year,\nἔτος,year,\nἔτους,year,\nvuonna,year\
+,\névi,year,\név,year,\nesztendő,year,\nesztendőben,year,\nроку,year,\nрік,year,\nyılı,year,\nsenesi,year,\
+\npäivänä,day,\npäivä,day,\npäivää,day,\nnapján,day,\nnapja,day,\nnapjan,day,\nnap,day,\nчислѣ,day,\nчи\
+сле,day,\ndias,day,\ndia,day,\nр,year,\nén,,\nán,,\njén,,\nik,,\ndik,,\nikén,,\ndikén,,\nkén,,\nkán,,\nй,,\
+\nе,,\nое,,\nаго,,\nην,,\nης,,\nη,,\nτη,,\nτῇ,,\nτην,,\nτὴν,,\nτου,,\nτοῦ,,\naos,,\nв,,\
+\nвъ,,\ngregor.,gregorian,\ngregor,gregorian,\ngrég.,gregorian,\ngrég,gregorian,\nst. n.,gregorian,\nst.n.,gregoria\
+n,\nst. nov.,gregorian,\nst. novi,gregorian,\nstili novi,gregorian,\nstyli novi,gregorian,\nnovo stilo,gregorian,\nnov\
+o stylo,gregorian,\ngregorianska kalendern,gregorian,\nnya stilen,gregorian,\nny stil,gregorian,\nnya stil,gregorian,\n\
+gregorianske kalender,gregorian,\nden gregorianske kalender,gregorian,\nden gregorianske kalenderen,gregorian,\ngregori\
+anske,gregorian,\ngregoriaaninen,gregorian,\ngregoriaaninen kalenteri,gregorian,\nuutta lukua,gregorian,\nuusi luku,gre\
+gorian,\nGergely-naptár,gregorian,\nGergely-féle naptár,gregorian,\ngergely-féle,gregorian,\nGergely-naptár szerin\
+t,gregorian,\núj naptár,gregorian,\ncalendário gregoriano,gregorian,\nestilo novo,gregorian,\nmiladi,gregorian,\nmil\
+âdî,gregorian,\nmiladî,gregorian,\nmiladi takvim,gregorian,\nGregoryen,gregorian,\nGregoryen takvimi,gregorian,\nΓ\
+ρηγοριανό,gregorian,\nΓρηγοριανό ημερολόγιο,gregorian,\nΓρηγοριανόν,gregorian,\
+\nνέο ημερολόγιο,gregorian,\nνέον ἡμερολόγιον,gregorian,\nν. ημ.,gregorian,\nν.ημ.,g\
+regorian,\nн.ст.,gregorian,\nнов. ст.,gregorian,\nн. стиль,gregorian,\nновый ст.,gregorian,\nно\
+вого стиля,gregorian,\nноваго стиля,gregorian,\nгригорианский календарь,grego\
+rian,\nгригор.,gregorian,\nгригоріанський,gregorian,\nгригоріанський календар\
+,gregorian,\nновий стиль,gregorian,\nнового стилю,gregorian,\nза новим стилем,gregori\
+an,\ngregorianus,gregorian,\ncalendarium Gregorianum,gregorian,\nst. v.,julian,\nst.v.,julian,\nst. vet.,julian,\nst. v\
+eteris,julian,\nstili veteris,julian,\nstyli veteris,julian,\nstilo veteri,julian,\nstylo vetere,julian,\nveteri stilo,\
+julian,\nveteri stylo,julian,\nv. st.,julian,\nO. St.,julian,\njulianska kalendern,julian,\ngamla stilen,julian,\ngamma\
+l stil,julian,\ngamla stil,julian,\ngammel stil,julian,\njulianske kalender,julian,\nden julianske kalender,julian,\nde\
+n julianske kalenderen,julian,\njulianske,julian,\njuliaaninen,julian,\njuliaaninen kalenteri,julian,\nvanhaa lukua,jul\
+ian,\nvanha luku,julian,\nJulianus,julian,\nJulianus-naptár,julian,\nJulián-naptár,julian,\nJulián-naptár szerint,\
+julian,\nónaptár,julian,\nó-naptár,julian,\nrégi naptár,julian,\ncalendário juliano,julian,\nestilo antigo,julia\
+n,\nestilo velho,julian,\nestilo viejo,julian,\nviejo estilo,julian,\nJülyen,julian,\nJülyen takvimi,julian,\nJulyen,\
+julian,\nΙουλιανό,julian,\nΙουλιανό ημερολόγιο,julian,\nΙουλιανόν,julian,\nπαλα\
+ιό ημερολόγιο,julian,\nπαλαιόν ἡμερολόγιον,julian,\nπαλιό ημερολόγιο,juli\
+an,\nπ. ημ.,julian,\nπ.ημ.,julian,\nс. ст.,julian,\nс.ст.,julian,\nст.ст.,julian,\nстар. ст.,juli\
+an,\nст. стиль,julian,\nс. стиль,julian,\nстарого стиля,julian,\nстараго стиля,jul\
+ian,\nюлианский календарь,julian,\nюл.,julian,\nюліанський,julian,\nюліанський \
+календар,julian,\nстарий стиль,julian,\nстарого стилю,julian,\nза старим сти\
+лем,julian,\ncalendarium Julianum,julian,\nеврейский,hebrew,\nиудейский,hebrew,\nевр.,hebrew,\n\
+єврейський,hebrew,\nhéber,hebrew,\nzsidó,hebrew,\nhebraico,hebrew,\njudaico,hebrew,\ncalendário hebraico,h\
+ebrew,\ncalendario hebreo,hebrew,\ncalendario judío,hebrew,\nİbrani,hebrew,\nMusevi,hebrew,\nMusevî,hebrew,\nΕβρ\
+αϊκό,hebrew,\nἙβραϊκό,hebrew,\nΙουδαϊκό,hebrew,\nheprealainen,hebrew,\njuutalainen,hebrew,\nhebreis\
+k,hebrew,\nhebreiska,hebrew,\njudisk,hebrew,\njudiska,hebrew,\nhebraisk,hebrew,\nhebraiske,hebrew,\njødisk,hebrew,\nj\
+ødiske,hebrew,\nhebraicus,hebrew,\njudaicus,hebrew,\nмусульманский,islamic,\nисламский,islamic,\
+\nхиджра,islamic,\nхиджры,islamic,\nмусульманський,islamic,\nісламський,islamic,\n\
+гіджра,islamic,\niszlám,islamic,\nmohamedán,islamic,\nhidzsra,islamic,\nislâmico,islamic,\nmuçulmano,islamic,\
+\nhégira,islamic,\nhicri takvim,islamic,\nΙσλαμικό,islamic,\nΜουσουλμανικό,islamic,\nΕγίρα,i\
+slamic,\nislamilainen,islamic,\nislamisk,islamic,\nislamiska,islamic,\nmuslimsk,islamic,\nmuslimska,islamic,\nislamiske\
+,islamic,\nmuslimske,islamic,\nrep.,republican,\nrep,republican,\nrép,republican,\nrépub.,republican,\nrépubl.,repub\
+lican,\nrepub.,republican,\nrepubl.,republican,\ncalendario republicano,republican,\ncalendário republicano,republican\
+,\nреспубликанский,republican,\nфранцузский республиканский,republican,\nре\
+спубліканський,republican,\nköztársasági,republican,\nforradalmi,republican,\nrepublikansk,republican,\
+\nrepublikanska,republican,\nrepublikanske,republican,\ntasavaltalainen,republican,\ncopt.,coptic,\ncopt,coptic,\nко\
+птский,coptic,\nкоптський,coptic,\ncopta,coptic,\nKıpti,coptic,\nKıptî,coptic,\nΚοπτικό,coptic\
+,\nkoptilainen,coptic,\nkoptisk,coptic,\nkoptiska,coptic,\nkoptiske,coptic,\neth.,ethiopic,\nэфиопский,ethiopi\
+c,\nефіопський,ethiopic,\netióp,ethiopic,\netíope,ethiopic,\nHabeş,ethiopic,\nΑιθιοπικό,ethiopic,\
+\netiopialainen,ethiopic,\netiopisk,ethiopic,\netiopiska,ethiopic,\netiopiske,ethiopic,\nегипетский,egyptian,\
+\nєгипетський,egyptian,\negyiptomi,egyptian,\negípcio,egyptian,\nΑιγυπτιακό,egyptian,\negyptiläi\
+nen,egyptian,\negyptisk,egyptian,\negyptiska,egyptian,\negyptiske,egyptian,\nægyptisk,egyptian,\nармянский,ar\
+menian,\nвірменський,armenian,\nörmény,armenian,\narmênio,armenian,\narménio,armenian,\nErmeni,armenian,\
+\nΑρμενικό,armenian,\narmenialainen,armenian,\narmenisk,armenian,\narmeniska,armenian,\narmensk,armenian,\narme\
+nske,armenian,\nримский,roman,\nримський,roman,\nrómai,roman,\nΡωμαϊκό,roman,\nroomalainen,roman\
+,\nromersk,roman,\nromerska,roman,\nromerske,roman,\n\
+");

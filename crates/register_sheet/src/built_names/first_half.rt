@@ -499,8 +499,7 @@ reißig,32,\nzwei und dreyßig,32,\nzwey und dreyßig,32,\ndreiunddreißig,33,\n
 33,\ndrey und dreyßig,33,\nvierunddreißig,34,\nvierunddreyßig,34,\nvier und dreißig,34,\nvier und dreyßig,34,\nfü\
 nfunddreißig,35,\nfünfunddreyßig,35,\nfünf und dreißig,35,\nfünf und dreyßig,35,\nsechsunddreißig,36,\nsechsund\
 dreyßig,36,\nsechs und dreißig,36,\nsechs und dreyßig,36,\nsiebenunddreißig,37,\nsiebenunddreyßig,37,\nsieben und \
-dreißig,37,\nsieben und dreyßig,37,\nachtunddreißig,38,\nachtunddreyßig,38,\nacht und dreißig,38,\nacht und dreyß\
-ig,38,\n\
+dreißig,37,\nsieben und dreyßig,37,\nachtunddreißig,38,\nachtunddreyßig,38,\n\
 ", $rest)
     };
 }

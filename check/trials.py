@@ -1,6 +1,8 @@
 """What the checks in Python have in common: they count what they try, and show what differs."""
+import contextlib
 import csv
 import dataclasses
+import io
 import itertools
 import json
 import os
@@ -70,6 +72,19 @@ class Trials:
         """Prints the counts, and ends the program."""
         print(f"{self.passed} passed, {self.failed} failed")
         sys.exit(self.failed > 0)
+
+
+def tries_itself():
+    """Whether two texts that differ are told and counted, and two that are the same pass."""
+    own, shown = Trials(), io.StringIO()
+    with contextlib.redirect_stdout(shown):
+        found = own.compare("two texts that differ", "one", "other"), own.compare("two texts that are one", "one", "one")
+    return (found, own.passed, own.failed, shown.getvalue().startswith("FAILED: two texts that differ\n")) == ((False, True), 1, 1, True)
+
+
+if not tries_itself():
+    print("FAILED: the comparison of texts", "0 passed, 1 failed", sep="\n")
+    sys.exit(1)
 
 
 def program_of(path, launcher="register"):

@@ -29,4 +29,19 @@ function end() {
   process.exitCode = failed ? 1 : 0;
 }
 
+// What differs is told and counted, and what is the same passes.
+function triesItself() {
+  const { log } = console, said = [];
+  console.log = (words) => said.push(words);
+  const found = [check('two that differ', [1], [2]), check('two that are one', [1], [1])], counts = [passed, failed];
+  console.log = log;
+  [passed, failed] = [0, 0];
+  return `${found} ${counts} ${said.length}` === 'false,true 1,1 1' && said[0].startsWith('FAILED: two that differ');
+}
+
+if (!triesItself()) {
+  console.log('FAILED: the comparison of values\n0 passed, 1 failed');
+  process.exit(1);
+}
+
 module.exports = { check, end, tryAll };

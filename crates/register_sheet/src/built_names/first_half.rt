@@ -499,7 +499,9 @@ reißig,32,\nzwei und dreyßig,32,\nzwey und dreyßig,32,\ndreiunddreißig,33,\n
 33,\ndrey und dreyßig,33,\nvierunddreißig,34,\nvierunddreyßig,34,\nvier und dreißig,34,\nvier und dreyßig,34,\nfü\
 nfunddreißig,35,\nfünfunddreyßig,35,\nfünf und dreißig,35,\nfünf und dreyßig,35,\nsechsunddreißig,36,\nsechsund\
 dreyßig,36,\nsechs und dreißig,36,\nsechs und dreyßig,36,\nsiebenunddreißig,37,\nsiebenunddreyßig,37,\nsieben und \
-dreißig,37,\nsieben und dreyßig,37,\nachtunddreißig,38,\nachtunddreyßig,38,\n\
+dreißig,37,\nsieben und dreyßig,37,\nachtunddreißig,38,\nachtunddreyßig,38,\nacht und dreißig,38,\nacht und dreyß\
+ig,38,\nneununddreißig,39,\nneununddreyßig,39,\nneun und dreißig,39,\nneun und dreyßig,39,\nvierzig,40,\neinundvier\
+zig,41,\nein und vierzig,41,\n\
 ", $rest)
     };
 }

@@ -1,6 +1,6 @@
 -- Tokens spell the text, and its end is found from the left.
 use Rattle.std.proofs.Common.{◌≡◌, ℕ, zero, suc, ◌+◌, ◌≤◌, Bool, true, false, List, [], ◌∷◌, ◌++◌, cond, length, refl, sym, ap}
-use Rattle.std.proofs.Common.{◌∙◌, arith, take, drop, append_assoc, append-nil, map, Some}
+use Rattle.std.proofs.Common.{◌∙◌, arith, take, drop, append_assoc, append-nil}
 use Rattle.std.specs.List.{list_any}
 use Rattle.std.proofs.lemmas.Bool.{or_parts}
 use Rattle.std.proofs.lemmas.List.{take-append-drop}
@@ -13,7 +13,7 @@ use Rattle.written_dates.proofs.KindLemmas.{has_kind, none_of_kind}
 use Rattle.written_dates.proofs.KeyLemmas.{drop_drop}
 use Rattle.date_texts.specs.declared.calendar.Calendar.TheVariants.{Gregorian}
 use Rattle.written_dates.specs.declared.fields.CalendarName.{CalendarName}
-use Rattle.written_dates.specs.Fields.{bare_end, is_blank, kept_end, spelling, entry, is_other, first_twofold, without_blanks}
+use Rattle.written_dates.specs.Fields.{bare_end, is_blank, kept_end, spelling, without_blanks}
 
 spelled_front : (a : Piece) (ts : List Piece) → spelling (in_front a ts) ≡ a.text ++ spelling ts
 unfolding in_front
@@ -82,21 +82,9 @@ pub drops_more : (text rest after x : List ℕ) (place : ℕ) → rest ≡ drop 
 drops_more text rest after x place e f =
     sym (drop_drop place (length x) text ∙ ap (λ xs. drop (length x) xs) (sym e ∙ f) ∙ drop-append_seam x after)
 
--- ---- names that mean two calendars, by places
 -- what a read past the end gives
 abbrev pub no_name : CalendarName
 no_name = record { text = record { ref_ptr = (0, 0); now = [] }; calendar = Gregorian }
-
-pub twofold_here : (names : List CalendarName) (at : ℕ) (name : CalendarName) → drop at names ≡ name ∷ drop (at + 1) names
-    → list_any (is_other (entry name)) (map entry (drop (at + 1) names)) ≡ true
-    → first_twofold at (map entry (drop at names)) ≡ Some at
-twofold_here names at name there has = rw (there, has) refl
-
-pub twofold_later : (names : List CalendarName) (at : ℕ) (name : CalendarName)
-    → drop at names ≡ name ∷ drop (at + 1) names
-    → list_any (is_other (entry name)) (map entry (drop (at + 1) names)) ≡ false
-    → first_twofold (at + 1) (map entry (drop (at + 1) names)) ≡ first_twofold at (map entry (drop at names))
-twofold_later names at name there has = rw (there, has) refl
 
 -- ---- a text without a byte that may be of a blank
 bare_whole : (ts : List Piece) → has_kind is_blank ts ≡ false → bare ts ≡ ts

@@ -1,7 +1,7 @@
 -- Numbers and items are read from the left.
 use Rattle.std.proofs.Common.{◌≡◌, ◌≢◌, ℕ, zero, suc, ◌+◌, ◌-◌, ◌*◌, ◌^◌, ◌≤◌, ◌<◌, Bool, true, false, List, [], ◌∷◌}
-use Rattle.std.proofs.Common.{◌++◌, ◌&&◌, length, refl, sym, ap, ◌∙◌, arith, get_or, take, drop, nat_le}
-use Rattle.std.proofs.Common.{Option, Some, None, lit<, add-one, ◌==◌, append_assoc, append-nil, length-append}
+use Rattle.std.proofs.Common.{◌&&◌, length, refl, sym, ap, ◌∙◌, arith, get_or, take, drop, nat_le}
+use Rattle.std.proofs.Common.{Option, Some, None, lit<, add-one, ◌==◌}
 use Rattle.std.proofs.Math.Nat.{pow-le-pow_right, pow-succ'}
 use Rattle.std.specs.Char.{is_ascii_digit}
 use Rattle.std.specs.List.{list_all}
@@ -10,7 +10,6 @@ use Rattle.std.proofs.lemmas.List.Folds.{list_all_more}
 use Rattle.std.proofs.lemmas.List.Sums.{fold-append}
 use Rattle.std.proofs.lemmas.Bool.Decides.{nat_tests}
 use Rattle.written_dates.specs.declared.items.Number.{Number}
-use Rattle.written_dates.specs.declared.items.Item.{Item}
 use Rattle.written_dates.specs.declared.meanings.Meaning.{Meaning}
 use Rattle.written_dates.specs.declared.meanings.Meaning.TheVariants.{Nothing}
 use Rattle.written_dates.specs.declared.meanings.Name.{Name}

@@ -1,8 +1,7 @@
 -- What is read is what was written.
-use Rattle.std.proofs.Common.{◌≡◌, inl, inr, ℕ, zero, suc, ◌+◌, ◌-◌, ◌*◌, ◌<◌, ◌≤◌, Bool, true, false, not, ◌&&◌, ◌||◌}
-use Rattle.std.specs.Prelude.{⊤}
-use Rattle.std.proofs.Common.{cond, refl, sym, ap, arith, List, [], ◌∷◌, ◌++◌, Option, Some, None, ◌∙◌, subst, ◌==◌, nat_le, nat_lt}
-use Rattle.std.specs.List.{filter, list_all, All, Contains}
+use Rattle.std.proofs.Common.{◌≡◌, inl, inr, ℕ, suc, ◌+◌, ◌<◌, ◌≤◌, Bool, true, false, not, ◌&&◌, ◌||◌}
+use Rattle.std.proofs.Common.{cond, refl, sym, ap, arith, List, [], ◌∷◌, ◌++◌, Option, Some, None, ◌∙◌, subst, nat_le, nat_lt}
+use Rattle.std.specs.List.{filter, list_all, All}
 use Rattle.std.proofs.lemmas.Bool.{true≢false}
 use Rattle.std.proofs.lemmas.Bool.Decides.{nat_tests}
 use Rattle.std.proofs.lemmas.List.Elements.{All-cons, All-contains}
@@ -34,17 +33,15 @@ use Rattle.written_dates.specs.Items.{is_long}
 use Rattle.written_dates.specs.Sums.{found_items}
 use Rattle.written_dates.specs.Signs.{bare, begins_with_dash, has_bar_between, has_minus, has_mixed_signs, has_other, three_runs}
 use Rattle.written_dates.specs.Signs.{runs_behind_minus}
-use Rattle.written_dates.specs.Rules.{beside_weekday, roman_reading, or_reading, civil, month_between, is_year_first, is_month_between}
-use Rattle.written_dates.specs.Weekdays.{is_on, is_on_by, IsOn, IsOnBy, first_on, if_no_other, numbered_weekday}
+use Rattle.written_dates.specs.Rules.{roman_reading, or_reading, civil, month_between, is_year_first, is_month_between}
+use Rattle.written_dates.specs.Weekdays.{is_on, is_on_by, IsOn, IsOnBy, numbered_weekday}
 use Rattle.written_dates.specs.Written.{agrees, answer, answer_by, date_by_rule, date_in, date_of, date_or_stays, has_year}
 use Rattle.written_dates.specs.Written.{if_agreed, in_month, is_half_year, items_answer, month_and_day, reading_by, short_rule, written_form}
 use Rattle.written_dates.specs.ReadLaws.{if_on, WeekdaysOnlyTest, DecadeDaysAgree, MixedSignsStay, DaysToDaysStay}
 use Rattle.written_dates.specs.ReadLaws.{IsRead, WeekdaysAgree, UsesAll, AreYearMonthDay, IsMonthItem, IsDayItem}
 use Rattle.written_dates.specs.ReadLaws.{NothingIsLeftOver, LongNumbersAreYears, MonthsAreMonths, YearWordsNameYears}
-use Rattle.written_dates.specs.ReadLaws.{NumberedWeekdays, MinusesAreNotRead, MinusesStay, YearsOfTheRepublic, is_no_weekday}
+use Rattle.written_dates.specs.ReadLaws.{MinusesAreNotRead, MinusesStay, YearsOfTheRepublic, is_no_weekday}
 use Rattle.written_dates.specs.ReadLaws.{is_numeral, IsOfChurch, IsRepublican, NamedYearsAreWhole, DaysStandBehindMonths, RomanNumbersAreMonths}
-use Rattle.written_dates.specs.declared.stops.Stop.TheVariants as stops
-use Rattle.written_dates.specs.Stops.{stop, stop_by, missing, missing_in, IsNotOn, SaysOtherWeekday, OtherWeekdaysStop}
 use Rattle.written_dates.proofs.DayLemmas.{on_parts}
 use Rattle.written_dates.proofs.LawLemmas.{long_kept}
 use Rattle.written_dates.proofs.UseLemmas.{Uses, civil_uses}

@@ -1,14 +1,12 @@
 -- The field that names a record's calendar.
-use Rattle.std.specs.Prelude.{ℕ, ◌+◌, Bool, true, false, not, ◌&&◌, ◌==◌, if◌then◌else◌, List, [], ◌∷◌, ◌++◌, map}
+use Rattle.std.specs.Prelude.{ℕ, Bool, true, false, if◌then◌else◌, List, [], ◌∷◌, ◌++◌, map}
 use Rattle.std.specs.Prelude.{Option, Some, None}
-use Rattle.std.specs.List.{list_any}
 use Rattle.written_dates.specs.declared.tokens.Kind.{Kind}
 use Rattle.written_dates.specs.declared.tokens.Kind.TheVariants.{Blank}
 use Rattle.date_texts.specs.declared.calendar.Calendar.{Calendar}
 use Rattle.written_dates.specs.declared.fields.CalendarName.{CalendarName}
 use Rattle.written_dates.specs.declared.fields.CalendarNames.{CalendarNames}
 use Rattle.date_texts.specs.Calendars.{calendar_name}
-use Rattle.written_dates.specs.Calendars.{place}
 use Rattle.written_dates.specs.Tokens.{Piece, tokens}
 use Rattle.written_dates.specs.Signs.{bare}
 use Rattle.written_dates.specs.Words.{same_word}
@@ -54,15 +52,6 @@ meant_by (e ∷ rest) text = if same_word e.0 text then Some e.1 else meant_by r
 -- the calendar that a field means
 abbrev pub calendar_meant : List (List ℕ × Calendar) → List ℕ → Option Calendar
 calendar_meant names field = meant_by names (without_blanks field)
-
--- one name means two calendars
-abbrev pub is_other : List ℕ × Calendar → List ℕ × Calendar → Bool
-is_other a b = same_word a.0 b.0 && not (place a.1 == place b.1)
-
--- the place of the first name that means another calendar further on, of which the first one has this place
-abbrev pub first_twofold : ℕ → List (List ℕ × Calendar) → Option ℕ
-first_twofold at [] = None
-first_twofold at (e ∷ rest) = if list_any (is_other e) rest then Some at else first_twofold (at + 1) rest
 
 abbrev pub or_field : List ℕ → Option Calendar → List ℕ
 or_field field None = field

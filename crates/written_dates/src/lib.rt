@@ -23,11 +23,11 @@ mod words;
 mod written;
 
 pub use calendars::{Form, form_of};
-pub use fields::{CalendarName, CalendarNames, CalendarNamesError, without_blanks};
+pub use fields::{CalendarName, CalendarNames, without_blanks};
 pub use items::{Item, Number, is_long, items_of};
 pub use joining::{count_bars, has_mixed_signs, has_other_signs_between, is_bar};
 pub use meanings::{Calendars, Mark, Meaning, Name, Relation, Word};
-pub use names::{ListFault, NameFault, Names, NamesError};
+pub use names::{Names, is_name};
 pub use roman::roman_number;
 pub use rules::{InYear, Order, Reading, beside_weekday, is_year_first, plain_of};
 pub use signs::{bare, is_blank, is_dash, runs_behind_minus, signs_of};

@@ -7,8 +7,8 @@ use date_texts::{Calendar, calendar_named};
 use day_numbers::Weekday;
 use std::alloc::{AllocError, Global};
 use written_dates::{
-    Calendars, Choice, ListFault, Mark, Meaning, Name, NameFault, Names, NamesError, Order,
-    Relation, Short, Stop, date_beside_weekday, roman_number, stop_of, unknown_word, write_date,
+    Calendars, Choice, Mark, Meaning, Name, Names, Order, Relation, Short, Stop,
+    date_beside_weekday, is_name, roman_number, stop_of, unknown_word, write_date,
 };
 
 /// Names: a text, what it means, and the calendars in which it does, none for all.
@@ -437,71 +437,28 @@ fn dates_are_stopped(rt: HostRuntime) {
     assert!(rt; wrong.is_none(), "at {wrong:?}");
 }
 
-/// Names, as above, with a sign `;` between them, and the first fault of the list, with the place of the name that has
-/// it; or `sound`.
-static LISTS: &str = "\
-Mai|month 5|gregorian;MAI.|month 5|;Mai|2|french=1 TwoMeanings
-Mai|month 5|gregorian;MAI.|month 5|=sound
-Mai|month 5|gregorian;mai|month 4|julian=sound
-Mai|month 5|gregorian;7|3|;mai|month 4|=0 TwoMeanings
-Mai|month 5|gregorian;Mai|month 4|gregorian;Mai?||=0 TwoMeanings
-7bris|month 9|;7 Bris|month 9|;7.bris|month 10|roman=0 TwoMeanings
-Adar|month 12|;Adar II|month 13|=sound
-Mai?|month 5|=0 Character
-Mai|month 5|;(Mai)|month 5|=1 Character
-.-|month 5|=0 NoWord
- ||=0 NoWord
-Mai|month 0|=0 NoMeaning
-Mai|month 13|=sound
-Mai|month 14|=0 NoMeaning
-cc|999999999|=sound
-cc|1000000000|=0 NoMeaning
-décadi|decade 10|=sound
-décadi|decade 11|=0 NoMeaning
-décadi|decade 0|=0 NoMeaning
-décadi|decade 10|french;décadi|decade 1|french=0 TwoMeanings
-Kal|K|;kal|N|=0 TwoMeanings
-Kal|K|;kal|K|=sound
-=sound
-";
-
-/// The name of a fault.
-fn name_of(fault: NameFault) -> &'static str {
-    match fault {
-        NameFault::Character => "Character",
-        NameFault::NoWord => "NoWord",
-        NameFault::NoMeaning => "NoMeaning",
-        NameFault::TwoMeanings => "TwoMeanings",
-    }
-}
-
-/// Whether this is said of a list of names: a place and a fault, or that it is sound.
-fn is_said(alloc: Global, listed: &[Name], wanted: &str) -> bool {
-    match Names::checked(alloc, listed) {
-        Ok(_) => wanted == "sound",
-        Err(NamesError::Memory) => false,
-        Err(NamesError::Fault(ListFault { place, fault })) => match wanted.split_once(' ') {
-            Some((at, name)) => at.parse() == Ok(place) && name == name_of(fault),
-            None => false,
-        },
-    }
-}
-
-/// Whether the list on a line has the fault there.
-fn has_fault(alloc: Global, line: &str) -> bool {
-    let Some((list, wanted)) = line.split_once('=') else {
-        return false;
-    };
-    match names_in(alloc, list, ';') {
-        Ok(listed) => is_said(alloc, listed.as_slice(), wanted),
-        Err(_) => false,
-    }
-}
+/// Texts, and whether they can be names in dates.
+static TEXTS: [(&str, bool); 14] = [
+    ("Mai", true),
+    ("MAI.", true),
+    ("7.bris", true),
+    ("d'août", true),
+    ("Dhu-l-Hijja", true),
+    ("1\u{a0}er", true),
+    ("7", true),
+    ("Mai(", false),
+    ("Mai?", false),
+    ("(Mai)", false),
+    (".-", false),
+    (" ", false),
+    ("\u{2013}", false),
+    ("", false),
+];
 
 #[test]
-fn lists_have_faults(rt: HostRuntime) {
-    for line in LISTS.lines() {
-        assert!(rt; has_fault(rt.alloc(), line), "at {line:?}");
+fn names_are_told(rt: HostRuntime) {
+    for (text, is) in TEXTS {
+        assert!(rt; is_name(text.as_bytes()) == is, "at {text:?}");
     }
 }
 

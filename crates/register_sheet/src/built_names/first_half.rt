@@ -14,21 +14,21 @@ au style,gregorian,\nnieuwe stijl,gregorian,\nstile nuovo,gregorian,\nnuevo esti
 \nnowy styl,gregorian,\nnového stylu,gregorian,\nstilo novo,gregorian,\nstylo novo,gregorian,\nGregorian calendar,greg\
 orian,\nJulian,julian,\njulianisch,julian,\njulianischer Kalender,julian,\njul.,julian,\njul,julian,\njulien,julian,\nc\
 alendrier julien,julian,\njuliaans,julian,\njuliaanse kalender,julian,\ngiuliano,julian,\ncalendario giuliano,julian,\n\
-juliano,julian,\njuliański,julian,\nkalendarz juliański,julian,\njuliánský,julian,\njuliánský kalendář,julian,\
-\na. St.,julian,\na.St.,julian,\na. S.,julian,\nalter Stil,julian,\nalten Stils,julian,\nO.S.,julian,\nO. S.,julian,\nO\
-S,julian,\nOld Style,julian,\nvieux style,julian,\noude stijl,julian,\nstile vecchio,julian,\nestilo antiguo,julian,\ns\
-tarego stylu,julian,\nstary styl,julian,\nstarého stylu,julian,\nstilo vetere,julian,\nstylo veteri,julian,\nJulian ca\
-lendar,julian,\nHebrew,hebrew,\nJewish,hebrew,\nhebräisch,hebrew,\njüdisch,hebrew,\njüdischer Kalender,hebrew,\nhéb\
-reu,hebrew,\njuif,hebrew,\nhébraïque,hebrew,\ncalendrier hébraïque,hebrew,\nhebreeuws,hebrew,\njoods,hebrew,\nhebre\
-o,hebrew,\njudío,hebrew,\nhebrajski,hebrew,\nżydowski,hebrew,\nhebrejský,hebrew,\nžidovský,hebrew,\nHebrew calenda\
-r,hebrew,\nJewish calendar,hebrew,\nIslamic,islamic,\nHijri,islamic,\nMuslim,islamic,\nislamisch,islamic,\nislamischer \
-Kalender,islamic,\nmuslimisch,islamic,\nmohammedanisch,islamic,\nmusulman,islamic,\nislamique,islamic,\nhégirien,islam\
-ic,\nislamitisch,islamic,\nislamico,islamic,\nmusulmano,islamic,\nislámico,islamic,\nmusulmán,islamic,\nislamski,isla\
-mic,\nmuzułmański,islamic,\nislámský,islamic,\nmuslimský,islamic,\nhicri,islamic,\nHedschra,islamic,\nHidschra,isl\
-amic,\nhégire,islamic,\nHegira,islamic,\nHijra,islamic,\nhidżra,islamic,\nhidžra,islamic,\nHicrî,islamic,\nA.H.,isl\
-amic,\nAH,islamic,\nIslamic calendar,islamic,\nRepublican,republican,\nebraico,hebrew,\nFrench Republican,republican,\n\
-republikanisch,republican,\nRevolutionskalender,republican,\nfranzösisch-republikanisch,republican,\nfranzösischer Re\
-volutionskalender,republican,\nrépublicain,republican,\ncalendrier républicain,republican,\ncalendario juliano,julian\
+juliano,julian,\ncalendario juliano,julian,\njuliański,julian,\nkalendarz juliański,julian,\njuliánský,julian,\njul\
+iánský kalendář,julian,\na. St.,julian,\na.St.,julian,\na. S.,julian,\nalter Stil,julian,\nalten Stils,julian,\nO.S\
+.,julian,\nO. S.,julian,\nOS,julian,\nOld Style,julian,\nvieux style,julian,\noude stijl,julian,\nstile vecchio,julian,\
+\nestilo antiguo,julian,\nstarego stylu,julian,\nstary styl,julian,\nstarého stylu,julian,\nstilo vetere,julian,\nstyl\
+o veteri,julian,\nJulian calendar,julian,\nHebrew,hebrew,\nJewish,hebrew,\nhebräisch,hebrew,\njüdisch,hebrew,\njüdis\
+cher Kalender,hebrew,\nhébreu,hebrew,\njuif,hebrew,\nhébraïque,hebrew,\ncalendrier hébraïque,hebrew,\nhebreeuws,he\
+brew,\njoods,hebrew,\nebraico,hebrew,\nhebreo,hebrew,\njudío,hebrew,\nhebrajski,hebrew,\nżydowski,hebrew,\nhebrejský\
+,hebrew,\nžidovský,hebrew,\nHebrew calendar,hebrew,\nJewish calendar,hebrew,\nIslamic,islamic,\nHijri,islamic,\nMusli\
+m,islamic,\nislamisch,islamic,\nislamischer Kalender,islamic,\nmuslimisch,islamic,\nmohammedanisch,islamic,\nmusulman,i\
+slamic,\nislamique,islamic,\nhégirien,islamic,\nislamitisch,islamic,\nislamico,islamic,\nmusulmano,islamic,\nislámico\
+,islamic,\nmusulmán,islamic,\nislamski,islamic,\nmuzułmański,islamic,\nislámský,islamic,\nmuslimský,islamic,\nhic\
+ri,islamic,\nHedschra,islamic,\nHidschra,islamic,\nhégire,islamic,\nHegira,islamic,\nHijra,islamic,\nhidżra,islamic,\
+\nhidžra,islamic,\nHicrî,islamic,\nA.H.,islamic,\nAH,islamic,\nIslamic calendar,islamic,\nRepublican,republican,\nFre\
+nch Republican,republican,\nrepublikanisch,republican,\nRevolutionskalender,republican,\nfranzösisch-republikanisch,re\
+publican,\nfranzösischer Revolutionskalender,republican,\nrépublicain,republican,\ncalendrier républicain,republican\
 ,\nrévolutionnaire,republican,\nrepublikeins,republican,\nrepubblicano,republican,\nrepublicano,republican,\nrepublika\
 ński,republican,\nrepublikánský,republican,\nFrench Republican calendar,republican,\nCoptic,coptic,\nkoptisch,coptic\
 ,\ncopte,coptic,\ncoptisch,coptic,\ncopto,coptic,\nkoptyjski,coptic,\nkoptský,coptic,\nEthiopic,ethiopic,\nEthiopian,e\

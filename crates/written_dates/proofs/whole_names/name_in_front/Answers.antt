@@ -1,5 +1,4 @@
-use Rattle.std.proofs.Common.{◌∙◌, ◌≡◌, ◌||◌, Bool, true, false, refl, sym, rules}
-use Rattle.std.specs.Str.{bytes_eq}
+use Rattle.std.proofs.Common.{rules}
 use Rattle.written_dates.specs.Tokens.{piece}
 use Rattle.written_dates.proofs.WholeNameLemmas.{IsSoFar, more_words}
 use Rattle.written_dates.proofs.whole_names.name_in_front.Goals as goal

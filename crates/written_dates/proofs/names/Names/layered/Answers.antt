@@ -1,13 +1,14 @@
 use Rattle.std.proofs.Common.{◌≡◌, ◌-◌, ◌∙◌, rules, Some, slice_get, get_or, arith}
 use Rattle.std.proofs.lemmas.Option.{slice_get-get_or}
 use Rattle.std.proofs.lemmas.Grind.{get_or_default_zero}
+use Rattle.written_dates.specs.Keys.{key}
 use Rattle.written_dates.proofs.KeyLemmas.{indexed_more, nothing_indexed, no_name_at}
 use Rattle.written_dates.proofs.names.Names.layered.Goals as goal
 
 pub names-init : goal.names-init
 names-init c = record {
   within = omega arith;
-  indexed = nothing_indexed c.args.listed.now c.in_ok-firsts.firsts.items c.in_ok-nexts.nexts.items
+  indexed = nothing_indexed key c.args.listed.now c.in_ok-firsts.firsts.items c.in_ok-nexts.nexts.items
       (c.in_ok-firsts.ensures.items_if_clones_equal (λ y same. same)) (search rules);
 }
 
@@ -23,7 +24,7 @@ names-preserved c =
     ∙ get_or_default_zero c.names.firsts.items c.key_of_name-key.result c.index.result.now (omega (arith, keys)) in
     record {
       within = omega arith;
-      indexed = indexed_more names c.names.firsts.items c.names.nexts.items from c.names.place c.key_of_name-key.result
+      indexed = indexed_more key names c.names.firsts.items c.names.nexts.items from c.names.place c.key_of_name-key.result
           c.index.result.now name there c.key_of_name-key.ensures.value c.key_of_name-key.ensures.within next (omega arith)
           c.names.invariant.indexed;
     }

@@ -9,7 +9,7 @@ returns-clause-behind c =
     let names = c.args.self.now.listed.now in
     let found = some_at names c.args.place c.requires in
     let next : get_or c.args.self.now.nexts.items c.args.place 0
-    ≡ c.args.place + 1 + ahead (key found.0) (drop (c.args.place + 1) names)
+    ≡ c.args.place + 1 + ahead key (key found.0) (drop (c.args.place + 1) names)
     = c.args.self.now.indexed.next c.args.place found.0 (omega arith) found.1 in
     let as_many = c.args.self.now.indexed.as_many in
     let here : c.index.result.now ≡ get_or c.args.self.now.nexts.items c.args.place 0

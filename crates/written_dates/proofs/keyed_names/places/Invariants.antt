@@ -1,11 +1,11 @@
 use Rattle.std.proofs.Common.{◌≤◌, length}
-use Rattle.written_dates.specs.Keys.{HasFirsts}
-use Rattle.written_dates.proofs.keyed_names.first_places.Given as goal
+use Rattle.written_dates.specs.Keys.{IsIndexed, calendar_key}
+use Rattle.written_dates.proofs.keyed_names.places.Given as goal
 
 abbrev pub invariant-names : goal.invariant-names
 invariant-names l = record {
   within : l.place ≤ length l.names;
-  firsts : HasFirsts l.names l.firsts.items l.place;
+  indexed : IsIndexed calendar_key l.names l.firsts.items l.nexts.items l.place;
 }
 
 abbrev pub decreases-names : goal.decreases-names

@@ -1,0 +1,3 @@
+pub mod DayNames
+pub mod Names
+pub mod NameViews

@@ -1,0 +1,7 @@
+//! What days are called in the church year.
+#![tactic(auto)]
+
+mod day_names;
+mod names;
+
+pub use names::name_on;

@@ -26,7 +26,7 @@ use Rattle.church_days.specs.NameViews.{seen}
 nameless_all : (church : Church) (date : Ymd) (names : List DayName)
     → ((name : DayName) → ¬ FallsOn church date name) → IsFirst church date names None
 nameless_all church date [] never = nameless
-nameless_all church date (name ∷ rest) never = later name rest None (never name) (nameless_all church date rest never)
+nameless_all church date (name ∷ rest) never = later (never name) (nameless_all church date rest never)
 
 pub out_of_years : (church : Church) (n : ℤ) (date : Ymd)
     → IsDateOf (rules_of church) date.year date.month date.day
@@ -52,8 +52,11 @@ is_same found date same is = (
       let days = and_parts (found.month == date.month) (found.day == date.day) years.1 in
       ymd_same found date ((Decides-int_eq found.year date.year).0 years.0)
       ((Decides-eqb found.month date.month).0 days.0) ((Decides-eqb found.day date.day).0 days.1),
-  λ e. is ∙ rw e (rw ((Decides-int_eq date.year date.year).1 refl, (Decides-eqb date.month date.month).1 refl,
-      (Decides-eqb date.day date.day).1 refl) refl),
+  λ e. is ∙ rw e (rw (
+    (Decides-int_eq date.year date.year).1 refl,
+    (Decides-eqb date.month date.month).1 refl,
+    (Decides-eqb date.day date.day).1 refl,
+  ) refl),
 )
 
 pub means_date : (church : Church) (year : ℕ) (name : DayName) (found date : Ymd) (same : Bool)
@@ -79,7 +82,7 @@ pub found_here : (church : Church) (year : ℕ) (date : Ymd) (rows : List Row) (
 found_here church year date rows at lt falls =
     subst (λ (names : List DayName). IsFirst church date names (Some (get_or rows at no_row).0.now))
     (sym (at_drop_more (λ (xs : List Row). map seen xs) rows at no_row lt))
-    (named (seen (get_or rows at no_row)) (map seen (drop (at + 1) rows)) (year, falls))
+    (named (year, falls))
 
 -- the feast of another year than the date's is none on this date
 of_year : (church : Church) (year : ℕ) (date : Ymd) (name : DayName) → date.year ≡ pos year
@@ -95,8 +98,7 @@ pub found_later : (church : Church) (year : ℕ) (date : Ymd) (rows : List Row) 
 found_later church year date rows at found lt own never first =
     subst (λ (names : List DayName). IsFirst church date names found)
     (sym (at_drop_more (λ (xs : List Row). map seen xs) rows at no_row lt))
-    (later (seen (get_or rows at no_row)) (map seen (drop (at + 1) rows)) found
-    (of_year church year date (seen (get_or rows at no_row)) own never) first)
+    (later (of_year church year date (seen (get_or rows at no_row)) own never) first)
 
 pub found_none : (church : Church) (date : Ymd) (rows : List Row) (at : ℕ) → length rows ≤ at
     → IsFirst church date (map seen (drop at rows)) None

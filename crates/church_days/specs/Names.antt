@@ -14,9 +14,9 @@ FallsOn church date name = (year : ℕ) × IsFeastDate church year name.feast na
 -- the first of these names that means a date, if any does
 pub data IsFirst (church : Church) (date : Ymd) : List DayName → Option (List ℕ) → Type 0 where
   nameless : IsFirst church date [] None
-  named : (name : DayName) (rest : List DayName) → FallsOn church date name
+  named : {name : DayName} {rest : List DayName} → FallsOn church date name
       → IsFirst church date (name ∷ rest) (Some name.text)
-  later : (name : DayName) (rest : List DayName) (found : Option (List ℕ)) → ¬ FallsOn church date name
+  later : {name : DayName} {rest : List DayName} {found : Option (List ℕ)} → ¬ FallsOn church date name
       → IsFirst church date rest found → IsFirst church date (name ∷ rest) found
 
 -- day n is called so: by the first of all names that means its date

@@ -2,6 +2,7 @@
 #![tactic(auto)]
 
 mod day_names;
+pub mod laws;
 mod names;
 
 pub use names::name_on;

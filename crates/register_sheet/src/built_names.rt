@@ -742,30 +742,39 @@ artinstag,feast 11-11,gregorian julian\nMartinitag,feast 11-11,gregorian julian\
 lian\nChristtag,feast 12-25,gregorian julian\nPaschatis,easter 0,gregorian julian\nPaschatos,easter 0,gregorian julian\
 \nPfingsttag,easter 49,gregorian julian\nHimmelfahrtstag,easter 39,gregorian julian\nFronleichnamstag,easter 60,gregori\
 an julian\nChristmas Eve,feast 12-24,gregorian julian\nNew Year's Day,feast 1-1,gregorian julian\nNew Year’s Day,feas\
-t 1-1,gregorian julian\nNeujahrstag,feast 1-1,gregorian julian\nInnocentium,feast 12-28,gregorian julian\nante,,roman\n\
-ante diem,,roman\na,,roman\nden,,\nder,,\ndes,,\ndem,,\nam,,\nvom,,\nim,,\nin,,\nanno,year,\nanno domini,year,\nao,year\
-,\nAD,year,\nA D,year,\nthe,,\nof,,\non,,\nday,day,\nle,,\nla,,\ndu,,\nde,,\nl'an,year,\nl’an,year,\nan,year,\nannée\
-,year,\nl'année,year,\nl’année,year,\nen,,\nil,,\ndel,,\ndell'anno,year,\ndell’anno,year,\nel,,\ndía,day,\ndel a\
-ño,year,\naño,year,\ndnia,day,\nroku,year,\nr,year,\ndne,day,\ndie,day,\nde dato,,\nvan,,\nhet,,\ner,,\nère,,\nere,,\
-\nème,,\neme,,\nre,,\nst,,\nnd,,\nrd,,\nth,,\nte,,\nter,,gregorian julian hebrew islamic french republican\nsten,,\nst\
-e,,\ntes,,\nens,,\nº,,\nª,,\no,,\ne,,\nster,,\nyear,year,\nyear of our Lord,year,\nof our Lord,year,\nour Lord,year,\
-\nJahr,year,\nJahre,year,\nJahres,year,\nnach Christi Geburt,year,\nn Chr,year,\nanno Dni,year,\nanno salutis,year,\nan\
-ni,year,\nannus,year,\nAo Dni,year,\nA°,year,\nAº,year,\njaar,year,\njaer,year,\ndo ano,year,\nano,year,\nannée de g\
-râce,year,\nl'an de grâce,year,\nl’an de grâce,year,\nl'an de grace,year,\nl’an de grace,year,\nгода,year,\n\
-году,year,\nгодъ,year,\nгода от Рождества Христова,year,\nг,year,\nлета,year,\når,\
-year,\naar,year,\nár,year,\nAnno Christi,year,\nnell'anno,year,\nnell’anno,year,\nго,,\nого,,\nye,,\njour de,da\
-y,\nдня,day,\nчисла,day,\ndag,day,\nTag des,day,\ndì,day,\na dì,day,\nadì,day,\naddì,day,\nde la Républiqu\
-e,,french republican\nde la Republique,,french republican\nde la République française,,french republican\nde la Répu\
-blique francaise,,french republican\nde la République françoise,,french republican\nde la Republique francaise,,frenc\
-h republican\nde la Republique françoise,,french republican\nde la Republique francoise,,french republican\nde la Rép\
-ublique une et indivisible,,french republican\nde la République française une et indivisible,,french republican\nder \
-Republik,,french republican\nder fränkischen Republik,,french republican\nder französischen Republik,,french republic\
-an\nder fränk. Republik,,french republican\nder frz. Republik,,french republican\nrépublicain,,french republican\nré\
-publicaine,,french republican\nde l'ère républicaine,,french republican\nde l’ère républicaine,,french republican\
-\nfestum,,gregorian julian\nfesti,,gregorian julian\nfest,,gregorian julian\nfeast of,,gregorian julian\nfête de,,greg\
-orian julian\ndivi,,gregorian julian\ndivae,,gregorian julian\nbeate,,gregorian julian\nsancte,,gregorian julian\nfesto\
-,,gregorian julian\nin festo,,gregorian julian\nin die,day,gregorian julian\nS,,gregorian julian\nSankt,,gregorian juli\
-an\nsancti,,gregorian julian\nsanctae,,gregorian julian\nbeati,,gregorian julian\nbeatae,,gregorian julian\napostoli,,g\
-regorian julian\napostolorum,,gregorian julian\nevangelistae,,gregorian julian\narchangeli,,gregorian julian\nten jare,\
-year,\n\
+t 1-1,gregorian julian\nNeujahrstag,feast 1-1,gregorian julian\nInnocentium,feast 12-28,gregorian julian\ninfra octavam\
+,after,gregorian julian\nEpiphaniam,feast 1-6,gregorian julian\nEpiphania Domini,feast 1-6,gregorian julian\nNativitas \
+Domini,feast 12-25,gregorian julian\nCircumcisio Domini,feast 1-1,gregorian julian\nferia secunda Paschae,easter 1,greg\
+orian julian\nferia tertia Paschae,easter 2,gregorian julian\nAscensio Domini,easter 39,gregorian julian\nferia secund\
+a Pentecostes,easter 50,gregorian julian\nferia tertia Pentecostes,easter 51,gregorian julian\nConversio Pauli,feast 1-\
+25,gregorian julian\nPurificatio Mariae,feast 2-2,gregorian julian\nAnnuntiatio Mariae,feast 3-25,gregorian julian\nInv\
+entio crucis,feast 5-3,gregorian julian\nNativitas Johannis Baptistae,feast 6-24,gregorian julian\nVisitatio Mariae,fea\
+st 7-2,gregorian julian\nDivisio apostolorum,feast 7-15,gregorian julian\nAssumptio Mariae,feast 8-15,gregorian julian\
+\nDecollatio Johannis,feast 8-29,gregorian julian\nNativitas Mariae,feast 9-8,gregorian julian\nExaltatio crucis,feast \
+9-14,gregorian julian\nPraesentatio Mariae,feast 11-21,gregorian julian\nConceptio Mariae,feast 12-8,gregorian julian\n\
+ante,,roman\nante diem,,roman\na,,roman\nden,,\nder,,\ndes,,\ndem,,\nam,,\nvom,,\nim,,\nin,,\nanno,year,\nanno domini,y\
+ear,\nao,year,\nAD,year,\nA D,year,\nthe,,\nof,,\non,,\nday,day,\nle,,\nla,,\ndu,,\nde,,\nl'an,year,\nl’an,year,\nan,\
+year,\nannée,year,\nl'année,year,\nl’année,year,\nen,,\nil,,\ndel,,\ndell'anno,year,\ndell’anno,year,\nel,,\ndí\
+a,day,\ndel año,year,\naño,year,\ndnia,day,\nroku,year,\nr,year,\ndne,day,\ndie,day,\nde dato,,\nvan,,\nhet,,\ner,,\n\
+ère,,\nere,,\nème,,\neme,,\nre,,\nst,,\nnd,,\nrd,,\nth,,\nte,,\nter,,gregorian julian hebrew islamic french republica\
+n\nsten,,\nste,,\ntes,,\nens,,\nº,,\nª,,\no,,\ne,,\nster,,\nyear,year,\nyear of our Lord,year,\nof our Lord,year,\nou\
+r Lord,year,\nJahr,year,\nJahre,year,\nJahres,year,\nnach Christi Geburt,year,\nn Chr,year,\nanno Dni,year,\nanno salut\
+is,year,\nanni,year,\nannus,year,\nAo Dni,year,\nA°,year,\nAº,year,\njaar,year,\njaer,year,\ndo ano,year,\nano,year,\
+\nannée de grâce,year,\nl'an de grâce,year,\nl’an de grâce,year,\nl'an de grace,year,\nl’an de grace,year,\nг\
+ода,year,\nгоду,year,\nгодъ,year,\nгода от Рождества Христова,year,\nг,year,\nлет\
+а,year,\når,year,\naar,year,\nár,year,\nAnno Christi,year,\nnell'anno,year,\nnell’anno,year,\nго,,\nого,,\nye\
+,,\njour de,day,\nдня,day,\nчисла,day,\ndag,day,\nTag des,day,\ndì,day,\na dì,day,\nadì,day,\naddì,day,\nd\
+e la République,,french republican\nde la Republique,,french republican\nde la République française,,french republic\
+an\nde la République francaise,,french republican\nde la République françoise,,french republican\nde la Republique f\
+rancaise,,french republican\nde la Republique françoise,,french republican\nde la Republique francoise,,french republi\
+can\nde la République une et indivisible,,french republican\nde la République française une et indivisible,,french r\
+epublican\nder Republik,,french republican\nder fränkischen Republik,,french republican\nder französischen Republik,,\
+french republican\nder fränk. Republik,,french republican\nder frz. Republik,,french republican\nrépublicain,,french \
+republican\nrépublicaine,,french republican\nde l'ère républicaine,,french republican\nde l’ère républicaine,,fr\
+ench republican\nfestum,,gregorian julian\nfesti,,gregorian julian\nfest,,gregorian julian\nfeast of,,gregorian julian\
+\nfête de,,gregorian julian\ndivi,,gregorian julian\ndivae,,gregorian julian\nbeate,,gregorian julian\nsancte,,gregori\
+an julian\nfesto,,gregorian julian\nin festo,,gregorian julian\nin die,day,gregorian julian\nS,,gregorian julian\nSankt\
+,,gregorian julian\nsancti,,gregorian julian\nsanctae,,gregorian julian\nbeati,,gregorian julian\nbeatae,,gregorian jul\
+ian\napostoli,,gregorian julian\napostolorum,,gregorian julian\nevangelistae,,gregorian julian\narchangeli,,gregorian j\
+ulian\nten jare,year,\n\
 ";

@@ -1,4 +1,4 @@
-use Rattle.std.proofs.Common.{◌≡◌, ◌∙◌, sym}
+use Rattle.std.proofs.Common.{◌∙◌, sym}
 use Rattle.std.proofs.lemmas.Bool.{false≢true}
 use Rattle.church_days.proofs.NameLemmas.{found_here, found_later, found_none}
 use Rattle.church_days.proofs.names.first_of.Goals as goal

@@ -1,4 +1,4 @@
-use Rattle.std.proofs.Common.{◌+◌, ℕ, List, Option, drop, map}
+use Rattle.std.proofs.Common.{ℕ, List, Option, drop, map}
 use Rattle.church_days.specs.Names.{IsFirst}
 use Rattle.church_days.specs.NameViews.{seen}
 use Rattle.church_days.proofs.names.first_of.Given as goal

@@ -3,7 +3,7 @@
 "use strict";
 const { readFileSync } = require("fs");
 const { join } = require("path");
-const { dateIn, dayOf, monthsOf } = require("./day_counts.cjs");
+const { dateIn, dayOf, monthsOf, placed, sundayOf } = require("./day_counts.cjs");
 const {
   added, bareOf, byYear, formOf, hasMixedSigns, hasOther, isBeside, isDecadeDay, isHalfYear, isLong, isOnWeekday, itemsOf,
   ofThree, written,
@@ -46,13 +46,31 @@ function plain(items, { order, slashed, mixed }) {
   return { year: three.year, ...month(number), day };
 }
 
+// A feast, or a Sunday by its number, in a year that is never short: the day on which it is, where a church reckons.
+function ofFeast(items, year, { calendar, isDual }) {
+  const [a, b] = items, form = formOf(items), isWhole = year.value >= 1 && (year.value >= 100 || year.digits >= 3);
+  if (isDual || !isWhole || year.value > 9999 || !["gregorian", "julian"].includes(calendar)) return null;
+  const feast = form === "ns" && !isLong(a) && !a.isDay ? { sunday: [b.season, a.value] } : form === "f" ? a.feast : null;
+  if (feast === null) return null;
+  const found = feast.sunday ? sundayOf(calendar, year.value, ...feast.sunday) : placed(calendar, year.value, feast.day);
+  const date = found === null ? null : dateIn(calendar, year.value, found);
+  return date === null ? null : { year, from: date.month, to: date.month, day: date.day };
+}
+
+const endOf = items => items.length > 0 && "value" in items[items.length - 1] ? items[items.length - 1] : null;
+const feastSide = (items, by) => endOf(items) === null ? null : ofFeast(items.slice(0, -1), endOf(items), by);
+
 function parted(items) {
   if (items.length > 0 && isBeside(items[0])) return { beside: items[0], rest: items.slice(1) };
   return items.length === 4 && isBeside(items[3]) ? { beside: items[3], rest: items.slice(0, 3) } : { rest: items };
 }
 
 function extent(items, beside, by) {
-  const found = items.length > 0 ? plain(items, by) : null;
+  return checked(items.length > 0 ? plain(items, by) ?? feastSide(items, by) : null, beside, by);
+}
+
+// What is said, where its year is long and one that the calendar can have, and a weekday beside it is that of a day.
+function checked(found, beside, by) {
   if (found === null || !isLong(found.year) || isOneLetter(found.year) || beside && !found.day && found.day !== 0) return null;
   const isNone = REPUBLICAN.includes(by.calendar) && found.year.value > 99 || isHalfYear(found.year, by.calendar);
   return isNone ? null : { ...found, beside };
@@ -65,7 +83,9 @@ function leftOf(left, right, by, shared) {
   const alone = own(left, by);
   if (alone !== null) return alone;
   const { beside, rest } = parted(left), more = parted(right).rest.slice(rest.length);
-  return rest.length > 0 ? extent([...rest, ...more], beside, shared) : null;
+  if (rest.length === 0) return null;
+  const last = endOf(parted(right).rest), inYear = last === null ? null : ofFeast(rest, last, shared);
+  return extent([...rest, ...more], beside, shared) ?? checked(inYear, beside, shared);
 }
 
 // ---- sayings: a kind, and what it is said of
@@ -127,7 +147,7 @@ function dualSides(text, names, by) {
   if (cut === null) return null;
   const before = sideItems(cut[1], names), behind = sideItems(cut[2], names);
   if (before === null || behind === null || formOf(behind) !== "n") return null;
-  const left = own(withoutAbout(before), { ...by, slashed: false, mixed: hasMixedSigns(cut[1]) });
+  const left = own(withoutAbout(before), { ...by, slashed: false, mixed: hasMixedSigns(cut[1]), isDual: true });
   if (left === null || left.year.value >= 99999) return null;
   const [next] = behind, later = left.year.value + 1;
   const isNext = next.value === later || next.digits === 2 && next.value === later % 100;

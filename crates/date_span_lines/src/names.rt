@@ -1,5 +1,6 @@
 //! Names and what they mean.
 
+use church_year::{Anchor, Feast, Season};
 use date_texts::calendar_named;
 use day_numbers::Weekday;
 use std::alloc::{AllocError, Global};
@@ -42,12 +43,69 @@ fn word_meaning(text: &str) -> Option<Meaning> {
     }
 }
 
+/// The number that a text is, of one byte.
+fn small_number(text: &str) -> u8 {
+    (number_of(text) & 0xFF) as u8
+}
+
+/// The days, or days before, that a text is, or 0.
+fn days_of(text: &str) -> i16 {
+    match text.parse::<i16>() {
+        Ok(days) => days,
+        Err(_) => 0,
+    }
+}
+
+fn season_of(text: &str) -> Option<Season> {
+    match text {
+        "epiphany" => Some(Season::Epiphany),
+        "lent" => Some(Season::Lent),
+        "easter" => Some(Season::Easter),
+        "pentecost" => Some(Season::Pentecost),
+        "trinity" => Some(Season::Trinity),
+        "advent" => Some(Season::Advent),
+        _ => None,
+    }
+}
+
+/// A feast of a month, as `9-29`, or so many days from one, as `3-1 -5`.
+fn feast_of_month(text: &str) -> Option<Feast> {
+    let (date, days) = match text.split_once(' ') {
+        Some((date, days)) => (date, days_of(days)),
+        None => (text, 0),
+    };
+    let (month, day) = date.split_once('-')?;
+    let anchor = Anchor::Fixed(small_number(month), small_number(day));
+    Some(Feast::Day(anchor, days))
+}
+
+fn feast_of(text: &str) -> Option<Feast> {
+    if let Some(days) = text.strip_prefix("easter ") {
+        return Some(Feast::Day(Anchor::Easter, days_of(days)));
+    }
+    if let Some(rest) = text.strip_prefix("feast ") {
+        return feast_of_month(rest);
+    }
+    let (season, number) = text.strip_prefix("sunday ")?.split_once(' ')?;
+    Some(Feast::Sunday(season_of(season)?, small_number(number)))
+}
+
+fn sundays_of(text: &str) -> Option<Season> {
+    season_of(text.strip_prefix("sundays ")?)
+}
+
 fn meaning_of(text: &str) -> Meaning {
     if let Some(meaning) = word_meaning(text) {
         return meaning;
     }
+    if let Some(feast) = feast_of(text) {
+        return Meaning::Feast(feast);
+    }
+    if let Some(season) = sundays_of(text) {
+        return Meaning::Sundays(season);
+    }
     if let Some(number) = text.strip_prefix("month ") {
-        return Meaning::Month((number_of(number) & 0xFF) as u8);
+        return Meaning::Month(small_number(number));
     }
     if let Some(number) = text.strip_prefix("weekday ") {
         return Meaning::Weekday(weekday_of(number_of(number)));

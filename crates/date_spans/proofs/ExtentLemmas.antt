@@ -3,6 +3,7 @@ use Rattle.std.proofs.Common.{◌≡◌, ◌≤◌, ◌<◌, Bool, true, false, 
 use Rattle.std.proofs.Common.{arith, append-nil}
 use Rattle.std.proofs.lemmas.List.{drop_all}
 use Rattle.std.specs.List.{list_any}
+use Rattle.date_texts.specs.declared.calendar.Calendar.{Calendar}
 use Rattle.written_dates.specs.declared.items.Item.{Item}
 use Rattle.written_dates.specs.declared.items.Item.TheVariants.{Adar, DecadeDay, Weekday}
 use Rattle.written_dates.specs.declared.rules.Order.{Order}
@@ -10,7 +11,7 @@ use Rattle.written_dates.specs.Rules.{beside_weekday, plain_reading}
 use Rattle.written_dates.specs.Tokens.{tokens}
 use Rattle.date_spans.specs.declared.extents.Signs.{Signs}
 use Rattle.date_spans.specs.Extents.{as_month, is_adar, named_extent, plain_extent}
-use Rattle.date_spans.specs.Sayings.{completed}
+use Rattle.date_spans.specs.FeastSides.{bare_side}
 
 pub few_beside : (items : List Item) → length (beside_weekday items) ≤ length items
 few_beside (Weekday w ∷ rest) = omega arith
@@ -42,11 +43,10 @@ pub without_signs : (order : Order) (items : List Item)
 unfolding tokens
 without_signs order items = refl
 
-pub complete_already : (signs : Signs) (order : Order) (items right : List Item) → 0 < length items
-    → length right ≤ length items → plain_extent signs order items ≡ completed signs order items right
-complete_already signs order [] right some few = absurd (omega arith)
-complete_already signs order (item ∷ left) right some few =
-    let same : (item ∷ left) ++ drop (length (item ∷ left)) right ≡ item ∷ left
-    = ap (λ (xs : List Item). (item ∷ left) ++ xs) (drop_all (length (item ∷ left)) right few)
-    ∙ append-nil (item ∷ left) in
-    sym (ap (plain_extent signs order) same)
+pub complete_already : (calendar : Calendar) (signs : Signs) (order : Order) (items right : List Item)
+    → length right ≤ length items
+    → bare_side calendar signs order items ≡ bare_side calendar signs order (items ++ drop (length items) right)
+complete_already calendar signs order items right few =
+    let same : items ++ drop (length items) right ≡ items
+    = ap (λ (xs : List Item). items ++ xs) (drop_all (length items) right few) ∙ append-nil items in
+    sym (ap (bare_side calendar signs order) same)

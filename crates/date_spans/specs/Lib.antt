@@ -1,6 +1,7 @@
 pub mod Months
 pub mod Laws
 pub mod Extents
+pub mod FeastSides
 pub mod Sayings
 pub mod Ends
 pub mod Cuts

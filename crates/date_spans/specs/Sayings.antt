@@ -20,7 +20,8 @@ use Rattle.date_spans.specs.declared.sayings.Kind.TheVariants as kinds
 use Rattle.date_spans.specs.declared.sayings.RangeSigns.{RangeSigns}
 use Rattle.date_spans.specs.declared.sayings.Said.{Said}
 use Rattle.date_spans.specs.declared.sayings.Said.TheVariants as said
-use Rattle.date_spans.specs.Extents.{extent_of, if_year, or_else, plain_extent, weekday_among, with_weekday, year_in}
+use Rattle.date_spans.specs.Extents.{extent_of, if_year, or_else, weekday_among, with_weekday, year_in}
+use Rattle.date_spans.specs.FeastSides.{bare_side, in_year_of, side_of}
 
 abbrev pub is_about_word : Word → Bool
 is_about_word words.About = true
@@ -37,25 +38,26 @@ without_about (first ∷ rest) = if is_about first then rest else first ∷ rest
 
 -- what a side says by itself
 abbrev pub piece : Calendar → Signs → Order → List Item → Option Extent
-piece calendar signs order items = extent_of calendar signs order (without_about items)
+piece calendar signs order items = side_of calendar signs order (without_about items)
 
 abbrev pub both : Bool → Option Extent → Option Extent → Option Said
 both true (Some a) (Some b) = Some (said.Between a b)
 both false (Some a) (Some b) = Some (said.Range a b)
 both between a b = None
 
--- items, with what they lack of those of the right side; nothing where there are none
-abbrev pub completed : Signs → Order → List Item → List Item → Option Extent
-completed signs order [] right = None
-completed signs order (item ∷ left) right =
-    plain_extent signs order ((item ∷ left) ++ drop (length (item ∷ left)) right)
+-- items, with what they lack of those of the right side, or a feast in its year; nothing where there are none
+abbrev pub completed : Calendar → Signs → Order → List Item → List Item → Option Extent
+completed calendar signs order [] right = None
+completed calendar signs order (item ∷ left) right =
+    or_else (bare_side calendar signs order ((item ∷ left) ++ drop (length (item ∷ left)) right))
+    (in_year_of calendar (item ∷ left) right)
 
 -- a left side that says nothing by itself has behind it what it lacks of the right side's items, weekdays aside
 abbrev pub left_of : Calendar → RangeSigns → Order → List Item → List Item → Option Extent
 left_of calendar signs order left right =
-    or_else (extent_of calendar signs.left order left)
+    or_else (side_of calendar signs.left order left)
     (if_year calendar (with_weekday (weekday_among left)
-    (completed signs.shared order (beside_weekday left) (beside_weekday right))))
+    (completed calendar signs.shared order (beside_weekday left) (beside_weekday right))))
 
 -- from one side to the other, or between both
 abbrev pub range_of : Bool → Calendar → RangeSigns → Order → List Item → List Item → Option Said
@@ -126,6 +128,10 @@ abbrev pub said_of_sides : Calendar → RangeSigns → Order → List Item → L
 said_of_sides calendar signs order left right =
     range_of (is_between left) calendar signs order (left_side left) right
 
+-- what is said before the slash of a dual year: no feast, which is on another day in the other year
+abbrev pub before_slash : Calendar → Signs → Order → List Item → Option Extent
+before_slash calendar signs order items = extent_of calendar signs order (without_about items)
+
 -- the year after a year, and whether a number behind a slash says it: in full, or by its last two digits
 abbrev pub next_year : Numeral → Numeral
 next_year y = record { value = y.value + 1; digits = y.digits; named = y.named; year = y.year; day = y.day }
@@ -178,8 +184,8 @@ is_dual_by (Some left) (Number z ∷ []) = is_next (year_in left) z
 is_dual_by left right = false
 
 abbrev pub is_dual_of : Calendar → Signs → Order → List Item → List Item → Bool
-is_dual_of calendar signs order left right = is_dual_by (piece calendar signs order left) right
+is_dual_of calendar signs order left right = is_dual_by (before_slash calendar signs order left) right
 
 -- what the items before and behind a slash say
 abbrev pub said_of_dual : Calendar → Signs → Order → List Item → List Item → Option Said
-said_of_dual calendar signs order left right = dual_by calendar (piece calendar signs order left) right
+said_of_dual calendar signs order left right = dual_by calendar (before_slash calendar signs order left) right

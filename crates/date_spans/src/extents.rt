@@ -56,7 +56,7 @@ pub struct Signs {
 }
 
 /// Whether a number is a Roman one of one letter that is long.
-fn is_letter(number: Number) -> bool
+pub fn is_letter(number: Number) -> bool
     ensures { result ≡ letter_spec number }
 {
     !number.year
@@ -140,7 +140,7 @@ fn day_reading(mixed: bool, order: Order, items: &[Item]) -> Option<Reading>
 }
 
 /// A day by its numbers.
-fn said_day(year: Number, month: u32, day: u32) -> SaidDay
+pub fn said_day(year: Number, month: u32, day: u32) -> SaidDay
     ensures { result ≡ said_day_spec year month day }
 {
     SaidDay {

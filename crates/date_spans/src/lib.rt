@@ -5,6 +5,7 @@
 mod cuts;
 mod ends;
 mod extents;
+mod feast_sides;
 mod items;
 pub mod laws;
 mod months;

@@ -1,8 +1,9 @@
 //! What items with words say.
 
-ghost use Rattle.std.specs.Prelude.{◌≡◌, ◌≤◌, ◌+◌, ◌++◌, length, option_map, position};
-ghost use Rattle.date_spans.specs.Extents.{plain_extent as plain_spec};
-ghost use Rattle.date_spans.specs.Sayings.{all_alike as alike_spec, both as both_spec, by_word as word_spec};
+ghost use Rattle.std.specs.Prelude.{◌≡◌, ◌≤◌, ◌+◌, ◌++◌, drop, length, option_map, position};
+ghost use Rattle.date_spans.specs.FeastSides.{bare_side as bare_spec};
+ghost use Rattle.date_spans.specs.Sayings.{all_alike as alike_spec, before_slash as slash_spec, both as both_spec};
+ghost use Rattle.date_spans.specs.Sayings.{by_word as word_spec};
 ghost use Rattle.date_spans.specs.Sayings.{completed as completed_spec, day_of_year as day_of_year_spec, dual_by as dual_spec};
 ghost use Rattle.date_spans.specs.Sayings.{is_about as about_spec, is_about_word as about_word_spec};
 ghost use Rattle.date_spans.specs.Sayings.{is_before_new_year as before_spec, is_between as between_spec};
@@ -16,8 +17,9 @@ ghost use Rattle.date_spans.specs.Sayings.{said_of_dual as said_dual_spec, said_
 ghost use Rattle.date_spans.specs.Sayings.{without_about as without_spec};
 
 use crate::extents::{
-    Extent, SaidDay, Signs, extent_of, if_year, plain_extent, weekday_among, with_weekday, year_in,
+    Extent, SaidDay, Signs, extent_of, if_year, weekday_among, with_weekday, year_in,
 };
+use crate::feast_sides::{bare_side, in_year_of, side_of};
 use arrayvec::ArrayVec;
 use date_texts::Calendar;
 use written_dates::{Item, Number, Order, Relation, Word, beside_weekday};
@@ -123,7 +125,7 @@ fn piece(calendar: Calendar, signs: Signs, order: Order, items: &[Item]) -> Opti
     requires { length items.now ≤ 16 }
     ensures { result ≡ piece_spec calendar signs order items.now }
 {
-    extent_of(calendar, signs, order, without_about(items))
+    side_of(calendar, signs, order, without_about(items))
 }
 
 fn both(between: bool, first: Option<Extent>, last: Option<Extent>) -> Option<Said>
@@ -142,31 +144,61 @@ fn both(between: bool, first: Option<Extent>, last: Option<Extent>) -> Option<Sa
 }
 
 /// What items say with those behind them that another side has more.
-fn joined(signs: Signs, order: Order, items: &[Item], lacked: &[Item]) -> Option<Extent>
+fn joined(
+    calendar: Calendar,
+    signs: Signs,
+    order: Order,
+    items: &[Item],
+    lacked: &[Item],
+) -> Option<Extent>
     requires { length items.now + length lacked.now ≤ 16 }
-    ensures { result ≡ plain_spec signs order (items.now ++ lacked.now) }
+    ensures { result ≡ bare_spec calendar signs order (items.now ++ lacked.now) }
 {
     let mut whole: ArrayVec<Item, 16> = ArrayVec::new();
     let _ = whole.try_extend_from_slice(items);
     let _ = whole.try_extend_from_slice(lacked);
-    plain_extent(signs, order, whole.as_slice())
+    bare_side(calendar, signs, order, whole.as_slice())
 }
 
-/// What items say with what they lack of those of the right side.
+/// What items say with those of the right side behind as many as they are.
 #[tactic(auto, using(crate::proofs::ExtentLemmas::complete_already))]
-fn completed(signs: Signs, order: Order, items: &[Item], right: &[Item]) -> Option<Extent>
+fn with_lacked(
+    calendar: Calendar,
+    signs: Signs,
+    order: Order,
+    items: &[Item],
+    right: &[Item],
+) -> Option<Extent>
     requires items { length items.now ≤ 16 }
     requires right { length right.now ≤ 16 }
-    ensures { result ≡ completed_spec signs order items.now right.now }
+    ensures { result ≡ bare_spec calendar signs order (items.now ++ drop (length items.now) right.now) }
+{
+    if items.len() >= right.len() {
+        return bare_side(calendar, signs, order, items);
+    }
+    let (_, lacked) = right.split_at(items.len());
+    joined(calendar, signs, order, items, lacked)
+}
+
+/// What items say with what they lack of those of the right side, or a feast in its year.
+fn completed(
+    calendar: Calendar,
+    signs: Signs,
+    order: Order,
+    items: &[Item],
+    right: &[Item],
+) -> Option<Extent>
+    requires items { length items.now ≤ 16 }
+    requires right { length right.now ≤ 16 }
+    ensures { result ≡ completed_spec calendar signs order items.now right.now }
 {
     if items.is_empty() {
         return None;
     }
-    if items.len() >= right.len() {
-        return plain_extent(signs, order, items);
+    match with_lacked(calendar, signs, order, items, right) {
+        Some(said) => Some(said),
+        None => in_year_of(calendar, items, right),
     }
-    let (_, lacked) = right.split_at(items.len());
-    joined(signs, order, items, lacked)
 }
 
 /// What the left of two sides says.
@@ -182,10 +214,11 @@ pub fn left_of(
     requires right { length right.now ≤ 16 }
     ensures { result ≡ left_spec calendar signs order left.now right.now }
 {
-    if let Some(said) = extent_of(calendar, signs.left, order, left) {
+    if let Some(said) = side_of(calendar, signs.left, order, left) {
         return Some(said);
     }
     let said = completed(
+        calendar,
         signs.shared,
         order,
         beside_weekday(left),
@@ -509,6 +542,14 @@ fn is_dual_by(left: Option<Extent>, right: &[Item]) -> bool
     }
 }
 
+/// What is said before the slash of a dual year.
+fn before_slash(calendar: Calendar, signs: Signs, order: Order, items: &[Item]) -> Option<Extent>
+    requires { length items.now ≤ 16 }
+    ensures { result ≡ slash_spec calendar signs order items.now }
+{
+    extent_of(calendar, signs, order, without_about(items))
+}
+
 /// Whether the number behind a slash is the year after the one before it.
 pub fn is_dual_of(
     calendar: Calendar,
@@ -520,7 +561,7 @@ pub fn is_dual_of(
     requires { length left.now ≤ 16 }
     ensures { result ≡ is_dual_spec calendar signs order left.now right.now }
 {
-    is_dual_by(piece(calendar, signs, order, left), right)
+    is_dual_by(before_slash(calendar, signs, order, left), right)
 }
 
 /// What the items before and behind a slash say.
@@ -534,5 +575,5 @@ pub fn said_of_dual(
     requires { length left.now ≤ 16 }
     ensures { result ≡ said_dual_spec calendar signs order left.now right.now }
 {
-    dual_by(calendar, piece(calendar, signs, order, left), right)
+    dual_by(calendar, before_slash(calendar, signs, order, left), right)
 }

@@ -501,7 +501,12 @@ nfunddreißig,35,\nfünfunddreyßig,35,\nfünf und dreißig,35,\nfünf und drey�
 dreyßig,36,\nsechs und dreißig,36,\nsechs und dreyßig,36,\nsiebenunddreißig,37,\nsiebenunddreyßig,37,\nsieben und \
 dreißig,37,\nsieben und dreyßig,37,\nachtunddreißig,38,\nachtunddreyßig,38,\nacht und dreißig,38,\nacht und dreyß\
 ig,38,\nneununddreißig,39,\nneununddreyßig,39,\nneun und dreißig,39,\nneun und dreyßig,39,\nvierzig,40,\neinundvier\
-zig,41,\nein und vierzig,41,\n\
+zig,41,\nein und vierzig,41,\nzweiundvierzig,42,\nzweyundvierzig,42,\nzwei und vierzig,42,\nzwey und vierzig,42,\ndreiu\
+ndvierzig,43,\ndreyundvierzig,43,\ndrei und vierzig,43,\ndrey und vierzig,43,\nvierundvierzig,44,\nvier und vierzig,44,\
+\nfünfundvierzig,45,\nfünf und vierzig,45,\nsechsundvierzig,46,\nsechs und vierzig,46,\nsiebenundvierzig,47,\nsieben \
+und vierzig,47,\nachtundvierzig,48,\nacht und vierzig,48,\nneunundvierzig,49,\nneun und vierzig,49,\nfünfzig,50,\neinu\
+ndfünfzig,51,\nein und fünfzig,51,\nzweiundfünfzig,52,\nzweyundfünfzig,52,\nzwei und fünfzig,52,\nzwey und fünfzi\
+g,52,\n\
 ", $rest)
     };
 }

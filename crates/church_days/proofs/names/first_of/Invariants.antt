@@ -1,0 +1,10 @@
+use Rattle.std.proofs.Common.{ℕ, List, Option, drop, map}
+use Rattle.church_days.specs.Names.{IsFirst}
+use Rattle.church_days.specs.NameViews.{seen}
+use Rattle.church_days.proofs.names.first_of.Given as goal
+
+-- what is first among the rest is first among all
+abbrev pub invariant-names : goal.invariant-names
+invariant-names l =
+    (found : Option (List ℕ)) → IsFirst l.church l.date (map seen (drop l.name-index l.names)) found
+    → IsFirst l.church l.date (map seen l.names) found

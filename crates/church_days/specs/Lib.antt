@@ -1,0 +1,4 @@
+pub mod DayNames
+pub mod Names
+pub mod NameViews
+pub mod Laws

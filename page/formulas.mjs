@@ -10,21 +10,8 @@ const NUMBER = /^[+-][\d.,]+$/, DATE = /^-\d+-W?\d+-[KNI]?\d+B?$/, RECORD = /^@[
 export const isFormula = (field) =>
   BEGINS.test(field) && HAS_MORE.test(field) && !NUMBER.test(field) && !DATE.test(field) && !RECORD.test(field);
 
-const markedBytes = (letters) => {
-  const marks = new Uint8Array(256);
-  for (const letter of letters) marks[letter.charCodeAt(0)] = 1;
-  return marks;
-};
-const IS_SIGN = markedBytes('=+-@'), IS_BEFORE = markedBytes(',;\t\n\r" \xbf');
-
-/**
- * Whether a field of a text may begin like a formula: most texts have none, and are not read for it. Before a field stand
- * a delimiter, the end of a line, a quote or blanks, or the mark of UTF-8.
- */
-export function mayHaveFormula(bytes) {
-  for (let i = 0; i < bytes.length; i += 1) if (IS_SIGN[bytes[i]] && (i === 0 || IS_BEFORE[bytes[i - 1]])) return true;
-  return false;
-}
+const IS_SIGN = new Uint8Array(256);
+for (const sign of '=+-@') IS_SIGN[sign.charCodeAt(0)] = 1;
 
 // The text of bytes. Short ones of ASCII alone are many, and a decoder takes long for each.
 function textOfBytes(bytes, decoder) {

@@ -4,13 +4,14 @@ import { TooLarge, archiveOf } from './archive.mjs';
 import { CALENDARS, TARGETS } from './calendars.mjs';
 import { choicesOf, columnNumbers } from './choices.mjs';
 import { ChangedFile, NoReading, checkUnchanged, readFile } from './files.mjs';
-import { formulasAmong, mayHaveFormula } from './formulas.mjs';
+import { formulasAmong } from './formulas.mjs';
 import { NO_DAY, NoMemory, REASONS, expectedLength, instantiate } from './module.mjs';
 import {
   isAnsel, isDelimiterOf, isIbmPc, isJson, isObject, isTree, kindOf, likelyAbove, likelyDelimiter, likelyEncodings, markedEncoding,
 } from './proposals.mjs';
 import { EVERY, LOOKED_AT, REFUSED_SHOWN, SHOWN, Table, isOfEmpty, range, rowsOf } from './tables.mjs';
 import { NoArchive, filesIn } from './packed.mjs';
+import { Scan, scanned } from './scans.mjs';
 import { timelineOf } from './timeline.mjs';
 import { FACTS } from './unbuilt-facts.mjs';
 import { NAMES } from './unbuilt-names.mjs';
@@ -31,8 +32,8 @@ const DATE_AT = 2, DATES_AT = 7;
 const NO_SUCH_NAME = 4, NOT_WRITTEN = 5;
 // How registers can be written.
 const FORMS = [false, true].flatMap((sealed) => [44, 59, 9].map((delimiter) => ({ delimiter, sealed })));
-// The byte of the digit 0; fields that are looked through at once.
-const DIGIT_0 = 48, FIELDS_AT_ONCE = 2 ** 22;
+// Fields that are looked through at once.
+const FIELDS_AT_ONCE = 2 ** 22;
 
 // Events of a family tree that tell of its file alone: when a record was changed, or made.
 const OF_FILE = ['CHAN', '_CHAN', 'CREA', '_CREA'], LONGEST = 5;
@@ -66,10 +67,10 @@ async function blobOf(module, part, ...first) {
   return new Blob(pieces, { type: 'text/csv' });
 }
 
-// Takes the bytes of a Blob into the module's memory.
-async function partOf(module, blob) {
+// Takes the bytes of a Blob into the module's memory, and looks at each piece of them.
+async function partOf(module, blob, look = (_) => {}) {
   const part = module.malloc(blob.size);
-  await readFile(blob, (at, length) => module.bytes({ pointer: part.pointer + at, length }));
+  await readFile(blob, (at, length) => module.bytes({ pointer: part.pointer + at, length }), look);
   return part;
 }
 
@@ -118,11 +119,11 @@ function weekdayOf(module, calendar, date) {
 
 // ---- A register ----
 
-// What is like a formula in the first `width` columns of a table that was made of a text of so many records: some columns
-// at a time, so that it takes no more memory than they do.
-function formulasOf(module, text, table, delimiter, width, records) {
+// What is like a formula in the first `width` columns of a table that was made of a text of so many records, where that was
+// seen to have such a field at all: some columns at a time, so that it takes no more memory than they do.
+function formulasOf(module, seen, text, table, delimiter, width, records) {
   const all = { count: 0, example: '' }, most = Math.max(1, Math.floor(FIELDS_AT_ONCE / (records + 1)));
-  if (!mayHaveFormula(module.bytes(text))) return all;
+  if (!seen.mayHaveFormula) return all;
   for (let from = 0; from < width; from += most) {
     const columns = range(Math.min(most, width - from)).map((i) => from + i), fields = (records + 1) * columns.length;
     const guess = { fields, bytes: Math.min(text.length, 32 * fields) + 64 };
@@ -202,10 +203,8 @@ async function register({ compiled, file, columns, isTold }, tell) {
   const module = await instantiate(compiled);
   const text = module.malloc(file.size);
   const bytesAt = (at, length) => module.bytes({ pointer: text.pointer + at, length });
-  let lines = 1;
-  await readFile(file, bytesAt, (piece) => {
-    for (let i = 0; i < piece.length; i += 1) if (piece[i] === 10 || piece[i] === 13) lines += 1;
-  });
+  const seen = new Scan();
+  await readFile(file, bytesAt, (piece) => seen.look(piece));
   const bytes = bytesAt(0, text.length), kind = kindOf(bytes) || (markedEncoding(bytes) && 'utf16');
   const form = formOf(module, bytesAt(0, text.length));
   if (kind !== null && form === null) throw new OtherKind(kind === 'workbook' ? 'book' : kind);
@@ -214,25 +213,48 @@ async function register({ compiled, file, columns, isTold }, tell) {
   const setup = { columns: numbersOf(columns), delimiter, sealed };
   const told = isTold ? await blobOf(module, text) : null;
   if (told) tell({ text: told, delimiter, sealed });
-  const converted = module.convert(text, setup, expectedLength(text.length, lines, columns.length));
+  const converted = module.convert(text, setup, expectedLength(text.length, seen.lines, columns.length));
   await checkUnchanged(file, bytesAt);
   const answer = { ...converted, delimiter, sealed };
   if (answer.ending === NO_HEADER) return { ...answer, table: null, firstLine: firstLineOf(beginningOf(bytesAt(0, text.length))) };
   if (answer.table.length === 0) return { ...answer, table: null };
   const table = new Table(module, answer.table, delimiter);
   const first = table.firstRows(), refused = answer.ending === 0 && answer.refused === 0 ? null : table.refusedRows();
-  const counted = withoutEmpty(module, answer.table, delimiter, answer, [table.column('date'), table.column('refusal')]);
-  const formulas = formulasOf(module, text, answer.table, delimiter, first.from, answer.rows);
+  const counted = withoutEmpty(module, seen, text, setup, answer);
+  const formulas = formulasOf(module, seen, text, answer.table, delimiter, first.from, answer.rows);
   const own = told || await blobOf(module, text), made = await blobOf(module, answer.table, MARK);
   return { ...answer, ...counted, first, refusedRows: refused, formulas, text: own, table: made };
 }
 
 // The refusals of a register without those of records that have no date.
-function withoutEmpty(module, table, delimiter, { rows, refused, counts }, columns) {
+function withoutEmpty(module, seen, text, setup, { refused, counts }) {
   if (counts[NO_SUCH_NAME - 1] + counts[NOT_WRITTEN - 1] === 0) return { empty: 0 };
-  const fields = 2 * (rows + 1), guess = { fields, bytes: 4096 + 8 * fields };
-  const { counts: now, empty } = module.pickAll(table, delimiter, columns, guess, countsAmong);
-  return { refused: refused - empty, counts: now, empty };
+  const { refusals } = emptyOf(module, seen, text, setup), now = [...counts];
+  for (const refusal of refusals) now[refusal - 1] -= 1;
+  return { refused: refused - refusals.length, counts: now, empty: refusals.length };
+}
+
+// The records of a register that have no date, from 0, and why each is refused. Those whose dates are blank are converted
+// again, by themselves.
+function emptyOf(module, seen, text, { delimiter, sealed }) {
+  if (!seen.mayHaveBlank) return { records: [], refusals: [] };
+  const fields = seen.lines + 1, guess = { fields, bytes: Math.min(text.length, 12 * fields) };
+  const blank = module.pickAll(text, delimiter, [DATE_AT], guess, blankRecords);
+  const own = module.sheetRecords(text, delimiter, blank), columns = [];
+  const { table } = module.convert(own, { columns, delimiter, sealed }, expectedLength(own.length, blank.length, 0));
+  const rows = new Table(module, table, delimiter).rows(['refusal'], EVERY).map(([refusal]) => Number(refusal));
+  module.free(table, own);
+  const isEmpty = (_, i) => rows[i] === NO_SUCH_NAME || rows[i] === NOT_WRITTEN;
+  return { records: blank.slice(1).map((record) => record - 1).filter(isEmpty), refusals: rows.filter(isEmpty) };
+}
+
+// The header of a register, and its records whose dates are blank: these are all dates, and the length of each.
+function blankRecords(bytes, lengths) {
+  const found = [0];
+  for (let i = 0, at = 0; i < lengths.length; at += lengths[i], i += 1) {
+    if (i > 0 && isBlank(bytes, at, at + lengths[i])) found.push(i);
+  }
+  return found;
 }
 
 /** An archive of files, with a comment. */
@@ -242,23 +264,11 @@ async function archive({ files, comment }) {
 
 /** What a picture of a register shows, by the text that was converted. One that broke off has the records before. */
 async function picture({ compiled, text, delimiter, sealed }) {
-  const module = await instantiate(compiled), own = await partOf(module, text);
-  const entries = module.registerDays(own, delimiter, sealed);
+  const module = await instantiate(compiled), seen = new Scan(), own = await partOf(module, text, (piece) => seen.look(piece));
+  const entries = module.registerDays(own, delimiter, sealed), empty = new Uint8Array(entries.days.length);
   if (entries.ending === 1) throw new NoMemory();
-  const empty = emptyAmong(module, own, delimiter, DATE_AT, 1, entries.days);
+  if (entries.days.includes(NO_DAY)) for (const record of emptyOf(module, seen, own, { delimiter, sealed }).records) empty[record] = 1;
   return timelineOf(module, own, delimiter, { ...entries, empty });
-}
-
-// Which of these days are those of records without a date, which stands in this column; or null where each has a day.
-function emptyAmong(module, text, delimiter, column, head, days) {
-  if (!days.includes(NO_DAY)) return null;
-  const fields = head + days.length + 1, empty = new Uint8Array(days.length);
-  return module.pickAll(text, delimiter, [column], { fields, bytes: 4096 + 8 * fields }, (bytes, lengths) => {
-    for (let i = 0, at = 0; i < lengths.length && i < head + days.length; at += lengths[i], i += 1) {
-      if (i >= head && isBlank(bytes, at, at + lengths[i])) empty[i - head] = 1;
-    }
-    return empty;
-  });
 }
 
 // ---- Sheets ----
@@ -547,20 +557,6 @@ function isBlank(bytes, from, to) {
   return true;
 }
 
-// Counts the refusals of a table: each of them is a field behind that of its date, of which a blank one is empty and not
-// refused.
-function countsAmong(bytes, lengths) {
-  const counts = FACTS.refusals.map(() => 0);
-  let empty = 0;
-  for (let i = 0, at = 0; i < lengths.length; i += 2) {
-    const end = at + lengths[i], refusal = lengths[i + 1] > 0 && i > 0 ? bytes[end] - DIGIT_0 : 0;
-    if ((refusal === NO_SUCH_NAME || refusal === NOT_WRITTEN) && isBlank(bytes, at, end)) empty += 1;
-    else if (refusal > 0) counts[refusal - 1] += 1;
-    at = end + lengths[i + 1];
-  }
-  return { counts, empty };
-}
-
 // Whether the sheet has other names of columns than these.
 function hasOtherColumns({ module, text, delimiter }, above, heading) {
   const width = heading.length < MOST_COLUMNS ? heading.length + 1 : MOST_COLUMNS;
@@ -595,7 +591,8 @@ async function convertSheet({ choice, places, columns, names, heading, records, 
 
 // What is found in a sheet that came back: the dates that were refused, and what is like a formula.
 function foundOf({ module, text, delimiter }, table, made, refused, width) {
-  const formulas = formulasOf(module, text, table, delimiter, made.own, made.above + made.rows);
+  const seen = scanned(module.bytes(text));
+  const formulas = formulasOf(module, seen, text, table, delimiter, made.own, made.above + made.rows);
   if (!refused.some(Boolean)) return { formulas };
   return { formulas, refusedDates: refusedDates(module, table, delimiter, made, width) };
 }
@@ -627,13 +624,25 @@ async function datedOf({ compiled, conversion, text }) {
   return dated;
 }
 
+// Which of so many records of a sheet have no date, which stands in this column, under the records of its head.
+function emptyAmong(module, text, delimiter, column, head, records) {
+  const fields = head + records + 1, empty = new Uint8Array(records), guess = { fields, bytes: Math.min(text.length, 12 * fields) };
+  return module.pickAll(text, delimiter, [column], guess, (bytes, lengths) => {
+    for (let i = 0, at = 0; i < lengths.length && i < head + records; at += lengths[i], i += 1) {
+      if (i >= head && isBlank(bytes, at, at + lengths[i])) empty[i - head] = 1;
+    }
+    return empty;
+  });
+}
+
 // The days of one column of dates, and what a picture of them shows, by its register.
 function gathered({ module, text }, { choice, place, names, delimiter, above }) {
   const { ending, table: register } = module.sheetRegister(text, choice, place, namesWith(names));
   checkEnding('sheet_register', ending);
   const entries = module.registerDays(register, delimiter, false);
   checkEnding('register_days', entries.ending);
-  const empty = emptyAmong(module, text, delimiter, choice[DATES_AT + 3 * place], above + 1, entries.days);
+  const hasBlank = entries.days.includes(NO_DAY) && scanned(module.bytes(register)).mayHaveBlank;
+  const empty = hasBlank ? emptyAmong(module, text, delimiter, choice[DATES_AT + 3 * place], above + 1, entries.days.length) : null;
   const picture = timelineOf(module, register, delimiter, { ...entries, empty });
   module.free(register);
   return { days: entries.days, picture };

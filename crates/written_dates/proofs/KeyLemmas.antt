@@ -207,12 +207,14 @@ indexed_more {A} key_by names firsts nexts from place k next name there is few a
       let within : from < length nexts = omega (arith, slice_get_within names from name there, h.as_many) in
       let one : other ≡ name = (let got : slice_get names from ≡ Some other = rw (← same) e in cc) in
       rw (same, one)
-      (get_or-set_same nexts from next 0 within ∙ at ∙ h.first k few ∙ ap (λ j. place_from key_by j names (from + 1)) is)
+      (get_or-set_same nexts from next 0 within ∙ at ∙ h.first k few
+      ∙ ap (λ j. place_from key_by j names (from + 1)) is)
   next_by place other least e false t =
       let differ : place ≢ from = λ s. (let yes : (place == from) ≡ true = grind (arith, nat_tests) in cc) in
       get_or-set_other nexts from place next 0 differ ∙ h.next place other (omega (arith, differ)) e
 
-pub nothing_indexed : {A : Type 0} (key_by : A → ℕ) (names : List A) (firsts nexts : List ℕ) → firsts ≡ replicate 16384 (length names)
+pub nothing_indexed : {A : Type 0} (key_by : A → ℕ) (names : List A) (firsts nexts : List ℕ)
+    → firsts ≡ replicate 16384 (length names)
     → nexts ≡ replicate (length names) 0 → IsIndexed key_by names firsts nexts (length names)
 nothing_indexed key_by names firsts nexts e f = record {
   keys = ap length e ∙ length-replicate 16384 (length names);

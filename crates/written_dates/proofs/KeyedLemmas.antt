@@ -30,8 +30,8 @@ pub meant_next : (text : List ℕ) (names : List CalendarName) (place next : ℕ
     → next ≡ place_from calendar_key (calendar_key name) names (place + 1)
     → meant_by (map entry (drop next names)) text ≡ meant_by (map entry (drop place names)) text
 meant_next text names place next name there none keyed at =
-    let head : meant_by (map entry (name ∷ drop (place + 1) names)) text ≡ meant_by (map entry (drop (place + 1) names)) text
-    = rw none refl in
+    let behind = drop (place + 1) names in
+    let head : meant_by (map entry (name ∷ behind)) text ≡ meant_by (map entry behind) text = rw none refl in
     passed_over text names (place + 1) next (calendar_key name) keyed at
     ∙ sym (ap (λ xs. meant_by (map entry xs) text) (at_place names place name there) ∙ head)
 

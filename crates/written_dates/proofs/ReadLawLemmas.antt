@@ -1,6 +1,7 @@
 -- What is read is what was written.
 use Rattle.std.proofs.Common.{◌≡◌, inl, inr, ℕ, suc, ◌+◌, ◌<◌, ◌≤◌, Bool, true, false, not, ◌&&◌, ◌||◌}
-use Rattle.std.proofs.Common.{cond, refl, sym, ap, arith, List, [], ◌∷◌, ◌++◌, Option, Some, None, ◌∙◌, subst, nat_le, nat_lt}
+use Rattle.std.proofs.Common.{cond, refl, sym, ap, arith, List, [], ◌∷◌, ◌++◌, Option, Some, None, ◌∙◌, subst}
+use Rattle.std.proofs.Common.{nat_le, nat_lt}
 use Rattle.std.specs.List.{filter, list_all, All}
 use Rattle.std.proofs.lemmas.Bool.{true≢false}
 use Rattle.std.proofs.lemmas.Bool.Decides.{nat_tests}

@@ -46,7 +46,8 @@ returns-then-is_same_word c =
     let listed = c.as_slice-listed.result.now in
     let text = c.args.text.now in
     let name = get_or listed c.names.place no_name in
-    let there : slice_get listed c.names.place ≡ Some name = slice_get-get_or listed c.names.place no_name c.names-test.true in
+    let there : slice_get listed c.names.place ≡ Some name
+    = slice_get-get_or listed c.names.place no_name c.names-test.true in
     let same : same_word name.text.now text ≡ true = sym c.is_same_word.ensures ∙ c.if-is_same_word.true in
     meant_here text listed c.names.place name there same ∙ c.names.invariant.same
     ∙ ap (λ xs. meant_by (map entry xs) text) c.as_slice-listed.ensures

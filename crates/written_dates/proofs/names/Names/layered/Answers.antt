@@ -24,9 +24,9 @@ names-preserved c =
     ∙ get_or_default_zero c.names.firsts.items c.key_of_name-key.result c.index.result.now (omega (arith, keys)) in
     record {
       within = omega arith;
-      indexed = indexed_more key names c.names.firsts.items c.names.nexts.items from c.names.place c.key_of_name-key.result
-          c.index.result.now name there c.key_of_name-key.ensures.value c.key_of_name-key.ensures.within next (omega arith)
-          c.names.invariant.indexed;
+      indexed = indexed_more key names c.names.firsts.items c.names.nexts.items from c.names.place
+          c.key_of_name-key.result c.index.result.now name there c.key_of_name-key.ensures.value
+          c.key_of_name-key.ensures.within next (omega arith) c.names.invariant.indexed;
     }
 
 pub invariant_of-result : goal.invariant_of-result

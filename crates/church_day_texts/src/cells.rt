@@ -2,7 +2,7 @@
 
 ghost use Rattle.std.specs.Prelude.{◌≡◌};
 ghost use Rattle.written_dates.specs.Written.{church_of as church_spec};
-ghost use Rattle.church_day_texts.specs.Cells.{IsChurchCell};
+ghost use Rattle.church_day_texts.specs.Cells.{IsChurchCell, church_text};
 
 use church_days::name_on;
 use church_year::Church;
@@ -23,7 +23,8 @@ fn church_of(calendar: Calendar) -> Option<Church>
 /// What a day is called in the church year of a record's calendar, in Latin; nothing where the day has no name, or the
 /// calendar is neither the Gregorian nor the Julian one.
 pub fn church_cell(calendar: Calendar, day: Day) -> &'static str
-    ensures { IsChurchCell calendar day.number result.now }
+    ensures named { IsChurchCell calendar day.number result.now }
+    ensures computed { result.now ≡ church_text calendar day.number }
 {
     let Some(church) = church_of(calendar) else {
         return "";

@@ -1,2 +1,3 @@
 mod NameLemmas
 mod LawLemmas
+mod ComputedLemmas

@@ -2,3 +2,4 @@ pub mod DayNames
 pub mod Names
 pub mod NameViews
 pub mod Laws
+pub mod Computed

@@ -6,6 +6,7 @@ ghost use Rattle.day_numbers.specs.Rules.{IsDateOf, day_number_of};
 ghost use Rattle.day_numbers.specs.declared.ymd.Ymd.{Ymd};
 ghost use Rattle.church_year.specs.Easter.{rules_of};
 ghost use Rattle.church_year.specs.Feasts.{IsFeastDate};
+ghost use Rattle.church_days.specs.Computed.{church_name, first_name, means as means_spec};
 ghost use Rattle.church_days.specs.Names.{IsFirst, IsNameOn};
 ghost use Rattle.church_days.specs.NameViews.{seen};
 
@@ -27,7 +28,9 @@ fn date_on(church: Church, day: Day) -> Ymd
 
 /// Whether a row of the list means a date, by its feast's date in the year.
 fn means(row: &(&str, Feast, Place), church: Church, year: u16, date: Ymd) -> bool
-    ensures { Decides result (IsFeastDate church year row.now.1 row.now.2 date) }
+    requires { date.year ≡ pos year }
+    ensures decided { Decides result (IsFeastDate church year row.now.1 row.now.2 date) }
+    ensures computed { result ≡ means_spec church year (date.month, date.day) (seen row.now) }
 {
     match feast_date(church, year, row.1, row.2) {
         Some(found) => found == date,
@@ -43,7 +46,9 @@ fn first_of(
     date: Ymd,
 ) -> Option<&'static str>
     requires { date.year ≡ pos year }
-    ensures { IsFirst church date (map seen names.now) (option_map (λ name. name.now) result) }
+    ensures first { IsFirst church date (map seen names.now) (option_map (λ name. name.now) result) }
+    ensures computed { option_map (λ name. name.now) result
+        ≡ first_name church year (date.month, date.day) (map seen names.now) }
 {
     'names: for name in names {
         if means(name, church, year, date) {
@@ -58,7 +63,8 @@ fn first_of(
 /// A Sunday has its own name where a feast of a month falls on it, but for Christmas, New Year's Day and Epiphany. No day
 /// of a year below 1 or over 9999 has a name, and no day that moves with Easter in a Gregorian year before 1583.
 pub fn name_on(church: Church, day: Day) -> Option<&'static str>
-    ensures { IsNameOn church day.number (option_map (λ name. name.now) result) }
+    ensures named { IsNameOn church day.number (option_map (λ name. name.now) result) }
+    ensures computed { option_map (λ name. name.now) result ≡ church_name church day.number }
 {
     let date = date_on(church, day);
     if date.year() < 1 || date.year() > 9_999 {

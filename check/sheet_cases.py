@@ -136,6 +136,7 @@ FILES = {
     "own.csv.unknown.csv": "name,means,in\nMeyo,month 5,\n",
     "bad.csv": "name,means,in\nMeyo,month 5,\nJuni,six,\n",
     "in.csv": "name,means,in\nMeyo,month 5,mars\n", "both.csv": "name,means,in\nMeyo,mai,mars\n",
+    "sign.csv": "name,means,in\nMeyo(,julian,\nMai(,month 6,\n", "empty-name.csv": "name,means,in\n.,month 6,\n",
 }
 FOLDERS = ("c.csv.dates.csv",)
 
@@ -215,6 +216,8 @@ STREAMS = [
     ("--date 1 --all iso --names a.csv", "", 3, "", lines("not name,means,in at the head of a.csv")),
     ("--date 1 --all iso --names in.csv", "", 3, "", lines("bad list of names in.csv: in of record 1")),
     ("--date 1 --all iso --names both.csv", "", 3, "", lines("bad list of names both.csv: means of record 1")),
+    ("--date 1 --all iso --names sign.csv", "", 3, "", lines("bad list of names sign.csv: name of record 2")),
+    ("--date 1 --all iso --names empty-name.csv", "", 3, "", lines("bad list of names empty-name.csv: name of record 1")),
     ("--date 1 --all iso --names none.csv", "", 3, "", lines("cannot open none.csv")),
 ]
 

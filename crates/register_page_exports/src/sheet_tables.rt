@@ -173,7 +173,7 @@ fn register_by(
     ensures ends { IfErr result (EndsBy (IsChoiceBy known.now) (IsChoiceAt column) sheet.now) }
 {
     let setup = setup_of(known)?;
-    let Some(column) = setup.choice().dates.get(column) else {
+    let Some(_found) = setup.choice().dates.get(column) else {
         return Err(SheetEnding::Choice);
     };
     let mut output = PlainOutput::new(bytes_for(alloc, expected), 0);

@@ -1,6 +1,8 @@
 -- Dates that were refused or are empty are counted record by record.
-use Rattle.std.proofs.Common.{◌≡◌, ◌≤◌, ◌<◌, ◌∙◌, ◌+◌, ◌++◌, ℕ, zero, suc, List, [], ◌∷◌, Option, None, Some, Bool, true, false}
-use Rattle.std.proofs.Common.{ap, append-nil, arith, cond, count_by, get_or, get_or-set_other, get_or-set_same, inl, inr, length, length-append, map, refl, replicate, set, sym}
+use Rattle.std.proofs.Common.{◌≡◌, ◌≤◌, ◌<◌, ◌∙◌, ◌+◌, ◌++◌, ℕ, zero, suc, List, [], ◌∷◌, Option, None, Some, Bool}
+use Rattle.std.proofs.Common.{true, false}
+use Rattle.std.proofs.Common.{ap, append-nil, arith, cond, count_by, get_or, get_or-set_other, get_or-set_same, inl}
+use Rattle.std.proofs.Common.{inr, length, length-append, map, refl, replicate, set, sym}
 use Rattle.std.specs.Prelude.{if◌then◌else◌, slice_get}
 use Rattle.std.specs.List.{flat_map, zip}
 use Rattle.std.proofs.lemmas.Bool.Decides.{eqb_tells}
@@ -48,7 +50,8 @@ zip_more (a ∷ xs) (b ∷ ys) x y e = ap (λ rest. (a, b) ∷ rest) (zip_more x
 zip_more [] (b ∷ ys) x y e = absurd (omega arith)
 zip_more (a ∷ xs) [] x y e = absurd (omega arith)
 
-dates_more : (columns : List DateColumn) (place : ℕ) (done : List Fields) (rows : List (List TableRow)) (fields : Fields)
+dates_more : (columns : List DateColumn) (place : ℕ) (done : List Fields) (rows : List (List TableRow)) (fields :
+    Fields)
     (one : List TableRow) → length done ≡ length rows → dates_at columns place (done ++ fields ∷ []) (rows ++ one ∷ [])
     ≡ dates_at columns place done rows ++ date_at columns place fields one
 dates_more columns place done rows fields one e =
@@ -69,7 +72,14 @@ counts_more columns done rows fields one old new same all more =
           let ys = date_at columns place fields one in
           let next = dates_more columns place done rows fields one same in
           record {
-            refused = omega (arith, then_.refused, before.refused, both is_refused xs ys, ap (count_by is_refused) next);
+            refused = omega (
+              arith,
+              then_.refused,
+              before.refused,
+              both is_refused xs ys,
+              ap (count_by is_refused)
+                  next,
+            );
             reasons = λ refusal.
                 omega (
                   arith,
@@ -129,14 +139,18 @@ slot_of [] i d low = absurd (omega arith)
 slot_of (x ∷ xs) zero d low = refl
 slot_of (x ∷ xs) (suc i) d low = slot_of xs i d (omega arith)
 
-pub seen_slot : {X Y : Type 0} (f : X → Y) (xs : List X) (i : ℕ) (x : X) → i < length xs → x ≡ get_or xs i x
-    → slice_get (map f xs) i ≡ Some (f x)
-seen_slot f [] i x low is = absurd (omega arith)
-seen_slot f (y ∷ xs) zero x low is = ap (λ z. Some (f z)) (sym is)
-seen_slot f (y ∷ xs) (suc i) x low is = seen_slot f xs i x (omega arith) is
+pub one_found : {X : Type 0} (found : Option X) (x y : X) → found ≡ Some x → found ≡ Some y → x ≡ y
+one_found found x y a b = cc
+
+pub seen_slot : {X Y : Type 0} (f : X → Y) (xs : List X) (i : ℕ) (d : X) → i < length xs
+    → slice_get (map f xs) i ≡ Some (f (get_or xs i d))
+seen_slot f [] i d low = absurd (omega arith)
+seen_slot f (x ∷ xs) zero d low = refl
+seen_slot f (x ∷ xs) (suc i) d low = seen_slot f xs i d (omega arith)
 
 -- the date at one place more is counted
-pub place_counted : (columns : List DateColumn) (fields : Fields) (rows : List TableRow) (place : ℕ) (column : DateColumn)
+pub place_counted : (columns : List DateColumn) (fields : Fields) (rows : List TableRow) (place : ℕ) (column :
+    DateColumn)
     (row : TableRow) (old mid : List DateCounts) (next : DateCounts) → place < length mid
     → slice_get columns place ≡ Some column → slice_get rows place ≡ Some row → is_blank_record fields ≡ false
     → CountsDates ((get_or fields column.date [], row) ∷ []) (get_or mid place no_counts) next

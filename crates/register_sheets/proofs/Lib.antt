@@ -1,9 +1,9 @@
 -- Which file serves which public clause:
 --   LineLemmas: that lines are the text of their fields, for `write`. ListLemmas: what is left of a list of fields.
 --   SheetLemmas: `pick`, and that records come one after the other.
---   MeaningLemmas, NameListLemmas: `NameList::read`. HeadingLemmas: `headings`. RegisterLemmas: `write_register`. StopLemmas:
---     `unknown_names`.
---   The others, and ConvertLemmas above them: `convert_sheet`.
+--   MeaningLemmas, NameListLemmas: `NameList::read`. HeadingLemmas: `headings`. StopLemmas, FoundLemmas,
+--     NoteLemmas: `unknown_names`. RegisterLemmas: `write_register`.
+--   The others: `convert_outputs`.
 pub mod ListLemmas
 pub mod LineLemmas
 pub mod SheetLemmas
@@ -16,9 +16,14 @@ pub mod RowLemmas
 pub mod WidthLemmas
 pub mod AskedLemmas
 pub mod AskedOfSheetLemmas
-pub mod ConvertLemmas
 pub mod HeadingLemmas
 pub mod RegisterLemmas
 pub mod StopLemmas
 pub mod FoundLemmas
-pub mod UnreadLemmas
+pub mod ReadingLemmas
+pub mod NoteLemmas
+pub mod LineWriterLemmas
+pub mod TopLemmas
+pub mod EachLemmas
+pub mod TakeLemmas
+pub mod OutputLemmas

@@ -1,6 +1,6 @@
 -- Names of calendars in a field, one after the other, and the lines of a list.
 use Rattle.std.proofs.Common.{◌≡◌, ◌∙◌, ◌+◌, ◌++◌, ◌||◌, ℕ, Bool, true, List, [], ◌∷◌, map, length, slice_set}
-use Rattle.std.proofs.Common.{ap, ap₂, sym, refl, suc, lit<, arith}
+use Rattle.std.proofs.Common.{ap, ap₂, sym, refl, subst, suc, lit<, arith}
 use Rattle.std.specs.List.{list_any}
 use Rattle.std.specs.Str.{bytes_eq}
 use Rattle.std.proofs.lemmas.List.Folds.{list_any-append}
@@ -18,7 +18,8 @@ use Rattle.date_texts.specs.declared.calendar.Calendar.TheVariants.{Armenian, Is
 use Rattle.date_texts.specs.declared.calendar.Calendar.TheVariants.{Republican}
 use Rattle.written_dates.specs.Calendars.{place}
 use Rattle.register_records.specs.Entries.{Fields}
-use Rattle.register_sheets.specs.NameLists.{AreLines, IsFaultOf, IsLine, IsRefused, columns, is_named, named_by, names_in}
+use Rattle.register_sheets.specs.NameLists.{AreLines, IsFaultOf, IsLine, IsRefused, IsRefusedBehind}
+use Rattle.register_sheets.specs.NameLists.{columns, is_named, named_by, names_in}
 use Rattle.register_sheets.specs.Sheets.{chosen}
 use Rattle.register_sheets.specs.declared.name_lists.NameListFault.{NameListFault}
 use Rattle.register_sheets.specs.declared.name_lists.NameListFault.TheVariants as fault
@@ -81,6 +82,20 @@ lines_count [] [] are = refl
 lines_count (f ∷ records) (l ∷ lines) are = ap suc (lines_count records lines are.1)
 lines_count records lines are = absurd are
 
+refused_behind : (before : List Fields) (lines : List NameLine) (fields : Fields) (after : List Fields) (number : ℕ)
+    (why : NameListFault) → AreLines before lines → number ≡ length lines + 1 → IsRefused fields number why
+    → IsRefusedBehind (before ++ fields ∷ after) why
+refused_behind before lines fields after number why are counted refused = record {
+  before = before;
+  after = after;
+  fields = fields;
+  lines = lines;
+  cut = refl;
+  are_lines = are;
+  refused = subst (λ k. IsRefused fields k why) (counted ∙ ap (λ k. k + 1) (sym (lines_count before lines are)))
+      refused;
+}
+
 -- a record that is refused behind lines is the first fault
 pub first_fault : (header : Fields) (before : List Fields) (lines : List NameLine) (fields : Fields)
     (after : List Fields) (number : ℕ) (why : NameListFault) → chosen (0 ∷ 1 ∷ 2 ∷ []) header ≡ columns
@@ -88,27 +103,9 @@ pub first_fault : (header : Fields) (before : List Fields) (lines : List NameLin
     → IsFaultOf (header ∷ before ++ fields ∷ after) why
 first_fault header before lines fields after number fault.OutOfMemory is are counted refused = tt
 first_fault header before lines fields after number fault.Header is are counted refused = absurd refused
-first_fault header before lines fields after number (fault.Means n) is are counted refused = (
-  is,
-  record {
-    before = before;
-    after = after;
-    fields = fields;
-    lines = lines;
-    cut = refl;
-    are_lines = are;
-    refused = (refused.0 ∙ counted ∙ ap (λ k. k + 1) (sym (lines_count before lines are)), refused.1);
-  },
-)
-first_fault header before lines fields after number (fault.In n) is are counted refused = (
-  is,
-  record {
-    before = before;
-    after = after;
-    fields = fields;
-    lines = lines;
-    cut = refl;
-    are_lines = are;
-    refused = (refused.0 ∙ counted ∙ ap (λ k. k + 1) (sym (lines_count before lines are)), refused.1);
-  },
-)
+first_fault header before lines fields after number (fault.Means n) is are counted refused =
+    (is, refused_behind before lines fields after number (fault.Means n) are counted refused)
+first_fault header before lines fields after number (fault.In n) is are counted refused =
+    (is, refused_behind before lines fields after number (fault.In n) are counted refused)
+first_fault header before lines fields after number (fault.Name n) is are counted refused =
+    (is, refused_behind before lines fields after number (fault.Name n) are counted refused)

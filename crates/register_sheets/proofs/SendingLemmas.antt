@@ -1,5 +1,6 @@
 -- How far records are written to an output.
-use Rattle.std.proofs.Common.{◌≡◌, ◌≤◌, ◌∙◌, ◌++◌, ℕ, List, [], ◌∷◌, Option, ap, append-nil, append_assoc, arith, drop, length}
+use Rattle.std.proofs.Common.{◌≡◌, ◌≤◌, ◌∙◌, ◌++◌, ℕ, List, [], ◌∷◌, Option, ap, append-nil, append_assoc, arith}
+use Rattle.std.proofs.Common.{drop, length}
 use Rattle.std.proofs.Common.{IsErrAnd, inl, min, refl, subst, suc, sym, take, zero}
 use Rattle.std.specs.Prelude.{Bool, Err, IfOk, Ok, Result}
 use Rattle.std.specs.Io.KnownBytes.{Appends}
@@ -24,7 +25,8 @@ pub text_more : (d : ℕ) (xs : List Fields) (x : Fields)
 text_more d xs x = text_both d xs (x ∷ []) ∙ ap (λ t. records_text d xs ++ t) (append-nil (line_text d x))
 
 -- the line gains fields, and is ended
-pub fields_made : (d : ℕ) (begun now : Option (List ℕ)) (old new : SheetLines) (made : List Fields) (fields more : Fields)
+pub fields_made : (d : ℕ) (begun now : Option (List ℕ)) (old new : SheetLines) (made : List Fields) (fields more :
+    Fields)
     → HasMade d begun now old made fields → GainsFields more old new → HasMade d begun now new made (fields ++ more)
 fields_made d begun now old new made fields more h gains =
     record {
@@ -71,7 +73,7 @@ front_made d begun now lines made fields h = (
       (ap (records_text d) (sym (ap (take (length h.sent)) h.parted ∙ take-append_seam h.sent h.waiting))) h.gained,
 )
 
-shorter : (n m : ℕ) (xs : List Fields) → m ≡ min n (length xs) → take m xs ≡ take n xs
+pub shorter : (n m : ℕ) (xs : List Fields) → m ≡ min n (length xs) → take m xs ≡ take n xs
 shorter zero m xs e = let none : m ≡ 0 = omega arith in rw none refl
 shorter (suc n) m [] e = let none : m ≡ 0 = omega arith in rw none refl
 shorter (suc n) zero (x ∷ xs) e = absurd (omega arith)
@@ -86,49 +88,13 @@ front_more d begun now xs ys (n, appends) = (
       ∙ shorter n (min n (length xs)) xs refl))) appends,
 )
 
-taken_twice : (k n : ℕ) (xs : List Fields) → k ≤ n → take k (take n xs) ≡ take k xs
+pub taken_twice : (k n : ℕ) (xs : List Fields) → k ≤ n → take k (take n xs) ≡ take k xs
 taken_twice zero n xs low = refl
 taken_twice (suc k) zero xs low = absurd (omega arith)
 taken_twice (suc k) (suc n) [] low = refl
 taken_twice (suc k) (suc n) (x ∷ xs) low = ap (λ ys. x ∷ ys) (taken_twice k n xs (omega arith))
 
-pub front_taken : (d : ℕ) (begun now : Option (List ℕ)) (lines : SheetLines) (made all : List Fields) (k n : ℕ) → k ≤ n
-    → HasMade d begun now lines (made ++ take k all) [] → HasFront d begun now (made ++ take n all)
-front_taken d begun now lines made all k n low h =
-    let parts : take n all ≡ take k all ++ drop k (take n all)
-    = sym (take-append-drop k (take n all)) ∙ ap (λ xs. xs ++ drop k (take n all)) (taken_twice k n all low) in
-    subst (λ xs. HasFront d begun now (made ++ xs)) (sym parts)
-    (subst (HasFront d begun now) (append_assoc made (take k all) (drop k (take n all)))
-    (front_more d begun now (made ++ take k all) (drop k (take n all)) (front_made d begun now lines _ [] h)))
-
 -- where it is a fault, nothing is said of a value
 pub no_value : {T E : Type 0} (r : Result T E) (e : E) (P : T → Type 0) → IsErrAnd r (λ x. x ≡ e) → IfOk r P
 no_value (Ok v) e P is = absurd is
 no_value (Err c) e P is = tt
-
--- how far the output has failed where memory ran out, and where a step stopped
-pub ends_memory : {A : Type 0} (r : Result A SheetCause) (failed fails : Bool) (mark new_mark : ℕ)
-    → IsErrAnd r (λ c. c ≡ NoMemory) → fails ≡ failed → new_mark ≡ mark → Ends r failed fails mark new_mark
-ends_memory (Ok v) failed fails mark new_mark is same marked = absurd is
-ends_memory (Err c) failed fails mark new_mark is same marked =
-    record { good = tt; causes = inl is; memory = λ _. same; sink = λ sink. absurd (cc (is, sink)); marked = marked }
-
-pub ends_passed : {A B : Type 0} (r : Result A SheetCause) (c : SheetCause) (failed middle fails : Bool)
-    (mark middle_mark new_mark : ℕ) → IsErrAnd r (λ e. e ≡ c) → Ends {A = B} (Err c) middle fails middle_mark new_mark
-    → middle ≡ failed → middle_mark ≡ mark → Ends r failed fails mark new_mark
-ends_passed (Ok v) c failed middle fails mark middle_mark new_mark is ends same marked = absurd is
-ends_passed (Err e) c failed middle fails mark middle_mark new_mark is ends same marked =
-    record {
-      good = tt;
-      causes = rw is ends.causes;
-      memory = λ memory. ends.memory (sym is ∙ memory) ∙ same;
-      sink = λ sink. ends.sink (sym is ∙ sink);
-      marked = ends.marked ∙ marked;
-    }
-
--- where it had not failed in a step before
-pub ends_on : {A : Type 0} (r : Result A SheetCause) (failed middle fails : Bool) (mark middle_mark new_mark : ℕ)
-    → Ends r middle fails middle_mark new_mark → middle ≡ failed → middle_mark ≡ mark → Ends r failed fails mark new_mark
-ends_on r failed middle fails mark middle_mark new_mark ends same marked =
-    subst (λ (before : Bool). Ends r before fails mark new_mark) same
-    (subst (λ (before : ℕ). Ends r middle fails before new_mark) marked ends)

@@ -14,10 +14,6 @@ use Rattle.register_sheets.specs.declared.choices.AskedColumn.{AskedColumn}
 use Rattle.register_sheets.specs.declared.choices.AskedColumn.TheVariants.{Cells, DayNumber, Weekday}
 use Rattle.register_sheets.specs.declared.choices.SheetChoice.{SheetChoice}
 use Rattle.register_sheets.specs.declared.date_counts.SheetCounts.{SheetCounts}
-use Rattle.register_sheets.specs.declared.sheet_ends.SheetCause.{SheetCause}
-use Rattle.register_sheets.specs.declared.sheet_ends.SheetEnd.{SheetEnd}
-use Rattle.register_sheets.specs.declared.sheet_ends.SheetEnd.TheVariants as end
-use Rattle.register_sheets.specs.declared.unread_dates.UnreadDates.{UnreadDates}
 
 -- what a table without targets shows of a row in the column of this name
 abbrev pub shown_in : List ℕ → TableRow → List ℕ
@@ -122,11 +118,3 @@ pub record IsFullSheet (choice : SheetChoice) (records : List Fields) (bytes : L
   pub full : length rows ≡ record_limit
   pub more : record_limit < length (below choice records)
   pub written : bytes ≡ records_text choice.delimiter (sheet_records choice records rows)
-
-abbrev pub IfWhole : SheetEnd → (ℕ → SheetCounts → UnreadDates → Type 0) → Type 0
-IfWhole (end.Whole rows counts unread) P = P rows counts unread
-IfWhole (end.Broken cause) P = ⊤
-
-abbrev pub IfBroken : SheetEnd → (SheetCause → Type 0) → Type 0
-IfBroken (end.Whole rows counts unread) P = ⊤
-IfBroken (end.Broken cause) P = P cause

@@ -11,7 +11,6 @@ pub mod Converted
 pub mod CountViews
 pub mod WidthViews
 pub mod Sending
-pub mod RowViews
 pub mod Headings
 pub mod AskedOfSheets
 pub mod HeadingViews
@@ -19,4 +18,11 @@ pub mod Registers
 pub mod DateStops
 pub mod UnknownNames
 pub mod UnknownViews
-pub mod FoundViews
+pub mod SheetRecords
+pub mod SheetReaders
+pub mod RecordLines
+pub mod Produced
+pub mod LineWriters
+pub mod SheetNotes
+pub mod SheetReadings
+pub mod SheetOutputs

@@ -1,5 +1,5 @@
 -- Lists of names: a CSV text with the columns `name`, `means` and `in`, by a form of this project.
-use Rattle.std.specs.Prelude.{◌≡◌, ◌≢◌, ◌+◌, ◌==◌, ◌++◌, ℕ, Bool, true, List, [], ◌∷◌, ⊤, All, Any, codes}
+use Rattle.std.specs.Prelude.{◌≡◌, ◌≢◌, ◌+◌, ◌==◌, ◌++◌, ℕ, Bool, true, false, List, [], ◌∷◌, ⊤, All, Any, codes}
 use Rattle.std.specs.Prelude.{get_or, length, map}
 use Rattle.std.specs.Prelude.{IsUtf8}
 use Rattle.std.specs.List.{flat_map, list_any, slice_split}
@@ -13,6 +13,7 @@ use Rattle.written_dates.specs.declared.fields.CalendarName.{CalendarName}
 use Rattle.written_dates.specs.declared.meanings.Calendars.{Calendars}
 use Rattle.written_dates.specs.declared.meanings.Meaning.{Meaning}
 use Rattle.written_dates.specs.declared.meanings.Name.{Name}
+use Rattle.written_dates.specs.Names.{is_name}
 use Rattle.register_sheets.specs.NameMeanings.{Says}
 use Rattle.register_sheets.specs.Sheets.{chosen}
 use Rattle.register_sheets.specs.declared.name_meanings.Means.{Means}
@@ -47,10 +48,16 @@ pub record HoldsIn (field : List ℕ) (calendars : Calendars) : Type 0 where
 abbrev pub HasUnknown : List ℕ → Type 0
 HasUnknown field = Any (λ name. ¬ IsCalendar name) (names_in field)
 
+-- a text can mean this: what means something in dates has a number or a word, and no character that no date has
+abbrev pub can_mean : List ℕ → Means → Bool
+can_mean text (means.InDates meaning) = is_name text
+can_mean text other = true
+
 -- the record says this of a name
 pub record IsLine (fields : Fields) (line : NameLine) : Type 0 where
   pub text : line.text.items ≡ get_or fields 0 []
   pub says : Says (get_or fields 1 []) line.means
+  pub can : can_mean line.text.items line.means ≡ true
   pub holds : HoldsIn (get_or fields 2 []) line.calendars
 
 -- these records say this of names, one for one
@@ -76,12 +83,20 @@ SaysNothing field = IsUtf8 field → (means : Means) → ¬ Says field means
 abbrev pub NamesOther : List ℕ → Type 0
 NamesOther field = IsUtf8 field → HasUnknown field
 
--- the record with this number is none of a list, for this reason
+-- what the record says of a name, the name cannot mean
+abbrev pub IsNoName : Fields → Type 0
+IsNoName fields = (means : Means) × Says (get_or fields 1 []) means × (can_mean (get_or fields 0 []) means ≡ false)
+
+-- the record with this number is none of a list, for this reason: its means says nothing; or else its in names
+-- something that is no calendar; or else its name cannot mean it
 abbrev pub IsRefused : Fields → ℕ → NameListFault → Type 0
 IsRefused fields number fault.OutOfMemory = ⊤
 IsRefused fields number fault.Header = ⊥
 IsRefused fields number (fault.Means n) = (n ≡ number) × SaysNothing (get_or fields 1 [])
-IsRefused fields number (fault.In n) = (n ≡ number) × NamesOther (get_or fields 2 [])
+IsRefused fields number (fault.In n) =
+    (n ≡ number) × ((means : Means) × Says (get_or fields 1 []) means) × NamesOther (get_or fields 2 [])
+IsRefused fields number (fault.Name n) =
+    (n ≡ number) × ((calendars : Calendars) × HoldsIn (get_or fields 2 []) calendars) × IsNoName fields
 
 -- behind records that are lines stands one that is none
 pub record IsRefusedBehind (records : List Fields) (why : NameListFault) : Type 0 where

@@ -36,6 +36,12 @@ pub record HasRoom (names : StoppedNames) : Type 0 where
   pub listed : All (λ name. name.count < 2 ^ 32) names.listed.items
   pub others : names.more < 2 ^ 32
 
+-- no date is counted yet
+pub record NoneUnread (unread : UnreadDates) : Type 0 where
+  pub stopped : unread.stopped ≡ 0
+  pub short : unread.short ≡ 0
+  pub reasons : (reason : Reason) → count_of unread.reasons reason ≡ 0
+
 -- so many dates more can be counted
 pub record HasPlace (count : ℕ) (unread : UnreadDates) : Type 0 where
   pub stopped : unread.stopped + count < 2 ^ 64

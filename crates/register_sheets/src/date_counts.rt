@@ -8,10 +8,12 @@ ghost use Rattle.register_sheets.specs.CountViews.{AreUpTo, CountsDates, CountsR
 ghost use Rattle.register_sheets.specs.DateCounts.{AreDateCounts, AreSheetCounts};
 ghost use Rattle.register_sheets.specs.DateCounts.{is_blank as blank_spec, is_blank_record as record_spec};
 ghost use Rattle.register_sheets.specs.DateCounts.{is_of_empty as of_empty_spec};
+ghost use Rattle.register_sheets.specs.SheetRecords.{row_in};
 ghost use Rattle.register_sheets.specs.declared.choices.DateColumn.{DateColumn as DateColumnValue};
 
 use crate::choices::{DateColumn, MAX_DATES};
 use crate::reading::field_at;
+use crate::sheet_records::ColumnDates;
 use csv::ByteRecord;
 use date_texts::Refusal;
 use register_records::{RefusalCounts, Row};
@@ -105,12 +107,12 @@ impl SheetCounts {
         }
     }
 
-    /// Counts the dates in these columns of a record that has these rows.
-    pub(crate) fn add(&mut self, columns: &[DateColumn], record: &ByteRecord, rows: &[Row])
-        requires rows { length rows.now ≡ length columns.now }
+    /// Counts the dates in these columns of a record that has these dates.
+    pub(crate) fn add(&mut self, columns: &[DateColumn], record: &ByteRecord, dates: &[ColumnDates])
+        requires dates { length dates.now ≡ length columns.now }
         requires few { length columns.now ≤ MAX_DATES }
         requires room { AreUpTo record_limit columns.now self.old }
-        ensures { CountsRecord columns.now (fields_of record.now) (map row_seen rows.now) self.old self.new }
+        ensures { CountsRecord columns.now (fields_of record.now) (map row_in dates.now) self.old self.new }
     {
         if is_blank_record(record) {
             self.blank += 1;
@@ -118,7 +120,7 @@ impl SheetCounts {
         }
         'columns: for place in 0..columns.len() {
             let field = field_at(record, columns[place].date as usize);
-            self.dates[place].add(field, &rows[place]);
+            self.dates[place].add(field, &dates[place].first.row);
         }
     }
 }

@@ -4,6 +4,7 @@ ghost use Rattle.std.specs.Prelude.{◌≡◌, ◌↔◌, ◌∷◌, [], IfOk, I
 ghost use Rattle.csv.specs.Records.{fields_of};
 ghost use Rattle.register_records.specs.Entries.{text_records};
 ghost use Rattle.register_sheets.specs.NameLists.{IsFaultOf, IsLine, IsListOf, IsRefused, columns};
+ghost use Rattle.register_sheets.specs.NameLists.{can_mean as can_mean_spec};
 ghost use Rattle.register_sheets.specs.NameLists.{calendar_names_in, calendar_seen, name_seen, names_in_dates};
 ghost use Rattle.register_sheets.specs.Reading.{IsReading, left_of};
 ghost use Rattle.register_sheets.specs.Sheets.{chosen};
@@ -14,7 +15,7 @@ use crate::reading::{field_at, read_next, records_of};
 use csv::{ByteRecord, Reader};
 use std::alloc::{AllocError, Global};
 use std::str;
-use written_dates::{CalendarName, Calendars, Name};
+use written_dates::{CalendarName, Calendars, Name, is_name};
 
 /// A name, and what it means.
 #[derive(Drop)]
@@ -45,6 +46,8 @@ pub enum NameListFault {
     Means(usize),
     /// `in` of this record names something that is no calendar.
     In(usize),
+    /// `name` of this record, which means something in dates, has a character that no date has, or no number or word.
+    Name(usize),
 }
 
 impl From<AllocError> for NameListFault {
@@ -67,6 +70,16 @@ fn is_header(record: &ByteRecord) -> bool
         && field_at(record, 2) == b"in".as_slice()
 }
 
+/// Whether a text can mean this: what means something in dates is a name in dates.
+fn can_mean(text: &[u8], means: Means) -> bool
+    ensures { result ≡ can_mean_spec text.now means }
+{
+    match means {
+        Means::InDates(_) => is_name(text),
+        _ => true,
+    }
+}
+
 /// The line of a record with this number.
 fn line_of(alloc: Global, record: &ByteRecord, number: usize) -> Result<NameLine, NameListFault>
     ensures line { IfOk result (IsLine (fields_of record.now)) }
@@ -84,8 +97,12 @@ fn line_of(alloc: Global, record: &ByteRecord, number: usize) -> Result<NameLine
     let Some(calendars) = calendars_said(calendars) else {
         return Err(NameListFault::In(number));
     };
+    let text = field_at(record, 0);
+    if !can_mean(text, means) {
+        return Err(NameListFault::Name(number));
+    }
     Ok(NameLine {
-        text: field_at(record, 0).to_vec(alloc)?,
+        text: text.to_vec(alloc)?,
         means,
         calendars,
     })
@@ -97,7 +114,8 @@ impl NameList {
     /// to `weekday 6`, `decade 1` to `decade 10`, `after`, `before`, `eve`, `morrow`, `octave`, a feast as `easter -28`,
     /// `feast 9-29`, `feast 3-1 -5` or `sunday advent 3`, Sundays as `sundays lent`, a calendar, nothing, or `?`, by which a
     /// name stays open. `in` has the calendars in which the name means this, with a space between two; all where it is
-    /// empty.
+    /// empty. `name` is any text where it means a calendar or stays open; else it has a number or a word, and no
+    /// character that no date has.
     ///
     /// # Errors
     ///

@@ -2,9 +2,10 @@
 
 ghost use Rattle.std.specs.Prelude.{◌≡◌, ◌≤◌, ◌<◌, ◌+◌, ◌∷◌, [], true, false, drop, get_or, length};
 ghost use Rattle.std.specs.Prelude.{IfNone, IfOk, IfSome, Ok};
+ghost use Rattle.csv.specs.Reading.{took_first};
 ghost use Rattle.csv.specs.Records.{fields_of};
 ghost use Rattle.register_records.specs.Entries.{text_records};
-ghost use Rattle.register_sheets.specs.Reading.{IsReading, left_of};
+ghost use Rattle.register_sheets.specs.Reading.{IsBegun, IsReading, left_of};
 
 use csv::{ByteRecord, Reader, ReaderBuilder};
 use std::alloc::{AllocError, Global};
@@ -26,6 +27,7 @@ pub fn records_of(alloc: Global, sheet: &[u8], delimiter: u8) -> Reader<&[u8]>
 pub fn read_next(records: &mut Reader<&[u8]>, record: &mut ByteRecord) -> Result<bool, AllocError>
     requires { IsReading records.old }
     ensures reading { result ≡ Ok true → IsReading records.new }
+    ensures begun { result ≡ Ok true → took_first records.new ≡ true }
     ensures found { result ≡ Ok true → left_of records.old ≡ fields_of record.new ∷ left_of records.new }
     ensures none { result ≡ Ok false → left_of records.old ≡ [] }
 {
@@ -43,7 +45,7 @@ pub(crate) fn pass_names(
     above: u32,
 ) -> Result<bool, AllocError>
     requires { IsReading records.old }
-    ensures reading { result ≡ Ok true → IsReading records.new }
+    ensures reading { result ≡ Ok true → IsBegun records.new }
     ensures named { result ≡ Ok true → above < length (left_of records.old) }
     ensures left { result ≡ Ok true → left_of records.new ≡ drop (above + 1) (left_of records.old) }
     ensures found { result ≡ Ok true → fields_of record.new ≡ get_or (left_of records.old) above [] }

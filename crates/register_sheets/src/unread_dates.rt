@@ -26,8 +26,7 @@ pub(crate) fn is_emptied(field: &[u8], date: &[u8]) -> bool
 }
 
 impl UnreadDates {
-    ghost use Rattle.register_sheets.specs.RowViews.{NoneUnread};
-    ghost use Rattle.register_sheets.specs.UnknownViews.{CountsDate, CountsStop, HasPlace, if_stop};
+    ghost use Rattle.register_sheets.specs.UnknownViews.{CountsDate, CountsStop, HasPlace, NoneUnread, if_stop};
 
     /// None yet.
     pub fn none() -> UnreadDates

@@ -1,20 +1,27 @@
 -- How sheets end.
-use Rattle.std.proofs.Common.{◌≡◌, ℕ, List, Option, map, refl}
+use Rattle.std.proofs.Common.{◌≡◌, ℕ, List, Option, false, inr, map, refl, true}
 use Rattle.std.specs.Prelude.{Err, IsErrAnd, Ok, Result}
 use Rattle.register_records.specs.Sources.{Gains}
 use Rattle.register_records.specs.declared.outputs.Output as outputs
 use Rattle.register_sheets.specs.AskedOfSheets.{IsChoiceBy, IsListedChoice, SheetAsked}
 use Rattle.register_sheets.specs.declared.asked_of_sheets.AskedByNames.{AskedByNames}
 use Rattle.register_sheets.specs.declared.choices.SheetChoice.{SheetChoice}
+use Rattle.register_sheets.specs.Produced.{Produced}
+use Rattle.register_sheets.specs.SheetOutputs.{IsMadeSheet, sheet_ending}
 use Rattle.register_sheets.specs.declared.name_lists.NameLine.{NameLine}
+use Rattle.register_sheets.specs.declared.sheet_ends.SheetCause.{SheetCause}
+use Rattle.register_sheets.specs.declared.sheet_ends.SheetCause.TheVariants as cause
+use Rattle.register_sheets.specs.declared.sheet_ends.SheetEnd.TheVariants as end
 use Rattle.sheet_arguments.specs.Requests.{Task}
 use Rattle.written_dates.specs.Fields.{bare_name}
-use Rattle.sheet_app.specs.SheetViews.{AsksFor, IsEndedBy, IsTask, MakesChoices}
-use Rattle.sheet_app.specs.Sheets.{IsAskedList, IsAskedOf, IsAskedSheet, IsBroken, IsChoiceFor}
-use Rattle.sheet_app.specs.Sheets.{IsListBy, IsSheetBy, names_of}
+use Rattle.sheet_app.specs.SheetFaults.{fault_by}
+use Rattle.sheet_app.specs.SheetViews.{AsksFor, IsDoneBy, IsEndedBy, IsTask, MakesChoices}
+use Rattle.sheet_app.specs.Sheets.{IsAskedList, IsAskedOf, IsAskedSheet, IsBroken, IsBrokenBy, IsChoiceFor, IsEnded}
+use Rattle.sheet_app.specs.Sheets.{IsListBy, IsSheetBy, names_of, records_by}
 use Rattle.sheet_app.specs.declared.sheet_faults.SheetFault.{SheetFault}
 use Rattle.sheet_app.specs.declared.sheets.ListedSheet.{ListedSheet}
 use Rattle.sheet_app.specs.declared.sheets.SheetDone.{SheetDone}
+use Rattle.sheet_app.specs.declared.sheets.SheetDone.TheVariants as done
 use Rattle.sheet_app.specs.declared.sheets.WholeSheet.{WholeSheet}
 use Rattle.sheet_app.proofs.TaskLemmas.{is_choice}
 
@@ -31,7 +38,8 @@ pub makes_choices : (task : Task) (lines : List NameLine) (sheet : List ℕ) (kn
     → ((choice : SheetChoice) → IsChoiceBy known choice → IsListedChoice asked lines sheet choice) → MakesChoices known
 makes_choices task lines sheet known asked task_is is listed = λ choice by.
     let list = listed choice by in
-    is_choice task (names_of task sheet) list.headings asked sheet list.in_dates (map bare_name list.of_calendars) choice
+    is_choice task (names_of task sheet) list.headings asked sheet list.in_dates (map bare_name list.of_calendars)
+    choice
     task_is is list.headed list.chosen
 
 -- a fault that was handed on
@@ -46,9 +54,54 @@ ended_fault o task lines most sheet given written new (Err why) fault handed bro
 pub asked_sheet : (task : Task) (lines : List NameLine) (sheet : List ℕ) (choice : SheetChoice) (known : WholeSheet)
     (old new : Option (List ℕ)) → IsChoiceFor task lines sheet choice → Gains old new (IsSheetBy choice sheet known)
     → Gains old new (IsAskedSheet task lines sheet known)
-asked_sheet task lines sheet choice known old new chosen (bytes, whole, gained) = (bytes, (choice, chosen, whole), gained)
+asked_sheet task lines sheet choice known old new chosen (bytes, whole, gained) = (
+  bytes,
+  (choice, chosen, whole),
+  gained,
+)
 
 pub asked_list : (task : Task) (lines : List NameLine) (most : ℕ) (sheet : List ℕ) (choice : SheetChoice)
     (known : ListedSheet) (old new : Option (List ℕ)) → IsChoiceFor task lines sheet choice
     → Gains old new (IsListBy choice most sheet known) → Gains old new (IsAskedList task lines most sheet known)
-asked_list task lines most sheet choice known old new chosen (bytes, listed, gained) = (bytes, (choice, chosen, listed), gained)
+asked_list task lines most sheet choice known old new chosen (bytes, listed, gained) = (
+  bytes,
+  (
+    choice,
+    chosen,
+    listed,
+  ),
+  gained,
+)
+
+-- what was converted by a choice is what a task asks
+pub asked_done : {W : Type 0} (o : outputs.Ghosts W) (task : Task) (lines : List NameLine) (most : ℕ) (sheet : List ℕ)
+    (choice : SheetChoice) (given written : W) (new registers : List W) (done : SheetDone) → task.unknown ≡ false
+    → IsChoiceFor task lines sheet choice → IsDoneBy o choice sheet given written new registers done
+    → IsEnded o task lines most sheet given written new registers done
+asked_done o task lines most sheet choice given written new registers (done.Whole whole) known chosen h =
+    (asked_sheet task lines sheet choice whole _ _ chosen h.0, h.1, known, choice, chosen, h.2)
+asked_done o task lines most sheet choice given written new registers (done.WholeBut fault) known chosen h =
+    (h.0, asked_sheet task lines sheet choice h.0 _ _ chosen h.1, h.2, known, choice, chosen, h.3, h.4, h.5)
+asked_done o task lines most sheet choice given written new registers (done.Listed listed) known chosen h = absurd h
+asked_done o task lines most sheet choice given written new registers (done.Broken fault) known chosen h =
+    (inr (choice, chosen, h.0), inr (choice, chosen, h.1, h.2))
+
+-- a sheet that broke off, by what its output has come to
+pub broken_by : {W : Type 0} (o : outputs.Ghosts W) (choice : SheetChoice) (sheet : List ℕ) (given written : W)
+    (c : SheetCause)
+    → Produced o given written (sheet_ending (end.Broken c)) (IsMadeSheet choice (records_by choice sheet) (end.Broken
+    c))
+    → IsBrokenBy o choice sheet given written (fault_by c)
+broken_by o choice sheet given written cause.NoMemory h = inr h.0
+broken_by o choice sheet given written cause.SinkFault h = h.0
+broken_by o choice sheet given written cause.NoNames h = (h.0, h.1.1)
+broken_by o choice sheet given written cause.TooManyRecords h = (h.0.1.more, inr h.0)
+
+-- a sheet that is whole
+pub whole_by : {W : Type 0} (o : outputs.Ghosts W) (choice : SheetChoice) (sheet : List ℕ) (given written : W)
+    (whole : WholeSheet)
+    → Produced o given written (sheet_ending (end.Whole whole.records whole.counts whole.unread))
+    (IsMadeSheet choice (records_by choice sheet) (end.Whole whole.records whole.counts whole.unread))
+    → Gains (o.contents given) (o.contents written) (IsSheetBy choice sheet whole) × (o.is_flushed written ≡ true)
+whole_by o choice sheet given written whole h =
+    ((h.0.0, record { whole = h.0.1.0; unread = h.0.1.1 }, h.0.2), h.1)

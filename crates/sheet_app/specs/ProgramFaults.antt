@@ -48,6 +48,8 @@ list_line file (list_fault.Means number) =
     program_line (codes "bad list of names " ++ ((file ++ codes ": means of record ") ++ decimal number))
 list_line file (list_fault.In number) =
     program_line (codes "bad list of names " ++ ((file ++ codes ": in of record ") ++ decimal number))
+list_line file (list_fault.Name number) =
+    program_line (codes "bad list of names " ++ ((file ++ codes ": name of record ") ++ decimal number))
 
 -- the line on standard error; on arguments that are not taken, clap says more
 abbrev pub fault_line : ProgramFault → Option (List ℕ)

@@ -1,20 +1,23 @@
 -- What a task asks of a sheet, and what comes of it.
-use Rattle.std.specs.Prelude.{◌≡◌, ◌≤◌, ◌<◌, ◌++◌, ◌⊎◌, ⊤, ℕ, List, [], IfSome, Option, None, Some, get_or, length}
-use Rattle.std.specs.Prelude.{false, slice_get, true}
-use Rattle.register_files.specs.Openings.{AreMatched}
+use Rattle.std.specs.Prelude.{◌≡◌, ◌≤◌, ◌<◌, ◌++◌, ◌⊎◌, ⊤, ℕ, List, [], Option, None, Some, Result, Ok, Err, get_or}
+use Rattle.std.specs.Prelude.{length}
+use Rattle.std.specs.Prelude.{false, true}
 use Rattle.register_records.specs.Entries.{Fields, record_limit, text_records}
 use Rattle.register_records.specs.Sources.{Gains}
 use Rattle.register_records.specs.declared.outputs.Output as outputs
 use Rattle.register_sheets.specs.AskedOfSheets.{IsChoice, IsListedChoice, SheetAsked}
 use Rattle.register_sheets.specs.Converted.{ArePartOfSheet, below, IsFullSheet, IsWholeSheet}
-use Rattle.register_sheets.specs.NameLists.{IsListOf}
-use Rattle.register_sheets.specs.Registers.{IsFrontOfRegister, IsFullRegister, IsRegister}
+use Rattle.register_sheets.specs.NameLists.{IsFaultOf, IsListOf}
+use Rattle.register_sheets.specs.SheetOutputs.{AreMadeRegisters}
 use Rattle.register_sheets.specs.UnknownNames.{AreUnreadIn, IsUnknown, NameCount, list_text}
-use Rattle.register_sheets.specs.declared.choices.DateColumn.{DateColumn}
 use Rattle.register_sheets.specs.declared.choices.SheetChoice.{SheetChoice}
 use Rattle.register_sheets.specs.declared.name_lists.NameLine.{NameLine}
+use Rattle.register_sheets.specs.declared.name_lists.NameListFault.{NameListFault}
+use Rattle.register_sheets.specs.declared.name_lists.NameListFault.TheVariants as list_fault
+use Rattle.register_sheets.specs.declared.sheet_ends.SheetCause.{SheetCause}
 use Rattle.sheet_arguments.specs.Requests.{Task}
 use Rattle.sheet_app.specs.Columns.{AreDateColumns, IsIdField}
+use Rattle.sheet_app.specs.SheetFaults.{fault_by}
 use Rattle.sheet_app.specs.declared.sheet_faults.SheetFault.{SheetFault}
 use Rattle.sheet_app.specs.declared.sheet_faults.SheetFault.TheVariants as fault
 use Rattle.sheet_app.specs.declared.sheets.ListedSheet.{ListedSheet}
@@ -26,6 +29,12 @@ use Rattle.sheet_app.specs.declared.sheets.WholeSheet.{WholeSheet}
 abbrev pub IsOwnList : Option (List ℕ) → List NameLine → Type 0
 IsOwnList None lines = lines ≡ []
 IsOwnList (Some text) lines = IsListOf (text_records 44 text) lines
+
+-- the user's list is none for this reason, or memory ran out
+abbrev pub IsFaultOfOwn : Option (List ℕ) → NameListFault → Type 0
+IsFaultOfOwn own list_fault.OutOfMemory = ⊤
+IsFaultOfOwn None why = ⊥
+IsFaultOfOwn (Some text) why = IsFaultOf (text_records 44 text) why
 
 -- the lines of both lists, the user's in front
 pub record AreBothLists (own : Option (List ℕ)) (built : List ℕ) (lines : List NameLine) : Type 0 where
@@ -109,42 +118,10 @@ IsBroken o task lines sheet given written fault =
     ((written ≡ given) × IsEarly task sheet fault)
     ⊎ ((choice : SheetChoice) × IsChoiceFor task lines sheet choice × IsBrokenBy o choice sheet given written fault)
 
--- an output has gained the register of a column of dates by a choice
-abbrev pub HasRegister : {W : Type 0} → outputs.Ghosts W → SheetChoice → List ℕ → DateColumn → W → W → Type 0
-HasRegister o choice sheet column given written =
-    (count : ℕ)
-    × Gains (o.contents given) (o.contents written) (IsRegister choice column (records_by choice sheet) count)
-    × (o.is_flushed written ≡ true)
-
--- or it has broken off, and why
-abbrev pub IsCutRegister : {W : Type 0} → outputs.Ghosts W → SheetChoice → List ℕ → DateColumn → W → W
-    → SheetFault → Type 0
-IsCutRegister o choice sheet column given written fault.OutOfMemory =
-    Gains (o.contents given) (o.contents written) (IsFrontOfRegister choice column (records_by choice sheet))
-IsCutRegister o choice sheet column given written fault.Unwritten = o.has_failed written ≡ true
-IsCutRegister o choice sheet column given written fault.NoNames =
-    (written ≡ given) × (length (records_by choice sheet) ≤ choice.above)
-IsCutRegister o choice sheet column given written fault.TooManyRecords =
-    Gains (o.contents given) (o.contents written) (IsFullRegister choice column (records_by choice sheet))
-IsCutRegister o choice sheet column given written other = ⊥
-
--- each output has gained the register of the column of dates at its place
-abbrev pub HaveRegisters : {W : Type 0} → outputs.Ghosts W → SheetChoice → List ℕ → List W → List W → Type 0
-HaveRegisters o choice sheet =
-    AreMatched (λ place given written. IfSome (slice_get choice.dates.now place)
-    (λ column. HasRegister o choice sheet column given written))
-
--- or that of this column has broken off for this reason; those before it are written, and those behind it as they were
-pub record AreCutRegisters {W : Type 0} (o : outputs.Ghosts W) (choice : SheetChoice) (sheet : List ℕ) (fault : SheetFault)
-    (new registers : List W) : Type 0 where
-  pub cut : ℕ
-  pub column : DateColumn
-  pub there : cut < length new
-  pub of_column : slice_get choice.dates.now cut ≡ Some column
-  pub each : AreMatched (λ place given written.
-      (place < cut → IfSome (slice_get choice.dates.now place) (λ other. HasRegister o choice sheet other given written))
-      × (place ≡ cut → IsCutRegister o choice sheet column given written fault)
-      × (cut < place → written ≡ given)) new registers
+-- the registers of a sheet have come out by a choice, each by an answer of its own, of which this is the first fault
+abbrev pub AreRegistersBy : {W : Type 0} → outputs.Ghosts W → SheetChoice → List ℕ → Result (Unit {0}) SheetCause
+    → List W → List W → Type 0
+AreRegistersBy o choice sheet = AreMadeRegisters o choice (records_by choice sheet)
 
 -- what the outputs of a sheet and of its registers have gained, by how it has ended; a list is of at most so many names
 abbrev pub IsEnded : {W : Type 0} → outputs.Ghosts W → Task → List NameLine → ℕ → List ℕ → W → W → List W
@@ -152,14 +129,18 @@ abbrev pub IsEnded : {W : Type 0} → outputs.Ghosts W → Task → List NameLin
 IsEnded o task lines most sheet given written new registers (done.Whole whole) =
     Gains (o.contents given) (o.contents written) (IsAskedSheet task lines sheet whole)
     × (o.is_flushed written ≡ true) × (task.unknown ≡ false)
-    × (choice : SheetChoice) × IsChoiceFor task lines sheet choice × HaveRegisters o choice sheet new registers
+    × (choice : SheetChoice) × IsChoiceFor task lines sheet choice
+    × AreRegistersBy o choice sheet (Ok tt) new registers
 IsEnded o task lines most sheet given written new registers (done.WholeBut fault) =
     (whole : WholeSheet)
     × Gains (o.contents given) (o.contents written) (IsAskedSheet task lines sheet whole)
     × (o.is_flushed written ≡ true) × (task.unknown ≡ false)
-    × (choice : SheetChoice) × IsChoiceFor task lines sheet choice × AreCutRegisters o choice sheet fault new registers
+    × (choice : SheetChoice) × IsChoiceFor task lines sheet choice
+    × (cause : SheetCause) × (fault ≡ fault_by cause) × AreRegistersBy o choice sheet (Err cause) new registers
 IsEnded o task lines most sheet given written new registers (done.Listed listed) =
     Gains (o.contents given) (o.contents written) (IsAskedList task lines most sheet listed)
     × (o.is_flushed written ≡ true) × (task.unknown ≡ true) × (registers ≡ new)
 IsEnded o task lines most sheet given written new registers (done.Broken fault) =
-    IsBroken o task lines sheet given written fault × (registers ≡ new)
+    IsBroken o task lines sheet given written fault
+    × ((registers ≡ new) ⊎ ((choice : SheetChoice) × IsChoiceFor task lines sheet choice
+    × (result : Result (Unit {0}) SheetCause) × AreRegistersBy o choice sheet result new registers))

@@ -32,6 +32,7 @@ fn list_line(alloc: Global, file: &str, fault: NameListFault) -> Result<String, 
         NameListFault::Header => return own_line(alloc, "not name,means,in at the head of ", file),
         NameListFault::Means(number) => (number, ": means of record "),
         NameListFault::In(number) => (number, ": in of record "),
+        NameListFault::Name(number) => (number, ": name of record "),
     };
     let mut word = String::from_str(alloc, file)?;
     word.push_str(why)?;

@@ -8,17 +8,16 @@ ghost use Rattle.register_sheets.specs.AskedOfSheets.{IsChoice, IsChoiceBy, aske
 ghost use Rattle.register_sheets.specs.declared.name_lists.NameLine.{NameLine as NameLineValue};
 ghost use Rattle.sheet_arguments.specs.Requests.{task_of};
 ghost use Rattle.sheet_app.specs.SheetFaults.{IsOfColumns};
-ghost use Rattle.sheet_app.specs.SheetViews.{AsksFor, IsEndedBy, IsTask, MakesChoices};
-ghost use Rattle.sheet_app.specs.Sheets.{AreCutRegisters, HasRegister, HaveRegisters, IsAskedOf, IsBrokenBy};
-ghost use Rattle.sheet_app.specs.Sheets.{IsCutRegister, IsEnded, IsListBy, IsSheetBy, names_of};
+ghost use Rattle.sheet_app.specs.SheetViews.{AsksFor, IsDoneBy, IsEndedBy, IsTask, MakesChoices};
+ghost use Rattle.sheet_app.specs.Sheets.{IsAskedOf, IsBrokenBy, IsEnded, IsListBy, names_of};
 
 use crate::columns::{dates_named, id_named};
 use crate::sheet_faults::{SheetFault, fault_of_columns};
 use csv::ByteRecord;
 use register_records::{Output, send};
 use register_sheets::{
-    AskedByNames, AskedOfSheet, DateColumn, NameList, SheetCounts, SheetEnd, SheetSetup,
-    UnreadDates, convert_sheet, head_record, unknown_names, write_register,
+    AskedByNames, AskedOfSheet, NameList, SheetCounts, SheetEnd, SheetSetup, UnreadDates,
+    convert_outputs, head_record, unknown_names,
 };
 use sheet_arguments::Job;
 use std::alloc::Global;
@@ -131,66 +130,32 @@ fn list_unknown<'b, W: Output>(
     })
 }
 
-/// Writes the sheet with the columns asked, and returns what is known of it.
-fn write_sheet<'b, W: Output>(
+/// Writes the sheet with the columns asked, and the registers of its columns of dates, and returns how they ended.
+fn write_outputs<'b, W: Output>(
     alloc: Global,
     sheet: &[u8],
     setup: &SheetSetup,
     output: &mut W,
-) -> Result<WholeSheet, SheetFault<'b>>
-    ensures whole { IfOk result (λ whole. Gains (W.contents output.old) (W.contents output.new)
-        (IsSheetBy setup.now.choice sheet.now whole)) }
-    ensures flushed { OnOk result (W.is_flushed output.new ≡ true) }
-    ensures broken { IfErr result (IsBrokenBy W.Output setup.now.choice sheet.now output.old output.new) }
+    registers: &mut [W],
+) -> SheetDone<'b>
+    ensures { IsDoneBy W.Output setup.now.choice sheet.now output.old output.new registers.old registers.new result }
 {
-    match convert_sheet(alloc, sheet, setup, output) {
+    let end = convert_outputs(alloc, sheet, setup, output, registers);
+    match end.sheet {
         SheetEnd::Whole {
             rows,
             counts,
             unread,
-        } => Ok(WholeSheet {
-            records: rows,
-            counts,
-            unread,
-        }),
-        SheetEnd::Broken { cause } => Err(SheetFault::from(cause)),
+        } => match end.registers {
+            Ok(()) => SheetDone::Whole(WholeSheet {
+                records: rows,
+                counts,
+                unread,
+            }),
+            Err(cause) => SheetDone::WholeBut(SheetFault::from(cause)),
+        },
+        SheetEnd::Broken { cause } => SheetDone::Broken(SheetFault::from(cause)),
     }
-}
-
-/// Writes the register of a column of dates.
-fn write_column<'b, W: Output>(
-    alloc: Global,
-    sheet: &[u8],
-    setup: &SheetSetup,
-    column: &DateColumn,
-    output: &mut W,
-) -> Result<(), SheetFault<'b>>
-    ensures whole { OnOk result (HasRegister W.Output setup.now.choice sheet.now column.now output.old output.new) }
-    ensures cut { IfErr result (IsCutRegister W.Output setup.now.choice sheet.now column.now output.old output.new) }
-{
-    write_register(alloc, sheet, setup, column, output)?;
-    Ok(())
-}
-
-/// Writes the registers of the columns of dates.
-fn write_registers<'b, W: Output>(
-    alloc: Global,
-    sheet: &[u8],
-    setup: &SheetSetup,
-    registers: &mut [W],
-) -> Result<(), SheetFault<'b>>
-    ensures whole { OnOk result (HaveRegisters W.Output setup.now.choice sheet.now registers.old registers.new) }
-    ensures cut { IfErr result (λ fault. AreCutRegisters W.Output setup.now.choice sheet.now fault registers.old
-        registers.new) }
-{
-    let choice = setup.choice();
-    'registers: for index in 0..registers.len() {
-        let Some(column) = choice.dates.get(index) else {
-            return Ok(());
-        };
-        write_column(alloc, sheet, setup, column, &mut registers[index])?;
-    }
-    Ok(())
 }
 
 /// Writes what a job asks of a sheet, by what is known.
@@ -212,11 +177,7 @@ fn write_known<'b, W: Output>(
         let listed = list_unknown(alloc, sheet, &setup, output)?;
         return Ok(SheetDone::Listed(listed));
     }
-    let whole = write_sheet(alloc, sheet, &setup, output)?;
-    match write_registers(alloc, sheet, &setup, registers) {
-        Ok(()) => Ok(SheetDone::Whole(whole)),
-        Err(fault) => Ok(SheetDone::WholeBut(fault)),
-    }
+    Ok(write_outputs(alloc, sheet, &setup, output, registers))
 }
 
 /// Writes what a job asks of a sheet, by the names of a list.

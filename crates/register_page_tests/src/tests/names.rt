@@ -84,7 +84,7 @@ fn is_right(alloc: Global) -> bool {
 }
 
 /// Texts that are no list, and why.
-static REFUSED: [(&str, NameListFault); 10] = [
+static REFUSED: [(&str, NameListFault); 13] = [
     ("", NameListFault::Header),
     ("name;means;in\n", NameListFault::Header),
     (
@@ -101,6 +101,12 @@ static REFUSED: [(&str, NameListFault); 10] = [
         NameListFault::In(1),
     ),
     ("name,means,in\na,month 1,tzolkin\n", NameListFault::In(1)),
+    (
+        "name,means,in\na.St.(,julian,\nMai(,month 6,\n",
+        NameListFault::Name(2),
+    ),
+    ("name,means,in\n.,month 6,\n", NameListFault::Name(1)),
+    ("name,means,in\n(,?,\n,,\n", NameListFault::Name(2)),
 ];
 
 /// Whether a text is no list for this reason.

@@ -1,4 +1,4 @@
-use Rattle.std.proofs.Common.{rules}
+use Rattle.std.proofs.Common.{◌≡◌, rules}
 use Rattle.register_sheets.specs.AskedOfSheets.{IsChoice, IsChoiceBy}
 use Rattle.register_page_exports.proofs.EndingLemmas.{ends_by_cause}
 use Rattle.register_page_exports.proofs.sheet_tables.converted_by.Goals as goal
@@ -6,11 +6,14 @@ use Rattle.register_page_exports.proofs.sheet_tables.converted_by.Goals as goal
 pub returns-in-Whole-clause-whole : goal.returns-in-Whole-clause-whole
 returns-in-Whole-clause-whole c =
     let chosen = c.in_ok-setup.ensures.choice in
-    (c.in_ok-setup.setup.choice, chosen.0, chosen.1, search rules, c.in-Whole.ensures.unread)
+    let made = rw c.in-Whole.is at c.convert_sheet-end.ensures in
+    let text : c.into_inner-text.result.items ≡ made.0.0 = search rules in
+    (c.in_ok-setup.setup.choice, chosen.0, chosen.1, rw text made.0.1.0, made.0.1.1)
 
 pub returns-in-Broken-clause-ends : goal.returns-in-Broken-clause-ends
 returns-in-Broken-clause-ends c =
     let chosen = c.in_ok-setup.ensures.choice in
+    let made = rw c.in-Broken.is at c.convert_sheet-end.ensures in
     ends_by_cause (IsChoiceBy c.args.known.now) IsChoice c.args.sheet.now c.in_ok-setup.setup.choice c.in-Broken.cause
-    c.ending_of.result c.ending_of.ensures chosen.0 chosen.1 (λ is. (c.in-Broken.ensures.no_names is).1)
-    (λ is. (c.in-Broken.ensures.too_many is).1.more)
+    c.ending_of.result c.ending_of.ensures chosen.0 chosen.1 (λ is. (rw is at made).1.1) (λ is. (rw is at
+    made).0.1.more)

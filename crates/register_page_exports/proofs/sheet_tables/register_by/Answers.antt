@@ -9,13 +9,15 @@ use Rattle.register_page_exports.proofs.sheet_tables.register_by.Goals as goal
 
 pub returns-in-Ok-clause-whole : goal.returns-in-Ok-clause-whole
 returns-in-Ok-clause-whole c =
-    let column = c.in-Some.column.now in
+    let column = c.in-Some._found.now in
     let found = rw c.choice.ensures at c.in-Some.ensures.lookup in
     let dates = c.in_ok-setup.setup.choice.dates.now in
     let there : slice_get dates c.args.column ≡ Some column
     = slice_get-get_or dates c.args.column column found.3.0 ∙ ap (λ (d : DateColumn). Some d) (sym found.1) in
     let chosen = c.in_ok-setup.ensures.choice in
-    (c.in_ok-setup.setup.choice, chosen.0, chosen.1, column, c.in-Ok.field-0, there, search rules)
+    let made = rw c.in-Ok.is at (c.write_register-end.ensures column there) in
+    let text : c.into_inner-text.result.items ≡ made.0.0 = search rules in
+    (c.in_ok-setup.setup.choice, chosen.0, chosen.1, column, made.0.1.0, there, rw text made.0.1.1)
 
 pub returns-in_err-setup-clause-ends : goal.returns-in_err-setup-clause-ends
 returns-in_err-setup-clause-ends c =
@@ -33,10 +35,13 @@ returns-in_default-clause-ends c =
 
 pub returns-in-Err-clause-ends : goal.returns-in-Err-clause-ends
 returns-in-Err-clause-ends c =
-    let column = c.in-Some.column.now in
+    let column = c.in-Some._found.now in
     let found = rw c.choice.ensures at c.in-Some.ensures.lookup in
     let dates = c.in_ok-setup.setup.choice.dates.now in
+    let there : slice_get dates c.args.column ≡ Some column
+    = slice_get-get_or dates c.args.column column found.3.0 ∙ ap (λ (d : DateColumn). Some d) (sym found.1) in
     let chosen = c.in_ok-setup.ensures.choice in
+    let made = rw c.in-Err.is at (c.write_register-end.ensures column there) in
     ends_by_cause (IsChoiceBy c.args.known.now) (IsChoiceAt c.args.column) c.args.sheet.now
     c.in_ok-setup.setup.choice c.in-Err.cause c.ending_of.result c.ending_of.ensures chosen.0 (chosen.1, found.3.0)
-    (λ is. (c.in-Err.ensures.no_names is).1) (λ is. (c.in-Err.ensures.too_many is).1.more)
+    (λ is. (rw is at made).1.1) (λ is. (rw is at made).0.1.more)

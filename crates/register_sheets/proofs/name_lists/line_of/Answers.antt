@@ -1,4 +1,4 @@
-use Rattle.std.proofs.Common.{refl}
+use Rattle.std.proofs.Common.{refl, rules}
 use Rattle.register_sheets.proofs.name_lists.line_of.Goals as goal
 
 pub returns-in_default-clause-fault : goal.returns-in_default-clause-fault
@@ -8,6 +8,7 @@ returns-in_default-clause-fault c =
 pub returns-in_default-from_utf8-clause-fault : goal.returns-in_default-from_utf8-clause-fault
 returns-in_default-from_utf8-clause-fault c = (
   refl,
+  (c.in-Some.means, search rules),
   λ utf8. let why = rw c.in_default-from_utf8.is at c.from_utf8-2.ensures.cases in
       absurd (why.0 (rw c.field_at-2.ensures utf8)),
 )

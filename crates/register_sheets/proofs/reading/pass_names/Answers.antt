@@ -3,6 +3,7 @@ use Rattle.std.specs.Prelude.{Bool, Ok, Result}
 use Rattle.csv.specs.Records.{fields_of}
 use Rattle.register_sheets.specs.Reading.{left_of}
 use Rattle.register_sheets.proofs.ListLemmas.{none_below, one_taken, stands_below}
+use Rattle.register_sheets.proofs.ReadingLemmas.{reads_begun}
 use Rattle.register_sheets.proofs.reading.pass_names.Goals as goal
 
 pub records-preserved : goal.records-preserved
@@ -51,7 +52,7 @@ returns c =
     stands_below all c.records.counter c.args.above (fields_of c.read_next-2.new.record) [] _ (omega arith)
     (sym inv.left ∙ read.found there) in
     record {
-      reading = read.reading;
+      reading = λ there. reads_begun c.read_next-2.new.records (read.reading there) (read.begun there);
       named = λ there. (stands there).0;
       left = λ there. sym (stands there).1;
       found = λ there. sym (stands there).2;

@@ -1,37 +1,31 @@
-use Rattle.register_sheets.proofs.RegisterLemmas.{if_failed, if_full, if_none, if_part, if_whole}
+use Rattle.std.proofs.Common.{List, subst}
+use Rattle.register_records.specs.Entries.{Fields, text_records}
+use Rattle.register_sheets.specs.SheetReadings.{HasReadSheet}
+use Rattle.register_sheets.proofs.OutputLemmas.{register_none, register_produced}
 use Rattle.register_sheets.proofs.registers.write_register.Goals as goal
 
-pub returns-clause-whole : goal.returns-clause-whole
-returns-clause-whole g c =
-    rw c.count_of.ensures (if_whole _ _ (rw c.records_of-records.ensures.left at c.write_all-written.ensures.whole))
+pub returns-in-Err : goal.returns-in-Err
+returns-in-Err g c column there =
+    let choice = c.args.setup.now.choice in
+    register_none g.W.Output choice (text_records choice.delimiter c.args.sheet.now) c.args.output.now column
+    c.in-Err.cause
+    c.in-Err.ensures.fault
 
-pub returns-clause-part : goal.returns-clause-part
-returns-clause-part g c =
-    rw c.count_of.ensures (if_part _ _ (rw c.records_of-records.ensures.left at c.write_all-written.ensures.part))
+pub returns : goal.returns
+returns g c column there =
+    let choice = c.args.setup.now.choice in
+    let records = text_records choice.delimiter c.args.sheet.now in
+    let all = c.read_below-read.ensures in
+    let start = c.of_register-writers.ensures in
+    register_produced g.W.Output choice records c.read_below-read.result c.finish.result
+    c.of_register-writers.result.sheet
+    c.read_below-read.new.writers.sheet c.args.place column c.args.output.now c.read_below-read.new.output
+    c.finish.new.output
+    all.reads c.in-Ok.ensures.named
+    (subst (λ (xs : List Fields). HasReadSheet choice xs all.reads c.read_below-read.result) c.in-Ok.ensures.left
+    all.read)
+    start.place start.waits there all.takes.sheet
+    (λ given made h. (c.finish.ensures.produced given made h, c.finish.ensures.agrees given made h))
 
-pub returns-clause-too_many : goal.returns-clause-too_many
-returns-clause-too_many g c =
-    rw c.count_of.ensures
-    (if_full _ _ (rw c.records_of-records.ensures.left at c.write_all-written.ensures.full)
-    c.write_all-written.ensures.output.causes)
-
-pub returns-clause-no_names : goal.returns-clause-no_names
-returns-clause-no_names g c =
-    rw c.count_of.ensures
-    (if_none _ _ (rw c.records_of-records.ensures.left at c.write_all-written.ensures.none)
-    c.write_all-written.ensures.output.causes)
-
-pub returns-clause-flushed : goal.returns-clause-flushed
-returns-clause-flushed g c = rw c.count_of.ensures (if_whole _ _ c.write_all-written.ensures.flushed)
-
-pub returns-clause-good : goal.returns-clause-good
-returns-clause-good g c = rw c.count_of.ensures (if_failed _ _ _ _ _ c.write_all-written.ensures.output).0
-
-pub returns-clause-kept : goal.returns-clause-kept
-returns-clause-kept g c = rw c.count_of.ensures (if_failed _ _ _ _ _ c.write_all-written.ensures.output).1
-
-pub returns-clause-sink : goal.returns-clause-sink
-returns-clause-sink g c = rw c.count_of.ensures (if_failed _ _ _ _ _ c.write_all-written.ensures.output).2
-
-pub returns-clause-mark : goal.returns-clause-mark
-returns-clause-mark g c = c.write_all-written.ensures.output.marked
+pub read_below-read-requires-clause-none_noted : goal.read_below-read-requires-clause-none_noted
+read_below-read-requires-clause-none_noted g c = (0, c.of_register-writers.ensures.notes c.args.setup.now.choice)

@@ -2,7 +2,7 @@
 use Rattle.std.proofs.Common.{inr, refl}
 use Rattle.sheet_arguments.specs.Requests.{task_of}
 use Rattle.sheet_app.specs.declared.sheets.TheConstants.{MOST_UNKNOWN}
-use Rattle.sheet_app.proofs.EndLemmas.{asked_list, asked_sheet, ended_fault}
+use Rattle.sheet_app.proofs.EndLemmas.{asked_done, asked_list, ended_fault}
 use Rattle.sheet_app.proofs.sheets.write_known.Goals as goal
 
 pub returns-in_err-listed : goal.returns-in_err-listed
@@ -25,39 +25,11 @@ returns-then-job g c = λ lines asks.
       refl,
     )
 
-pub returns-in_err-whole : goal.returns-in_err-whole
-returns-in_err-whole g c = λ lines asks.
+pub returns : goal.returns
+returns g c = λ lines asks.
     let choice = c.setup_of-setup.result.choice in
     let chosen = asks choice c.setup_of-setup.ensures.0 c.setup_of-setup.ensures.1 in
-    ended_fault g.W.Output (task_of c.args.job.now) lines MOST_UNKNOWN c.args.sheet.now c.args.output.now
-    c.write_sheet.new.output c.args.registers.now c.from_residual-in_err-whole.result _ c.from_residual-in_err-whole.ensures.1
-    (inr (choice, chosen, c.in_err-whole.ensures.broken))
-
-pub returns-in-Ok : goal.returns-in-Ok
-returns-in-Ok g c = λ lines asks.
-    let choice = c.setup_of-setup.result.choice in
-    let chosen = asks choice c.setup_of-setup.ensures.0 c.setup_of-setup.ensures.1 in (
-      asked_sheet (task_of c.args.job.now) lines c.args.sheet.now choice c.in_ok-whole.whole
-          (g.W.Output.contents c.args.output.now) (g.W.Output.contents c.write_sheet.new.output) chosen
-          c.in_ok-whole.ensures.whole,
-      c.in_ok-whole.ensures.flushed,
-      c.if-job.false,
-      choice,
-      chosen,
-      c.in-Ok.ensures.whole,
-    )
-
-pub returns-in-Err : goal.returns-in-Err
-returns-in-Err g c = λ lines asks.
-    let choice = c.setup_of-setup.result.choice in
-    let chosen = asks choice c.setup_of-setup.ensures.0 c.setup_of-setup.ensures.1 in (
-      c.in_ok-whole.whole,
-      asked_sheet (task_of c.args.job.now) lines c.args.sheet.now choice c.in_ok-whole.whole
-          (g.W.Output.contents c.args.output.now) (g.W.Output.contents c.write_sheet.new.output) chosen
-          c.in_ok-whole.ensures.whole,
-      c.in_ok-whole.ensures.flushed,
-      c.if-job.false,
-      choice,
-      chosen,
-      c.in-Err.ensures.cut,
-    )
+    asked_done g.W.Output (task_of c.args.job.now) lines MOST_UNKNOWN c.args.sheet.now choice c.args.output.now
+    c.write_outputs.new.output c.args.registers.now c.write_outputs.new.registers c.write_outputs.result c.if-job.false
+    chosen
+    c.write_outputs.ensures

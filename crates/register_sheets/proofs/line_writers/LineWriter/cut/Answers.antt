@@ -1,0 +1,33 @@
+use Rattle.std.proofs.Common.{◌∙◌, refl, subst, sym}
+use Rattle.register_sheets.specs.LineWriters.{Stands}
+use Rattle.register_sheets.proofs.LineWriterLemmas.{no_fault, stands_cut, stands_longer}
+use Rattle.register_sheets.proofs.line_writers.LineWriter.cut.Goals as goal
+
+pub returns-then-is_some : goal.returns-then-is_some
+returns-then-is_some g c lines =
+    record {
+      maker = refl;
+      delimiter = refl;
+      holds = λ given made h.
+          record {
+            stands = stands_longer g.W.Output _ given _ _ made lines _ (sym c.is_some.ensures ∙ c.if-is_some.true)
+                h.stands;
+            mark = h.mark;
+          };
+    }
+
+pub returns : goal.returns
+returns g c lines =
+    let self = c.args.self.now in
+    let none = no_fault self.fault (sym c.is_some.ensures ∙ c.if-is_some.false) in
+    record {
+      maker = refl;
+      delimiter = refl;
+      holds = λ given made h.
+          record {
+            stands = stands_cut g.W.Output self.sender.delimiter given c.args._output.now self.sender.lines made lines
+                (subst (Stands g.W.Output self.sender.delimiter given c.args._output.now self.sender.lines made) none
+                h.stands);
+            mark = h.mark;
+          };
+    }

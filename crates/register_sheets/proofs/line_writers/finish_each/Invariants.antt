@@ -1,0 +1,13 @@
+use Rattle.std.proofs.Common.{◌≡◌, List, Some, length}
+use Rattle.std.specs.Prelude.{Result, slice_get}
+use Rattle.register_sheets.specs.LineWriters.{Finishes}
+use Rattle.register_sheets.specs.Produced.{first_fault}
+use Rattle.register_sheets.specs.declared.sheet_ends.SheetCause.{SheetCause}
+use Rattle.register_sheets.proofs.EachLemmas.{UpTo}
+use Rattle.register_sheets.proofs.line_writers.finish_each.Given as goal
+
+abbrev pub invariant-writers : goal.invariant-writers
+invariant-writers g l =
+    (answers : List (Result (Unit {0}) SheetCause)) × (length answers ≡ l.place) × (l.result ≡ first_fault answers)
+    × UpTo (λ place w v b a. (answer : Result (Unit {0}) SheetCause) × (slice_get answers place ≡ Some answer)
+    × Finishes g.W.Output l.read w b a answer) l.place l.fn.writers l.writers l.fn.files l.files

@@ -1,0 +1,20 @@
+use Rattle.std.proofs.Common.{◌≡◌, ◌-◌, length, true}
+use Rattle.register_records.specs.Entries.{record_limit}
+use Rattle.register_sheets.specs.SheetReaders.{given_of, goes_on, records_under}
+use Rattle.register_sheets.specs.SheetReadings.{Takes}
+use Rattle.register_sheets.specs.SheetRecords.{AreRecordsRead}
+use Rattle.register_sheets.proofs.sheet_readings.read_all.Given as goal
+
+abbrev pub invariant-records : goal.invariant-records
+invariant-records g l =
+    record {
+      goes : goes_on l.reader ≡ true;
+      setup : l.reader.setup ≡ l.setup;
+      records : records_under l.reader ≡ records_under l.fn.reader;
+      read : AreRecordsRead l.setup.choice 0 (given_of l.reader);
+      takes : Takes g.W.Output g.M.RecordLine.line l.setup.choice (given_of l.reader) l.fn.writers l.writers l.fn.output
+          l.output l.fn.files l.files;
+    }
+
+abbrev pub decreases-records : goal.decreases-records
+decreases-records g l = record_limit - length (given_of l.reader)

@@ -1,0 +1,39 @@
+use Rattle.std.proofs.Common.{◌<◌, ◌∙◌, ◌+◌, List, arith, length, length-set, subst, sym, take}
+use Rattle.std.specs.List.{AllZip}
+use Rattle.csv.specs.Records.{fields_of}
+use Rattle.register_sheets.specs.SheetRecords.{AreDatesRead, DateRead, dates_seen}
+use Rattle.register_sheets.specs.declared.choices.CalendarField.TheVariants.{Column}
+use Rattle.register_sheets.specs.declared.choices.DateColumn.{DateColumn}
+use Rattle.register_sheets.specs.declared.sheet_records.ColumnDates.{ColumnDates}
+use Rattle.register_sheets.proofs.ReadingLemmas.{set_more}
+use Rattle.register_sheets.proofs.RowLemmas.{zip_at}
+use Rattle.register_sheets.proofs.sheet_records.SheetRecord.renew.Goals as goal
+
+abbrev none : DateColumn
+none = record { date = 0; calendar = Column 0 }
+
+pub dates-preserved : goal.dates-preserved
+dates-preserved c =
+    let inv = c.dates.invariant in
+    let place = c.dates.place in
+    let choice = c.args.setup.now.choice in
+    let dates = choice.dates.now in
+    let R : DateColumn → List DateRead → Type 0 = AreDatesRead choice c.args.number (fields_of c.args.self.now.fields)
+    in
+    let column : ColumnDates = record { first = c.renew.new.self } in
+    let low : place < length c.dates.self.columns.items = omega (
+      arith,
+      inv.count,
+      c.requires.count,
+      c.dates-test.true,
+      c.dates.self.columns.ok,
+    ) in
+    record {
+      count = length-set c.dates.self.columns.items place column ∙ inv.count;
+      fields = inv.fields;
+      number = inv.number;
+      dates = subst (λ (ys : List (List DateRead)). AllZip R (take (place + 1) dates) ys)
+          (sym (set_more dates_seen c.dates.self.columns.items place column low))
+          (zip_at R dates _ place none (dates_seen column) c.dates-test.true inv.dates (rw inv.fields at
+          c.in_ok-renew.ensures));
+    }

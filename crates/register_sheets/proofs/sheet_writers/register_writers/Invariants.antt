@@ -1,0 +1,5 @@
+use Rattle.register_sheets.specs.SheetReadings.{AreRegisterWriters}
+use Rattle.register_sheets.proofs.sheet_writers.register_writers.Given as goal
+
+abbrev pub invariant-columns : goal.invariant-columns
+invariant-columns l = AreRegisterWriters l.delimiter l.place l.writers.items

@@ -1,0 +1,102 @@
+//! What is made of a sheet while it is read once.
+
+ghost use Rattle.std.specs.Prelude.{◌≡◌, ◌∷◌, [], IfOk, length};
+ghost use Rattle.register_sheets.specs.LineWriters.{Waits};
+ghost use Rattle.register_sheets.specs.Registers.{register_head};
+ghost use Rattle.register_sheets.specs.SheetNotes.{HasNotes, HasSpaceFor};
+ghost use Rattle.register_sheets.specs.SheetReadings.{AreRegisterWriters, Takes};
+ghost use Rattle.register_sheets.specs.SheetRecords.{IsRecordRead, record_read};
+ghost use Rattle.register_sheets.specs.declared.choices.SheetChoice.{SheetChoice as SheetChoiceValue};
+
+use crate::choices::SheetSetup;
+use crate::line_writers::{LineWriter, take_each};
+use crate::record_lines::{EntryLine, RecordLine};
+use crate::sheet_notes::SheetNotes;
+use crate::sheet_records::SheetRecord;
+use register_records::Output;
+use std::alloc::{AllocError, Global};
+
+/// What is made of a sheet: the notes on it, lines for its output, and those of registers for theirs.
+#[derive(Drop)]
+pub(crate) struct SheetWriters<M> {
+    pub notes: SheetNotes,
+    pub sheet: LineWriter<M>,
+    pub registers: Vec<LineWriter<EntryLine>>,
+}
+
+/// A writer of the register of the column of dates at a place, whose header waits in it.
+fn register_writer(alloc: Global, delimiter: u8, place: usize) -> LineWriter<EntryLine>
+    ensures place { result.maker.place ≡ place }
+    ensures waits { Waits delimiter (register_head ∷ []) result }
+{
+    LineWriter::headed(
+        alloc,
+        EntryLine { place },
+        delimiter,
+        &[b"id", b"calendar", b"date"],
+    )
+}
+
+/// Writers of the registers of the first columns of dates, so many.
+pub(crate) fn register_writers(
+    alloc: Global,
+    delimiter: u8,
+    count: usize,
+) -> Result<Vec<LineWriter<EntryLine>>, AllocError>
+    ensures { IfOk result (λ writers. AreRegisterWriters delimiter count writers.items) }
+{
+    let mut writers = Vec::new(alloc);
+    'columns: for place in 0..count {
+        writers.push(register_writer(alloc, delimiter, place))?;
+    }
+    Ok(writers)
+}
+
+impl SheetWriters<EntryLine> {
+    /// A writer of the register of the column of dates at a place, and no other.
+    pub fn of_register(alloc: Global, place: usize, delimiter: u8) -> SheetWriters<EntryLine>
+        ensures notes { (choice : SheetChoiceValue) → HasNotes choice [] 0 result.notes }
+        ensures place { result.sheet.maker.place ≡ place }
+        ensures waits { Waits delimiter (register_head ∷ []) result.sheet }
+        ensures none { result.registers.items ≡ [] }
+    {
+        SheetWriters {
+            notes: SheetNotes::none(alloc, 0),
+            sheet: register_writer(alloc, delimiter, place),
+            registers: Vec::new(alloc),
+        }
+    }
+
+    /// Notes alone: at most so many of the names that are not known are listed.
+    pub fn of_notes(alloc: Global, most: usize) -> SheetWriters<EntryLine>
+        ensures notes { (choice : SheetChoiceValue) → HasNotes choice [] most result.notes }
+        ensures none { result.registers.items ≡ [] }
+    {
+        SheetWriters {
+            notes: SheetNotes::none(alloc, most),
+            sheet: LineWriter::stopped(alloc, EntryLine { place: 0 }),
+            registers: Vec::new(alloc),
+        }
+    }
+}
+
+impl<M: RecordLine> SheetWriters<M> {
+    /// Notes a record, and makes its lines.
+    pub fn take<W: Output>(
+        &mut self,
+        setup: &SheetSetup,
+        of_sheet: &SheetRecord,
+        output: &mut W,
+        files: &mut [W],
+    )
+        requires space { HasSpaceFor setup.now.choice self.old.notes }
+        requires read { IsRecordRead setup.now.choice (record_read of_sheet.now) }
+        requires matched { length self.old.registers.items ≡ length files.old }
+        ensures { Takes W.Output M.line setup.now.choice (record_read of_sheet.now ∷ []) self.old self.new output.old
+            output.new files.old files.new }
+    {
+        self.notes.add(&setup.choice, of_sheet);
+        self.sheet.take(setup, of_sheet, output);
+        take_each(self.registers.as_mut_slice(), setup, of_sheet, files);
+    }
+}

@@ -1,5 +1,5 @@
 -- What is asked of a sheet by what is known, and why nothing comes of it.
-use Rattle.std.proofs.Common.{◌≡◌, ◌≤◌, ◌<◌, ℕ, List, Some, inl, inr, length, map, refl}
+use Rattle.std.proofs.Common.{◌≡◌, ◌≤◌, ◌<◌, ◌++◌, ◌∙◌, ℕ, List, [], Some, ap, inl, inr, length, map, refl, sym}
 use Rattle.std.specs.Prelude.{Err, IfErr, IfOk, IsErrAnd, Ok, Result}
 use Rattle.register_records.specs.Entries.{Fields, record_limit, text_records}
 use Rattle.register_sheets.specs.AskedOfSheets.{HasHeadings, IsChoice, IsChoiceBy, SheetAsked, asked_in}
@@ -90,3 +90,9 @@ pub refused_at : (Is : SheetChoice → Type 0) (place : ℕ) (sheet : List ℕ) 
     → (why ≡ ending.Choice) × ((choice : SheetChoice) × Is choice × ¬ (IsChoice choice))
     → EndsBy Is (IsChoiceAt place) sheet why
 refused_at Is place sheet why (e, (choice, is, refused)) = rw e (choice, is, λ ok. refused ok.0)
+
+-- the whole text of an output that was empty is what was made
+pub made_whole : (given written text : List ℕ) (Made : List ℕ → Type 0)
+    → (bytes : List ℕ) × Made bytes × (written ≡ given ++ bytes) → given ≡ [] → text ≡ written → Made text
+made_whole given written text Made (bytes, made, gained) empty whole =
+    let same : text ≡ bytes = whole ∙ gained ∙ ap (λ l. l ++ bytes) empty in rw (sym same) at made

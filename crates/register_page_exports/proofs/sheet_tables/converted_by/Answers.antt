@@ -1,14 +1,15 @@
-use Rattle.std.proofs.Common.{◌≡◌, rules}
+use Rattle.std.proofs.Common.{rules}
 use Rattle.register_sheets.specs.AskedOfSheets.{IsChoice, IsChoiceBy}
-use Rattle.register_page_exports.proofs.EndingLemmas.{ends_by_cause}
+use Rattle.register_page_exports.proofs.EndingLemmas.{ends_by_cause, made_whole}
 use Rattle.register_page_exports.proofs.sheet_tables.converted_by.Goals as goal
 
 pub returns-in-Whole-clause-whole : goal.returns-in-Whole-clause-whole
 returns-in-Whole-clause-whole c =
     let chosen = c.in_ok-setup.ensures.choice in
     let made = rw c.in-Whole.is at c.convert_sheet-end.ensures in
-    let text : c.into_inner-text.result.items ≡ made.0.0 = search rules in
-    (c.in_ok-setup.setup.choice, chosen.0, chosen.1, rw text made.0.1.0, made.0.1.1)
+    let sheet = made_whole c.new-output.result.inner.items c.convert_sheet-end.new.output.inner.items
+        c.into_inner-text.result.items _ made.0 (search rules) (search rules) in
+    (c.in_ok-setup.setup.choice, chosen.0, chosen.1, sheet.0, sheet.1)
 
 pub returns-in-Broken-clause-ends : goal.returns-in-Broken-clause-ends
 returns-in-Broken-clause-ends c =

@@ -4,7 +4,7 @@ use Rattle.register_sheets.specs.declared.choices.DateColumn.{DateColumn}
 use Rattle.register_records.proofs.StepLemmas.{passed_on}
 use Rattle.register_sheets.specs.AskedOfSheets.{IsChoiceBy}
 use Rattle.register_page_exports.specs.SheetTables.{IsChoiceAt}
-use Rattle.register_page_exports.proofs.EndingLemmas.{ends_by_cause, refused_at}
+use Rattle.register_page_exports.proofs.EndingLemmas.{ends_by_cause, made_whole, refused_at}
 use Rattle.register_page_exports.proofs.sheet_tables.register_by.Goals as goal
 
 pub returns-in-Ok-clause-whole : goal.returns-in-Ok-clause-whole
@@ -16,8 +16,9 @@ returns-in-Ok-clause-whole c =
     = slice_get-get_or dates c.args.column column found.3.0 ∙ ap (λ (d : DateColumn). Some d) (sym found.1) in
     let chosen = c.in_ok-setup.ensures.choice in
     let made = rw c.in-Ok.is at (c.write_register-end.ensures column there) in
-    let text : c.into_inner-text.result.items ≡ made.0.0 = search rules in
-    (c.in_ok-setup.setup.choice, chosen.0, chosen.1, column, made.0.1.0, there, rw text made.0.1.1)
+    let register = made_whole c.new-output.result.inner.items c.write_register-end.new.output.inner.items
+        c.into_inner-text.result.items _ made.0 (search rules) (search rules) in
+    (c.in_ok-setup.setup.choice, chosen.0, chosen.1, column, register.0, there, register.1)
 
 pub returns-in_err-setup-clause-ends : goal.returns-in_err-setup-clause-ends
 returns-in_err-setup-clause-ends c =

@@ -57,8 +57,8 @@ earlier None name rest e = refl
 earlier (Some date) name rest e = absurd (cc)
 
 at_year : (church : Church) (n : ℤ) (date : Ymd) (year : ℕ) → IsDateOf (rules_of church) date.year date.month date.day
-    → day_number_of (rules_of church) date.year date.month date.day ≡ n → date.year ≡ pos year → IsDayNumber n → 1 ≤ year
-    → name_until church n year ≡ first_name church year (date.month, date.day) day_names
+    → day_number_of (rules_of church) date.year date.month date.day ≡ n → date.year ≡ pos year → IsDayNumber n
+    → 1 ≤ year → name_until church n year ≡ first_name church year (date.month, date.day) day_names
 unfolding name_until
 at_year church n date zero valid day own range some = absurd (omega (arith, some))
 at_year church n date (suc y) valid day own range some =
@@ -86,8 +86,8 @@ climb church n date year (suc more) (suc k) valid day own e =
 
 pub named_in_year : (church : Church) (n : ℤ) (date : Ymd) (year : ℕ)
     → IsDateOf (rules_of church) date.year date.month date.day
-    → day_number_of (rules_of church) date.year date.month date.day ≡ n → date.year ≡ pos year → IsDayNumber n → 1 ≤ year
-    → year ≤ 9_999 → church_name church n ≡ first_name church year (date.month, date.day) day_names
+    → day_number_of (rules_of church) date.year date.month date.day ≡ n → date.year ≡ pos year → IsDayNumber n
+    → 1 ≤ year → year ≤ 9_999 → church_name church n ≡ first_name church year (date.month, date.day) day_names
 unfolding church_name
 named_in_year church n date year valid day own range some few =
     climb church n date year (9_999 - year) 9_999 valid day own (omega (arith, few))

@@ -3,7 +3,8 @@
 mod first_half;
 
 /// The list of names.
-pub const BUILT_NAMES: &str = crate::with_first_half!("\
+pub const BUILT_NAMES: &str = crate::with_first_half!(
+    "\
 dreiundfünfzig,53,\ndreyundfünfzig,53,\ndrei und fünfzig,53,\ndrey und fünfzig,53,\nvierundfünfzig,54,\nvier und f\
 ünfzig,54,\nfünfundfünfzig,55,\nfünf und fünfzig,55,\nsechsundfünfzig,56,\nsechs und fünfzig,56,\nsiebenundfünf\
 zig,57,\nsieben und fünfzig,57,\nachtundfünfzig,58,\nacht und fünfzig,58,\nneunundfünfzig,59,\nneun und fünfzig,59\
@@ -520,4 +521,5 @@ menian,\nвірменський,armenian,\nörmény,armenian,\narmênio,armenian
 \nΑρμενικό,armenian,\narmenialainen,armenian,\narmenisk,armenian,\narmeniska,armenian,\narmensk,armenian,\narme\
 nske,armenian,\nримский,roman,\nримський,roman,\nrómai,roman,\nΡωμαϊκό,roman,\nroomalainen,roman\
 ,\nromersk,roman,\nromerska,roman,\nromerske,roman,\n\
-");
+"
+);

@@ -8,7 +8,7 @@ returns-in-Whole-clause-whole c =
     let chosen = c.in_ok-setup.ensures.choice in
     let made = rw c.in-Whole.is at c.convert_sheet-end.ensures in
     let sheet = made_whole c.new-output.result.inner.items c.convert_sheet-end.new.output.inner.items
-        c.into_inner-text.result.items _ made.0 (search rules) (search rules) in
+    c.into_inner-text.result.items _ made.0 (search rules) (search rules) in
     (c.in_ok-setup.setup.choice, chosen.0, chosen.1, sheet.0, sheet.1)
 
 pub returns-in-Broken-clause-ends : goal.returns-in-Broken-clause-ends

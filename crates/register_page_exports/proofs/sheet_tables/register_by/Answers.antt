@@ -17,7 +17,7 @@ returns-in-Ok-clause-whole c =
     let chosen = c.in_ok-setup.ensures.choice in
     let made = rw c.in-Ok.is at (c.write_register-end.ensures column there) in
     let register = made_whole c.new-output.result.inner.items c.write_register-end.new.output.inner.items
-        c.into_inner-text.result.items _ made.0 (search rules) (search rules) in
+    c.into_inner-text.result.items _ made.0 (search rules) (search rules) in
     (c.in_ok-setup.setup.choice, chosen.0, chosen.1, column, register.0, there, register.1)
 
 pub returns-in_err-setup-clause-ends : goal.returns-in_err-setup-clause-ends

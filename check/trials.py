@@ -3,10 +3,13 @@ import contextlib
 import csv
 import dataclasses
 import io
+import importlib.machinery
+import importlib.util
 import itertools
 import json
 import os
 import pathlib
+import re
 import signal
 import subprocess
 import sys
@@ -68,6 +71,12 @@ class Trials:
                 print(*(f"  {name} {line[:1000]}" for line in str(text).split("\n")[:60]), sep="\n", flush=True)
         return is_same
 
+    def add(self, printed):
+        """Adds the counts in the last line of what a command printed; one without counts fails."""
+        counts = re.fullmatch(r"(\d+) passed, (\d+) failed", printed.rstrip("\n").rpartition("\n")[2])
+        passed, failed = map(int, counts.groups()) if counts else (0, 1)
+        self.passed, self.failed = self.passed + passed, self.failed + failed
+
     def end(self):
         """Prints the counts, and ends the program."""
         print(f"{self.passed} passed, {self.failed} failed")
@@ -79,12 +88,22 @@ def tries_itself():
     own, shown = Trials(), io.StringIO()
     with contextlib.redirect_stdout(shown):
         found = own.compare("two texts that differ", "one", "other"), own.compare("two texts that are one", "one", "one")
-    return (found, own.passed, own.failed, shown.getvalue().startswith("FAILED: two texts that differ\n")) == ((False, True), 1, 1, True)
+    for printed in ("told\n4 passed, 2 failed\n", "no counts\n"):
+        own.add(printed)
+    return (found, own.passed, own.failed, shown.getvalue().startswith("FAILED: two texts that differ\n")) == ((False, True), 5, 4, True)
 
 
 if not tries_itself():
     print("FAILED: the comparison of texts", "0 passed, 1 failed", sep="\n")
     sys.exit(1)
+
+
+def loaded(name):
+    """A check, as a module."""
+    loader = importlib.machinery.SourceFileLoader(name, str(ROOT / "check" / name))
+    module = importlib.util.module_from_spec(importlib.util.spec_from_loader(name, loader))
+    loader.exec_module(module)
+    return module
 
 
 def program_of(path, launcher="register"):

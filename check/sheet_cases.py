@@ -4,6 +4,10 @@ rules and from published day numbers."""
 VERSION = "register-sheet 1.2.0\n"
 NOT_AS_MANY = "give --calendar COLUMN or --all CALENDAR, once or once for each --date"
 
+# What holds where an option is not given, as the page of help says it.
+DEFAULTS = {"id": "the number of the record", "order": "year", "short-years": "refuse", "skip": "0", "delimiter": "comma",
+            "to": "weekday,gregorian"}
+
 # The first fault of the arguments, whatever their order.
 REFUSED = {
     "--all x": "no column of dates: give --date COLUMN",

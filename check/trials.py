@@ -71,7 +71,7 @@ class Trials:
                 print(*(f"  {name} {line[:1000]}" for line in str(text).split("\n")[:60]), sep="\n", flush=True)
         return is_same
 
-    def add(self, printed):
+    def add_counts(self, printed):
         """Adds the counts in the last line of what a command printed; one without counts fails."""
         counts = re.fullmatch(r"(\d+) passed, (\d+) failed", printed.rstrip("\n").rpartition("\n")[2])
         passed, failed = map(int, counts.groups()) if counts else (0, 1)
@@ -89,7 +89,7 @@ def tries_itself():
     with contextlib.redirect_stdout(shown):
         found = own.compare("two texts that differ", "one", "other"), own.compare("two texts that are one", "one", "one")
     for printed in ("told\n4 passed, 2 failed\n", "no counts\n"):
-        own.add(printed)
+        own.add_counts(printed)
     return (found, own.passed, own.failed, shown.getvalue().startswith("FAILED: two texts that differ\n")) == ((False, True), 5, 4, True)
 
 

@@ -1,5 +1,5 @@
 """The trials of sheets, a part of page/try-page."""
-import os, re, subprocess, time
+import io, os, re, subprocess, time, zipfile
 
 import church
 from browsers import wait_for
@@ -8,6 +8,20 @@ HERE = os.path.dirname(os.path.abspath(__file__))
 ROOT = os.path.dirname(HERE)
 # What stands before a table that is saved, so that spreadsheets read it as UTF-8.
 MARK = b"\xef\xbb\xbf"
+
+
+def workbook(sheets):
+    """A workbook (.xlsx) whose sheets each have a name over a date."""
+    made, row = io.BytesIO(), '<row><c t="inlineStr"><is><t>{}</t></is></c></row>'
+    links = "".join(f'<Relationship Id="r{i}" Target="worksheets/{i}.xml"/>' for i, _ in enumerate(sheets))
+    listed = "".join(f'<sheet name="{name}" r:id="r{i}"/>' for i, name in enumerate(sheets))
+    parts = {"xl/workbook.xml": f"<workbook><sheets>{listed}</sheets></workbook>",
+        "xl/_rels/workbook.xml.rels": f"<Relationships>{links}</Relationships>",
+        **{f"xl/worksheets/{i}.xml": row.format(head) + row.format("1.1.1700") for i, head in enumerate(sheets.values())}}
+    with zipfile.ZipFile(made, "w") as archive:
+        for name, text in parts.items():
+            archive.writestr(name, text)
+    return made.getvalue()
 
 
 class SheetTrials:
@@ -265,6 +279,10 @@ class SheetTrials:
         self.name("früh", "number")
         focused = "return [document.activeElement.localName, document.activeElement.dataset.name]"
         self.check("a number is typed beside it", ["input", "früh"], self.page.run(focused))
+        typed = "const it = document.querySelector('input[data-name=früh]');"
+        self.page.run(f"{typed} it.value = '1 806'; it.dispatchEvent(new Event('change', {{ bubbles: true }})); it.blur()")
+        self.wait_for_counts()
+        self.check("a number with a blank", "1806", self.page.run(f"{typed} return it.value"))
         self.name("früh", "nothing")
         self.name("Kalx", "K")
         self.name("Xyz", "julian")
@@ -293,6 +311,8 @@ class SheetTrials:
         for name, value in (("Xyz", "julian"), ("früh", "nothing")):
             self.name(name, value)
         self.click("#sheet-columns [value=hebrew]")
+        self.choose("#sheet-hebrew", "5000")
+        self.click("#sheet-charters")
         self.wait_for_counts()
         self.check("the first sheet", re.compile("1\tjulian\t1706-5-2"), self.text("#sheet-made"))
         self.click("#sheet-keep")
@@ -307,6 +327,9 @@ class SheetTrials:
             "The choices of one.choices.json are filled in, but for what does not fit: the column “Nr”.",
             self.text("#sheet-fit"))
         self.check("the next sheet", re.compile("1\tjulian\t1707-5-3"), self.text("#sheet-made"))
+        drawn = self.page.run("const of = (it) => document.querySelector(`#sheet-${it}`); return [of('id').value, of('short').value,"
+            "of('hebrew').value, of('charters').checked, document.querySelector('input[name=sheet-order]:checked').value]")
+        self.check("they are drawn", ["-1", "1700", "5000", True, "day"], drawn)
         self.check("its columns", re.compile("weekday\tgregorian\thebrew\trefusal"), self.text("#sheet-register"))
         self.choose_sheet(self.file("none.json", "{}"))
         self.check("choices that are none", re.compile("none.json, 2 bytes: .*is none that this page saved"), self.text("#files-list"))
@@ -334,6 +357,12 @@ class SheetTrials:
         self.give(f"{ROOT}/page/book.csv")
         wait_for("the next sheet", lambda: "4 records of 5 columns" in self.text("#sheet-said"))
         self.check("what is proposed for the next", ["utf-8", "59"], self.page.run(chosen))
+        self.give(self.file("two.xlsx", workbook({"One": "Born", "Two": "Died"})))
+        wait_for("a workbook", lambda: "Born" in self.text("#sheet-rows"))
+        self.option("#sheet-page", "^Two$")
+        wait_for("its second sheet", lambda: "Died" in self.text("#sheet-rows"))
+        shown = "const it = document.querySelector('#sheet-page'); return [...it.options].map(({ text }) => text).concat(it.value)"
+        self.check("the sheet of a workbook that is chosen", ["One", "Two", "1"], self.page.run(shown))
         self.open()
 
     def try_sorted(self):

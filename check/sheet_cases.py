@@ -27,6 +27,7 @@ REFUSED = {
     "--date=1 --all=iso --to=rd,": "unknown column: ",
     "--date=1 --all=iso '--to=rd,iso, RD'": "column named twice: rd",
     "--date=1 --all=iso --to=none": "unknown column: none",
+    "--date=1 --all=iso '--to=church,iso, Church'": "column named twice: church",
     "--date=1 --all=iso --register": "--register is for files",
     "--date=1 --all=iso a b a": "file named twice: a",
     # The first fault in the order of the checks.
@@ -186,6 +187,13 @@ STREAMS = [
      "d,julian,refusal\n06-5-12,1806-05-12,\n", ""),
     ("--date 1 --all julian --to julian", "d\n06-5-12\n", 0, "d,julian,refusal\n06-5-12,,5\n",
      lines("standard input: 1 date has a short year and is left empty: see --short-years")),
+    # The Sunday or feast of a day, in the church year of its calendar alone. Easter was on 9 April 1699, Julian, four weeks
+    # after Oculi, and on 27 March 1712, Gregorian, which is that Coptic day.
+    ("--date d --calendar c --order day --to weekday,church,gregorian",
+     "d,c\n12 März 1699,julian\n12 März 1699,gregorian\n27 März 1712,gregorian\n20.7.1428,coptic\n,julian\n", 0,
+     "d,c,weekday,church,gregorian,refusal\n12 März 1699,julian,Sunday,Dominica Oculi,1699-03-22,\n"
+     "12 März 1699,gregorian,Thursday,,1699-03-12,\n27 März 1712,gregorian,Sunday,Pascha,1712-03-27,\n"
+     "20.7.1428,coptic,Sunday,,1712-03-27,\n,julian,,,,5\n", ""),
     # The names that are not known.
     (f"{COLUMNS} --unknown", SHEET, 0, UNKNOWN, ""),
     # Why dates stay.

@@ -2,7 +2,7 @@
 use Rattle.std.specs.Prelude.{◌≡◌, ◌<◌, ◌+◌, ◌++◌, ℕ, List, [], false, codes, length, Option, IfSome, None, Some}
 use Rattle.std.specs.Prelude.{map, slice_get}
 use Rattle.register_records.specs.declared.outputs.Output as outputs
-use Rattle.register_files.specs.OutputNames.{AreApartOutputs, IsApartFrom}
+use Rattle.register_files.specs.OutputNames.{AreTwoOutputs, IsApartFrom}
 use Rattle.register_files.specs.declared.opening.FileFault.{FileFault}
 use Rattle.register_files.specs.declared.opening.FileFault.TheVariants as file_fault
 
@@ -47,7 +47,7 @@ AreNotSources AreApart files =
 abbrev pub AreTwoFiles : (List ℕ → List ℕ → Type 0) → List (List ℕ) → Type 0
 AreTwoFiles AreApart files =
     (i j : ℕ) (file later : List ℕ) → i < j → slice_get files i ≡ Some file → slice_get files j ≡ Some later
-    → AreApartOutputs AreApart (file ++ codes ".out.csv") (later ++ codes ".out.csv")
+    → AreTwoOutputs AreApart (file ++ codes ".out.csv") (later ++ codes ".out.csv")
 
 -- the file that cannot be opened or made, where the fault is that
 abbrev pub missing_file : FileFault → Option (List ℕ)

@@ -10,5 +10,5 @@ abbrev pub IsApartFrom : (List ℕ → List ℕ → Type 0) → List ℕ → Lis
 IsApartFrom AreApart other name = AreApart other name × AreApart other (part_of name)
 
 -- both names of an output were told apart from both of another one
-abbrev pub AreApartOutputs : (List ℕ → List ℕ → Type 0) → List ℕ → List ℕ → Type 0
-AreApartOutputs AreApart name other = IsApartFrom AreApart name other × IsApartFrom AreApart (part_of name) other
+abbrev pub AreTwoOutputs : (List ℕ → List ℕ → Type 0) → List ℕ → List ℕ → Type 0
+AreTwoOutputs AreApart name other = IsApartFrom AreApart name other × IsApartFrom AreApart (part_of name) other

@@ -2,7 +2,7 @@
 
 ghost use Rattle.std.specs.Prelude.{◌≡◌, ℕ, List, IfOk, false, true};
 ghost use Rattle.register_files.specs.Openings.{IsNewlyMade};
-ghost use Rattle.register_files.specs.OutputNames.{AreApartOutputs, IsApartFrom};
+ghost use Rattle.register_files.specs.OutputNames.{AreTwoOutputs, IsApartFrom};
 ghost use Rattle.register_files.specs.Places.{place_name};
 
 use crate::places::Place;
@@ -52,7 +52,7 @@ pub fn is_of_output<R, W: Output, P: FileStore<R, W>>(store: &P, name: &str, pla
 /// Whether two outputs have a name of one file, as far as can be known.
 pub fn share_file<R, W: Output, P: FileStore<R, W>>(store: &P, place: &Place, other: &Place) -> bool
     ensures { result ≡ false
-        → AreApartOutputs (P.are_apart store.now) (place_name place.now) (place_name other.now) }
+        → AreTwoOutputs (P.are_apart store.now) (place_name place.now) (place_name other.now) }
 {
     is_of_output(store, place.name(), other) || is_of_output(store, place.part(), other)
 }

@@ -5,7 +5,7 @@ ghost use Rattle.std.specs.Prelude.{IfErr, IfOk, OnOk, map, slice_get};
 ghost use Rattle.std.specs.String.{string_bytes};
 ghost use Rattle.register_files.specs.Openings.{AreMade, AreNotSources, AreOpened, AreTwoFiles, IsNewlyMade, IsNoSource, IsOfFiles};
 ghost use Rattle.register_files.specs.Openings.{output_names};
-ghost use Rattle.register_files.specs.OutputNames.{AreApartOutputs};
+ghost use Rattle.register_files.specs.OutputNames.{AreTwoOutputs};
 ghost use Rattle.register_files.specs.Places.{place_name};
 
 use crate::file_store::{FileStore, is_of_output, share_file};
@@ -72,7 +72,7 @@ fn open_sources<'a, R: Drop, W: Output, P: FileStore<R, W>>(
 /// Whether an output has a name of a file that another output goes to.
 fn is_taken<R, W: Output, P: FileStore<R, W>>(store: &P, places: &[Place], place: &Place) -> bool
     ensures { result ≡ false → (k : ℕ) (other : List ℕ) → slice_get (map place_name places.now) k ≡ Some other
-        → AreApartOutputs (P.are_apart store.now) other (place_name place.now) }
+        → AreTwoOutputs (P.are_apart store.now) other (place_name place.now) }
 {
     'places: for other in places {
         if share_file(store, other, place) {

@@ -29,6 +29,7 @@ pub fn joined(alloc: Global, text: &str, behind: &str) -> Result<String, AllocEr
 }
 
 impl Place {
+    ghost use Rattle.std.specs.String.{string_bytes};
     ghost use Rattle.register_files.specs.OutputNames.{part_of};
     ghost use Rattle.register_files.specs.Places.{place_name};
 
@@ -57,6 +58,24 @@ impl Place {
         ensures { result.now ≡ part_of (place_name self.now) }
     {
         self.part.as_str()
+    }
+
+    /// Another one, of the same output.
+    pub fn copy(&self, alloc: Global) -> Result<Place, AllocError>
+        ensures { IfOk result (λ place. place_name place ≡ place_name self.now) }
+    {
+        Ok(Place {
+            name: String::from_str(alloc, self.name.as_str())?,
+            part: String::from_str(alloc, self.part.as_str())?,
+            is_part: self.is_part,
+        })
+    }
+
+    /// The name of the output, alone.
+    pub fn into_name(self) -> String
+        ensures { string_bytes result ≡ place_name self }
+    {
+        self.name
     }
 
     /// Whether its file was made under that name, so that it is to get its own.

@@ -1,12 +1,13 @@
 -- Names of outputs, told apart from inputs and from one another.
 use Rattle.std.proofs.Common.{◌≡◌, ◌++◌, ◌∷◌, ◌+◌, ◌<◌, ◌≤◌, [], ℕ, List, All, ap, ap₂, get_or, length, map, refl, subst}
-use Rattle.std.proofs.Common.{append_assoc, Global, rules, String, sym, take}
-use Rattle.std.specs.String.{string_bytes}
+use Rattle.std.proofs.Common.{append_assoc, rules, sym, take}
 use Rattle.std.specs.Prelude.{AllPairs, Err, IfOk, Ok, OnOk, Result, flat_map}
 use Rattle.std.proofs.lemmas.List.{flat_map_more, map-append, take_all, take_more}
 use Rattle.std.proofs.lemmas.List.Elements.{All-append, All-push}
 use Rattle.std.proofs.lemmas.List.Quantifiers.{all_pairs_push}
 use Rattle.register_files.specs.Openings.{IsNewlyMade}
+use Rattle.register_files.specs.Places.{place_name}
+use Rattle.register_files.specs.declared.places.Place.{Place}
 use Rattle.register_records.specs.declared.outputs.Output as outputs
 use Rattle.sheet_app.specs.FileSheets.{names_ending}
 
@@ -57,10 +58,10 @@ pub made_by : {W : Type 0} (o : outputs.Ghosts W) (IsMade : List ℕ → ℕ →
 made_by o IsMade name same mark output e made =
     (mark, subst (λ (n : List ℕ). IsNewlyMade o IsMade n mark output) e made)
 
--- the name of a text that was put behind others
-pub noted_last : (names new : List (String Global)) (one : String Global) (name : List ℕ) → new ≡ names ++ one ∷ []
-    → string_bytes one ≡ name → map string_bytes new ≡ map string_bytes names ++ name ∷ []
-noted_last names new one name n is = rw (n, map-append, is) refl
+-- the name of a place that was put behind others
+pub noted_last : (places new : List Place) (one : Place) (name : List ℕ) → new ≡ places ++ one ∷ []
+    → place_name one ≡ name → map place_name new ≡ map place_name places ++ name ∷ []
+noted_last places new one name n is = rw (n, map-append, is) refl
 
 -- one name more, of the next item
 pub noted_more : {X : Type 0} (f : X → List ℕ) (xs : List X) (i : ℕ) (d : X) (before now new : List (List ℕ))

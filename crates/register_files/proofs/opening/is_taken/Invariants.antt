@@ -1,5 +1,5 @@
 use Rattle.register_files.proofs.Common.{map}
-use Rattle.register_files.specs.OutputNames.{AreApartOutputs}
+use Rattle.register_files.specs.OutputNames.{AreTwoOutputs}
 use Rattle.register_files.specs.Places.{place_name}
 use Rattle.register_files.proofs.MatchLemmas.{HoldBefore}
 use Rattle.register_files.proofs.opening.is_taken.Given as goal
@@ -7,5 +7,5 @@ use Rattle.register_files.proofs.opening.is_taken.Given as goal
 -- the output was told apart from the outputs so far
 abbrev pub invariant-places : goal.invariant-places
 invariant-places g l =
-    HoldBefore (λ other. AreApartOutputs (g.P.FileStore.are_apart l.store) other (place_name l.place))
+    HoldBefore (λ other. AreTwoOutputs (g.P.FileStore.are_apart l.store) other (place_name l.place))
     (map place_name l.places) l.other-index

@@ -1,7 +1,7 @@
 -- Each turn makes the next output, and tells its name apart from those before.
 use Rattle.register_files.proofs.Common.{◌≡◌, ◌∙◌, ◌+◌, ◌++◌, ap, rules, arith, codes, is_ok, map, true, slice_get}
 use Rattle.register_files.proofs.Common.{length-map, IsNewlyMade}
-use Rattle.register_files.specs.OutputNames.{AreApartOutputs}
+use Rattle.register_files.specs.OutputNames.{AreTwoOutputs}
 use Rattle.register_files.specs.Places.{place_name}
 use Rattle.register_files.proofs.MatchLemmas.{all_pairs, apart_from_earlier, more_pairs, no_pairs, value_at, made_as}
 use Rattle.register_files.proofs.MatchLemmas.{matched_values}
@@ -31,10 +31,10 @@ files-preserved g c =
       so_far_more (λ i file place. place_name place ≡ file ++ codes ".out.csv") (λ f. f.now) c.args.files.now
           c.files.places.items c.push-else-is_err.new.self.items c.files.file-index _ c.make.new.place c.files.invariant.2
           c.files-test.true (c.make.ensures.kept ∙ c.in-Ok.ensures) named,
-      more_pairs (λ file later. AreApartOutputs (g.P.FileStore.are_apart c.args.store.now) (file ++ codes ".out.csv")
+      more_pairs (λ file later. AreTwoOutputs (g.P.FileStore.are_apart c.args.store.now) (file ++ codes ".out.csv")
           (later ++ codes ".out.csv")) (map (λ f. f.now) c.args.files.now) c.files.file-index _ c.files.invariant.3
           (value_at (λ f. f.now) c.args.files.now c.files.file-index _ c.files-test.true)
-          (apart_from_earlier (AreApartOutputs (g.P.FileStore.are_apart c.args.store.now)) place_name
+          (apart_from_earlier (AreTwoOutputs (g.P.FileStore.are_apart c.args.store.now)) place_name
           (map (λ f. f.now) c.args.files.now)
           c.files.places.items (place_name c.make.new.place) _ c.files.file-index c.files.invariant.2
           (c.make.ensures.kept ∙ c.in-Ok.ensures)
@@ -59,7 +59,7 @@ returns-clause-placed g c =
 
 pub returns-clause-apart : goal.returns-clause-apart
 returns-clause-apart g c =
-    all_pairs (λ file later. AreApartOutputs (g.P.FileStore.are_apart c.args.store.now) (file ++ codes ".out.csv")
+    all_pairs (λ file later. AreTwoOutputs (g.P.FileStore.are_apart c.args.store.now) (file ++ codes ".out.csv")
     (later ++ codes ".out.csv")) (map (λ f. f.now) c.args.files.now) c.files.file-index c.files.invariant.3
     (omega (arith, c.files-test.false, c.files.auto.file-index-end, length-map c.args.files.now (λ f. f.now)))
 

@@ -1,5 +1,5 @@
 use Rattle.register_files.proofs.Common.{◌≡◌, ◌+◌, ◌++◌, map, codes, IsNewlyMade}
-use Rattle.register_files.specs.OutputNames.{AreApartOutputs}
+use Rattle.register_files.specs.OutputNames.{AreTwoOutputs}
 use Rattle.register_files.specs.Places.{place_name}
 use Rattle.register_files.proofs.MatchLemmas.{HoldOfPairs, AreMatchedSoFar}
 use Rattle.register_files.proofs.opening.make_outputs.Given as goal
@@ -12,5 +12,5 @@ invariant-files g l = (l.mark ≡ l.file-index)
     (map (λ f. f.now) l.files) l.outputs.items l.file-index
     × AreMatchedSoFar (λ i file place. place_name place ≡ file ++ codes ".out.csv") (map (λ f. f.now) l.files)
     l.places.items l.file-index
-    × HoldOfPairs (λ file later. AreApartOutputs (g.P.FileStore.are_apart l.store) (file ++ codes ".out.csv")
+    × HoldOfPairs (λ file later. AreTwoOutputs (g.P.FileStore.are_apart l.store) (file ++ codes ".out.csv")
     (later ++ codes ".out.csv")) (map (λ f. f.now) l.files) l.file-index

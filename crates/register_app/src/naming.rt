@@ -1,10 +1,11 @@
 //! Gives tables their names once their sources have ended.
 
-ghost use Rattle.std.specs.Prelude.{◌≡◌, ℕ, Bool, List, false, if◌then◌else◌, map};
+ghost use Rattle.std.specs.Prelude.{◌≡◌, ◌≢◌, ◌⊎◌, ℕ, Bool, List, false, if◌then◌else◌, map};
 ghost use Rattle.std.specs.Io.KnownBytes.{Appends};
 ghost use Rattle.register_app.specs.Namings.{AreNamed, IsUnnamedLine};
 ghost use Rattle.register_files.specs.Places.{place_name};
 
+use crate::program_faults::OUT_OF_MEMORY;
 use command_lines::INCOMPLETE;
 use register_arguments::{MEMORY_FAULT, own_line};
 use register_files::{FileStore, Place};
@@ -48,8 +49,8 @@ fn give_names<R, W: Output, P: FileStore<R, W>, E: Output>(
     are_named
 }
 
-/// Gives the tables of a run that has ended with this status their names, and returns the status: the same, unless a table
-/// has not got its name.
+/// Gives the tables of a run that has ended with this status their names, if it began, and returns the status: the same,
+/// unless a table has not got its name.
 pub fn name_tables<R, W: Output, P: FileStore<R, W>, E: Output>(
     alloc: Global,
     store: &P,
@@ -57,11 +58,17 @@ pub fn name_tables<R, W: Output, P: FileStore<R, W>, E: Output>(
     places: &[Place],
     ended: u8,
 ) -> u8
-    ensures named { (all : Bool)
+    ensures named { ended ≢ 3 → (all : Bool)
         × AreNamed E.Output (P.is_named store.now) (map place_name places.now) all errors.old errors.new
         × (result ≡ (if all then ended else 1)) }
+    ensures unbegun { ended ≡ 3 → (result ≡ 3) × (errors.new ≡ errors.old) }
+    ensures begun { result ≡ 3 → ended ≡ 3 }
+    ensures statuses { (result ≡ ended) ⊎ (result ≡ 1) }
     ensures mark { E.own_mark errors.new ≡ E.own_mark errors.old }
 {
+    if ended == OUT_OF_MEMORY {
+        return OUT_OF_MEMORY;
+    }
     if give_names(alloc, store, errors, places) {
         ended
     } else {

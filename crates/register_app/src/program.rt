@@ -16,7 +16,7 @@ ghost use Rattle.command_lines.specs.Meanings.{work};
 ghost use Rattle.register_arguments.specs.Requests.{AreWrong, IsFaultOf, MeanJust, Task, task_of};
 
 use crate::naming::name_tables;
-use crate::program_faults::ProgramFault;
+use crate::program_faults::{OUT_OF_MEMORY, ProgramFault};
 use crate::reporting::report_ends;
 use arrayvec::ArrayString;
 use command_lines::{COMPLETE, INCOMPLETE};
@@ -31,9 +31,6 @@ use std::io::Read;
 use std::sync::Wait;
 use std::thread::Threads;
 use std::time::{Clock, CpuClock};
-
-/// Memory ran out before the run.
-const OUT_OF_MEMORY: u8 = 3;
 
 /// The exit status, and the outputs as they were left.
 #[derive(Drop)]
@@ -287,11 +284,7 @@ fn convert_files<
     };
     let places = opened.places;
     let end = run_job(rt, alloc, opened.sources, opened.outputs, errors, job);
-    let status = if end.status == OUT_OF_MEMORY {
-        OUT_OF_MEMORY
-    } else {
-        name_tables(alloc, store, errors, places.as_slice(), end.status)
-    };
+    let status = name_tables(alloc, store, errors, places.as_slice(), end.status);
     Outcome {
         status,
         output,

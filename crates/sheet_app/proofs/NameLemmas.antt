@@ -1,6 +1,7 @@
 -- Names of outputs, told apart from inputs and from one another.
 use Rattle.std.proofs.Common.{◌≡◌, ◌++◌, ◌∷◌, ◌+◌, ◌<◌, ◌≤◌, [], ℕ, List, All, ap, ap₂, get_or, length, map, refl, subst}
-use Rattle.std.proofs.Common.{append_assoc, rules, sym, take}
+use Rattle.std.proofs.Common.{append_assoc, Global, rules, String, sym, take}
+use Rattle.std.specs.String.{string_bytes}
 use Rattle.std.specs.Prelude.{AllPairs, Err, IfOk, Ok, OnOk, Result, flat_map}
 use Rattle.std.proofs.lemmas.List.{flat_map_more, map-append, take_all, take_more}
 use Rattle.std.proofs.lemmas.List.Elements.{All-append, All-push}
@@ -37,6 +38,13 @@ same_endings : {X : Type 0} (file : List ℕ) (text : X → List ℕ) (others : 
     → map (λ ending. file ++ text ending) others ≡ map (λ ending. file ++ ending) (map text others)
 same_endings file text [] = refl
 same_endings file text (x ∷ xs) = ap (λ (rest : List (List ℕ)). (file ++ text x) ∷ rest) (same_endings file text xs)
+
+-- the names of the places of a sheet, its own and those of its registers
+pub all_placed : (before now new : List (List ℕ)) (file own : List ℕ) (endings : List (String Global)) → before ≡ []
+    → now ≡ before ++ (file ++ own) ∷ [] → new ≡ now ++ map (λ ending. file ++ string_bytes ending) endings
+    → new ≡ names_ending own (λ ending. ending) (map string_bytes endings) file
+all_placed before now new file own endings none one others =
+    rw (others, one, none) (ap (λ (rest : List (List ℕ)). (file ++ own) ∷ rest) (same_endings file string_bytes endings))
 
 pub same_names : {X Y : Type 0} (name : X → List ℕ) (own : List ℕ) (text : Y → List ℕ) (others : List Y) (xs : List X)
     → flat_map (λ x. names_ending own text others (name x)) xs

@@ -1,4 +1,4 @@
-use Rattle.register_files.proofs.Common.{rules, List, ℕ, ◌++◌, arith, codes, map, length-map, subst, sym}
+use Rattle.register_files.proofs.Common.{rules, List, ℕ, ◌++◌, arith, codes, map, length-map, subst}
 use Rattle.register_files.specs.Openings.{IsNoSource}
 use Rattle.register_files.proofs.MatchLemmas.{all_before, none_before, one_before, value_at}
 use Rattle.register_files.proofs.opening.check_sources_kept.Goals as goal

@@ -278,18 +278,25 @@ fn convert_files<
     ensures statuses { (result.status ≡ 0) ⊎ (result.status ≡ 1) ⊎ (result.status ≡ 3) }
     ensures errors_mark { E.own_mark errors.new ≡ E.own_mark errors.old }
 {
-    let opened = match open_files(alloc, store, job.files.as_slice()) {
+    let Opened {
+        sources,
+        outputs,
+        places,
+    } = match open_files(alloc, store, job.files.as_slice()) {
         Ok(opened) => opened,
         Err(fault) => return refuse(alloc, output, errors, &ProgramFault::Files(fault)),
     };
-    let places = opened.places;
-    let end = run_job(rt, alloc, opened.sources, opened.outputs, errors, job);
-    let status = name_tables(alloc, store, errors, places.as_slice(), end.status);
+    let JobEnd {
+        status: ended,
+        outputs,
+        ran,
+    } = run_job(rt, alloc, sources, outputs, errors, job);
+    let status = name_tables(alloc, store, errors, places.as_slice(), ended);
     Outcome {
         status,
         output,
-        outputs: end.outputs,
-        ran: end.ran,
+        outputs,
+        ran,
     }
 }
 

@@ -1,6 +1,6 @@
 -- Tables that have got their names so far, and those that have not.
-use Rattle.std.proofs.Common.{◌≡◌, ◌≤◌, ◌<◌, ◌+◌, ◌∙◌, ◌++◌, ◌∷◌, ◌⊎◌, ◌↔◌, [], ℕ, All, ap, append-nil, arith, Bool, false}
-use Rattle.std.proofs.Common.{get_or, inl, inr, length, length-append, List, refl, Some, slice_get, subst, sym, true}
+use Rattle.std.proofs.Common.{◌≡◌, ◌≤◌, ◌<◌, ◌+◌, ◌++◌, ◌∷◌, ◌⊎◌, ◌↔◌, [], ℕ, All, ap, append-nil, arith, Bool, false}
+use Rattle.std.proofs.Common.{get_or, inl, inr, length, length-append, List, refl, Some, slice_get, subst, true}
 use Rattle.std.specs.Io.KnownBytes.{Appends}
 use Rattle.std.specs.List.{AllZip, Contains, flat_map}
 use Rattle.std.proofs.lemmas.List.Concat.{flat_map-append}

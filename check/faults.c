@@ -75,6 +75,10 @@ int ftruncate(int descriptor, off_t size) {
   return fails("ftruncate", -1) ? -1 : syscall(SYS_ftruncate, descriptor, size);
 }
 
+int rename(const char *from, const char *to) {
+  return fails("rename", -1) ? -1 : NEXT(rename)(from, to);
+}
+
 int pthread_create(pthread_t *thread, const pthread_attr_t *how, void *(*body)(void *), void *given) {
   if (fails("pthread_create", -1)) return error;
   return NEXT(pthread_create)(thread, how, body, given);

@@ -248,7 +248,7 @@ MADE = [
     (f"{COLUMNS} --unknown --register a.csv", 0, {"a.csv.unknown.csv": UNKNOWN}, ""),
     # Files that cannot be opened or made: all are opened before any is made.
     ("--date 1 --all iso a.csv none.csv", 3, {}, lines("cannot open none.csv")),
-    ("--date 1 --all iso a.csv c.csv", 3, {"a.csv.dates.csv": ""}, lines("cannot make c.csv.dates.csv")),
+    ("--date 1 --all iso a.csv c.csv", 3, {"a.csv.dates.csv.part": ""}, lines("cannot make c.csv.dates.csv")),
     # An input is kept, and a list of names is read first.
     ("--date 1 --all iso --unknown --names own.csv.unknown.csv own.csv", 3, {}, lines("cannot make own.csv.unknown.csv")),
     ("--date 1 --all iso --names bad.csv a.csv", 3, {}, lines("bad list of names bad.csv: means of record 2")),

@@ -1,5 +1,6 @@
 -- What the program does: what its outputs have gained, and when its arguments are refused.
-use Rattle.std.specs.Prelude.{◌≡◌, ◌≢◌, ◌⊎◌, ◌↔◌, ℕ, List, [], ◌∷◌, ◌++◌, codes, IfSome, Option, true, false}
+use Rattle.std.specs.Prelude.{◌≡◌, ◌≢◌, ◌⊎◌, ◌↔◌, ℕ, List, [], ◌∷◌, ◌++◌, Bool, codes, IfSome, Option, true}
+use Rattle.std.specs.Prelude.{false, if◌then◌else◌}
 use Rattle.std.specs.Io.KnownBytes.{Appends}
 use Rattle.std.specs.declared.io.traits.Read as reads
 use Rattle.register_run.specs.Histories.{AreOfMachine}
@@ -11,7 +12,8 @@ use Rattle.register_records.specs.Views.{layout_of, reading_of}
 use Rattle.register_records.specs.declared.outputs.Output as outputs
 use Rattle.register_records.specs.declared.setups.Setup.{Setup}
 use Rattle.register_run.specs.declared.reports.Verdict.TheVariants.{Complete}
-use Rattle.register_files.specs.Openings.{AreMade, AreNotSources, AreOpened, AreTwoFiles}
+use Rattle.register_files.specs.Openings.{AreMade, AreNotSources, AreOpened, AreTwoFiles, output_names}
+use Rattle.register_app.specs.Namings.{AreNamed}
 use Rattle.register_app.specs.ProgramFaults.{IsOfAsked, fault_line, fault_status, request_fault_in}
 use Rattle.register_app.specs.Reports.{lines_from}
 use Rattle.command_lines.specs.Meanings.{help, version, work}
@@ -63,18 +65,25 @@ pub record IsConverted {R W E : Type 0} (r : reads.Ghosts R) (o : outputs.Ghosts
         → Appends (e.contents before) (e.contents after) (lines_from task.summary 1 report.ends.items)
     pub quiet : status ≡ 0 → task.summary ≡ false → after ≡ before
 
--- sources were opened by the names of a task and outputs made by them, none of which goes to its own source or to the
--- file of another output, as far as names were told apart; and then the sources were converted
+-- sources were opened by the names of a task and outputs made by them, none of which has a name of a source or of another
+-- output, as far as names were told apart; then the sources were converted, and the tables got their names; the status is
+-- that of the conversion, unless one did not
 pub record AreConverted {R W E : Type 0} (r : reads.Ghosts R) (o : outputs.Ghosts W) (e : outputs.Ghosts E)
-    (IsOpened : List ℕ → R → Type 0) (IsMade : List ℕ → ℕ → W → Type 0) (AreApart : List ℕ → List ℕ → Type 0)
-    (task : Task) (status : ℕ) (written : List W) (ran : List Ran) (before after : E) : Type 0 where
+    (IsOpened : List ℕ → R → Type 0) (IsMade : List ℕ → ℕ → W → Type 0) (IsNamed : List ℕ → Type 0)
+    (AreApart : List ℕ → List ℕ → Type 0) (task : Task) (status : ℕ) (written : List W) (ran : List Ran)
+    (before after : E) : Type 0 where
   pub sources : List R
   pub given : List W
   pub opened : AreOpened IsOpened task.files sources
   pub made : AreMade IsMade task.files given
   pub kept : AreNotSources AreApart task.files
   pub apart : AreTwoFiles AreApart task.files
-  pub converted : IsConverted r o e task status sources given written ran before after
+  pub ended : ℕ
+  pub reported : E
+  pub converted : IsConverted r o e task ended sources given written ran before reported
+  pub all : Bool
+  pub named : AreNamed e IsNamed (output_names task.files) all reported after
+  pub status_of : status ≡ (if all then ended else 1)
 
 -- the arguments ask for a page, which was printed; no output was made
 abbrev pub IsPageAnswered : {W E : Type 0} → outputs.Ghosts W → outputs.Ghosts E → List (List ℕ) → ℕ → W → W → List W
@@ -91,11 +100,11 @@ IsInputAnswered r o e arguments status input given written outputs ran before af
 
 -- the arguments ask for the tables of files; standard output is as it was
 abbrev pub AreFilesAnswered : {R W E : Type 0} → reads.Ghosts R → outputs.Ghosts W → outputs.Ghosts E
-    → (List ℕ → R → Type 0) → (List ℕ → ℕ → W → Type 0) → (List ℕ → List ℕ → Type 0) → List (List ℕ) → ℕ → W → W
-    → List W → List Ran → E → E → Type 0
-AreFilesAnswered r o e IsOpened IsMade AreApart arguments status given written outputs ran before after =
+    → (List ℕ → R → Type 0) → (List ℕ → ℕ → W → Type 0) → (List ℕ → Type 0) → (List ℕ → List ℕ → Type 0)
+    → List (List ℕ) → ℕ → W → W → List W → List Ran → E → E → Type 0
+AreFilesAnswered r o e IsOpened IsMade IsNamed AreApart arguments status given written outputs ran before after =
     (task : Task) × MeanJust arguments (work task) × (task.files ≢ []) × (written ≡ given)
-    × AreConverted r o e IsOpened IsMade AreApart task status outputs ran before after
+    × AreConverted r o e IsOpened IsMade IsNamed AreApart task status outputs ran before after
 
 -- standard error has gained the line on why nothing is done, with this status: something is wrong with the arguments,
 -- or memory ran out, or a file was missing; of arguments that are not taken, clap says more than the definitions

@@ -1,3 +1,4 @@
 pub mod ProgramFaults
 pub mod Reports
+pub mod Namings
 pub mod Answers

@@ -2,6 +2,7 @@
 //! the crate `register`, which hands this its arguments, its standard streams and the files of the system.
 #![tactic(auto)]
 
+mod naming;
 mod program;
 mod program_faults;
 mod reporting;

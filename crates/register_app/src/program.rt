@@ -15,7 +15,8 @@ ghost use Rattle.command_lines.specs.FileLists.{most_files};
 ghost use Rattle.command_lines.specs.Meanings.{work};
 ghost use Rattle.register_arguments.specs.Requests.{AreWrong, IsFaultOf, MeanJust, Task, task_of};
 
-use crate::program_faults::ProgramFault;
+use crate::naming::name_tables;
+use crate::program_faults::{OUT_OF_MEMORY, ProgramFault};
 use crate::reporting::report_ends;
 use arrayvec::ArrayString;
 use command_lines::{COMPLETE, INCOMPLETE};
@@ -30,9 +31,6 @@ use std::io::Read;
 use std::sync::Wait;
 use std::thread::Threads;
 use std::time::{Clock, CpuClock};
-
-/// Memory ran out before the run.
-const OUT_OF_MEMORY: u8 = 3;
 
 /// The exit status, and the outputs as they were left.
 #[derive(Drop)]
@@ -257,7 +255,7 @@ fn convert_input<
     }
 }
 
-/// Converts files.
+/// Converts files, and gives the tables of a run that began their names.
 fn convert_files<
     T: Threads + Wait + Clock + CpuClock + Sync,
     R: Read + Send + Drop,
@@ -267,7 +265,7 @@ fn convert_files<
 >(rt: &T, alloc: Global, output: W, store: &P, errors: &mut E, job: &Job<'_>) -> Outcome<W>
     requires few { length job.now.files.items ≤ most_files }
     ensures converted { result.status ≢ 3 → AreConverted R.Read W.Output E.Output
-        (P.is_opened store.now) (IsNewlyMade W.Output (P.is_made store.now))
+        (P.is_opened store.now) (IsNewlyMade W.Output (P.is_made store.now)) (P.is_named store.now)
         (P.are_apart store.now) (task_of job.now) result.status result.outputs.items result.ran.items errors.old
         errors.new }
     ensures untouched { result.output ≡ output }
@@ -280,15 +278,20 @@ fn convert_files<
     ensures statuses { (result.status ≡ 0) ⊎ (result.status ≡ 1) ⊎ (result.status ≡ 3) }
     ensures errors_mark { E.own_mark errors.new ≡ E.own_mark errors.old }
 {
-    let Opened { sources, outputs } = match open_files(alloc, store, job.files.as_slice()) {
+    let Opened {
+        sources,
+        outputs,
+        places,
+    } = match open_files(alloc, store, job.files.as_slice()) {
         Ok(opened) => opened,
         Err(fault) => return refuse(alloc, output, errors, &ProgramFault::Files(fault)),
     };
     let JobEnd {
-        status,
+        status: ended,
         outputs,
         ran,
     } = run_job(rt, alloc, sources, outputs, errors, job);
+    let status = name_tables(alloc, store, errors, places.as_slice(), ended);
     Outcome {
         status,
         output,
@@ -304,8 +307,8 @@ fn convert_files<
 /// The status is
 ///
 /// - 0 where all texts were converted, refused records included, or a page was printed;
-/// - 1 where a conversion broke off, with the line `source N: cause C` for each such source in order, or the page
-///   could not be printed;
+/// - 1 where a conversion broke off, with the line `source N: cause C` for each such source in order, where a table has
+///   not got its name, or where the page could not be printed;
 /// - 2 where the arguments were refused, with one line of the program's own or the text of clap;
 /// - 3 where a file could not be opened or made, a table would go to its own register or to the file of another table,
 ///   or memory ran out before the run, with one line.
@@ -339,8 +342,9 @@ pub fn answer<
         ⊎ IsInputAnswered R.Read W.Output E.Output (map string_bytes arguments.now) result.status
         input output result.output result.outputs.items result.ran.items errors.old errors.new
         ⊎ AreFilesAnswered R.Read W.Output E.Output (P.is_opened store.now)
-        (IsNewlyMade W.Output (P.is_made store.now)) (P.are_apart store.now) (map string_bytes arguments.now)
-        result.status output result.output result.outputs.items result.ran.items errors.old errors.new }
+        (IsNewlyMade W.Output (P.is_made store.now)) (P.is_named store.now) (P.are_apart store.now)
+        (map string_bytes arguments.now) result.status output result.output result.outputs.items result.ran.items
+        errors.old errors.new }
 
     // Unless the status is 3, arguments are refused exactly where something is wrong with them.
     ensures refused { result.status ≢ 3 → (result.status ≡ 2) ↔ AreWrong (map string_bytes arguments.now) }

@@ -7,6 +7,9 @@ use register_arguments::{MEMORY_FAULT, RequestFault, own_line};
 use register_files::{FileFault, output_name};
 use std::alloc::{AllocError, Global};
 
+/// Memory ran out before the run.
+pub const OUT_OF_MEMORY: u8 = 3;
+
 /// Why nothing is done: what is wrong with the arguments, or with the files that they name.
 #[derive(Drop)]
 pub enum ProgramFault<'a> {

@@ -1,5 +1,5 @@
 -- Lists that match so far, with one more at the end of one of them, and what holds of all that stands before a place.
-use Rattle.std.proofs.Common.{◌⊎◌, get_or, suc, zero, inl, inr, length-append, option_map, ◌≤◌}
+use Rattle.std.proofs.Common.{◌⊎◌, ap₂, get_or, suc, zero, inl, inr, length-append, option_map, ◌≤◌}
 use Rattle.register_files.proofs.Common.{rules, ◌≡◌, ◌∙◌, ◌+◌, ◌<◌, ℕ, List, [], ◌∷◌, ◌++◌, length, map, sym, ap, refl}
 use Rattle.register_files.proofs.Common.{arith, codes, Some, None, slice_get, subst, length-map, AreMatched}
 use Rattle.std.proofs.lemmas.Option.{slice_get-get_or, slice_get-map, slice_get_cases, slice_get_within}
@@ -48,6 +48,18 @@ module _ {F A B : Type 0} (Match : ℕ → A → B → Type 0) (v : F → A) (fi
   pub so_far_all : (right : List B) (n : ℕ) → AreMatchedSoFar Match (map v files) right n → n ≡ length files
       → AreMatched Match (map v files) right
   so_far_all right n so_far all = record { same_length = so_far.0 ∙ all ∙ sym (length-map files v); each = so_far.1 }
+
+-- the values of lists that match in their values
+pub matched_values : {A B C : Type 0} (f : A → C) (v : B → C) (left : List A) (right : List B)
+    → AreMatched (λ i a b. v b ≡ f a) left right → map v right ≡ map f left
+matched_values f v [] [] match = refl
+matched_values f v [] (b ∷ right) match = absurd (let long = match.same_length in omega (arith, long))
+matched_values f v (a ∷ left) [] match = absurd (let short = match.same_length in omega (arith, short))
+matched_values f v (a ∷ left) (b ∷ right) match =
+    ap₂ (λ x (xs : List _). x ∷ xs) (match.each 0 a b refl refl) (matched_values f v left right (record {
+      same_length = (let same = match.same_length in omega (arith, same));
+      each = λ i x y p q. match.each (suc i) x y p q;
+    }))
 
 -- what was made by a file's name with .out.csv at the end, and marked with the next mark
 pub made_as : {W : Type 0} (IsMade : List ℕ → ℕ → W → Type 0) (text file : List ℕ) (mark i : ℕ) (output : W)

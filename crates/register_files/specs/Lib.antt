@@ -1,3 +1,5 @@
+pub mod OutputNames
+pub mod Places
 pub mod Openings
 pub mod Sides
 pub mod LoggedWriters

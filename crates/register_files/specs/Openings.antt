@@ -1,7 +1,8 @@
 -- What the files of a command line are opened as.
 use Rattle.std.specs.Prelude.{◌≡◌, ◌<◌, ◌+◌, ◌++◌, ℕ, List, [], false, codes, length, Option, IfSome, None, Some}
-use Rattle.std.specs.Prelude.{slice_get}
+use Rattle.std.specs.Prelude.{map, slice_get}
 use Rattle.register_records.specs.declared.outputs.Output as outputs
+use Rattle.register_files.specs.OutputNames.{AreTwoOutputs, IsApartFrom}
 use Rattle.register_files.specs.declared.opening.FileFault.{FileFault}
 use Rattle.register_files.specs.declared.opening.FileFault.TheVariants as file_fault
 
@@ -28,20 +29,25 @@ abbrev pub AreMade : {W : Type 0} → (List ℕ → ℕ → W → Type 0) → Li
 AreMade IsMade files outputs = AreMatched (λ i file output. IsMade (file ++ codes ".out.csv") (i + 1) output) files
     outputs
 
--- a name was told apart from those of all files
-abbrev pub IsNoSource : (List ℕ → List ℕ → Type 0) → List (List ℕ) → List ℕ → Type 0
-IsNoSource AreApart files name = (k : ℕ) (other : List ℕ) → slice_get files k ≡ Some other → AreApart other name
+-- the names of the outputs of files
+abbrev pub output_names : List (List ℕ) → List (List ℕ)
+output_names files = map (λ file. file ++ codes ".out.csv") files
 
--- the name of each file's output was told apart from those of all files
+-- the names of all files were told apart from both names of an output
+abbrev pub IsNoSource : (List ℕ → List ℕ → Type 0) → List (List ℕ) → List ℕ → Type 0
+IsNoSource AreApart files name =
+    (k : ℕ) (other : List ℕ) → slice_get files k ≡ Some other → IsApartFrom AreApart other name
+
+-- the names of all files were told apart from both names of each file's output
 abbrev pub AreNotSources : (List ℕ → List ℕ → Type 0) → List (List ℕ) → Type 0
 AreNotSources AreApart files =
     (i : ℕ) (file : List ℕ) → slice_get files i ≡ Some file → IsNoSource AreApart files (file ++ codes ".out.csv")
 
--- the names of any two outputs were told apart
+-- the names of any two outputs, two of each, were told apart
 abbrev pub AreTwoFiles : (List ℕ → List ℕ → Type 0) → List (List ℕ) → Type 0
 AreTwoFiles AreApart files =
     (i j : ℕ) (file later : List ℕ) → i < j → slice_get files i ≡ Some file → slice_get files j ≡ Some later
-    → AreApart (file ++ codes ".out.csv") (later ++ codes ".out.csv")
+    → AreTwoOutputs AreApart (file ++ codes ".out.csv") (later ++ codes ".out.csv")
 
 -- the file that cannot be opened or made, where the fault is that
 abbrev pub missing_file : FileFault → Option (List ℕ)

@@ -4,8 +4,12 @@ ghost use Rattle.std.specs.Prelude.{◌≡◌, ◌<◌, ◌^◌, ◌++◌, ℕ, 
 ghost use Rattle.std.specs.Prelude.{IfErr, IfOk, OnOk, map, slice_get};
 ghost use Rattle.std.specs.String.{string_bytes};
 ghost use Rattle.register_files.specs.Openings.{AreMade, AreNotSources, AreOpened, AreTwoFiles, IsNewlyMade, IsNoSource, IsOfFiles};
+ghost use Rattle.register_files.specs.Openings.{output_names};
+ghost use Rattle.register_files.specs.OutputNames.{AreTwoOutputs};
+ghost use Rattle.register_files.specs.Places.{place_name};
 
-use crate::file_store::FileStore;
+use crate::file_store::{FileStore, is_of_output, share_file};
+use crate::places::{Place, joined};
 use register_records::Output;
 use std::alloc::{AllocError, Global};
 
@@ -23,19 +27,24 @@ pub enum FileFault<'a> {
     OutOfMemory,
 }
 
-/// The sources of a command line with the output of each, in its order.
+/// The outputs of a command line, in its order, and where each goes.
+struct Made<W> {
+    outputs: Vec<W>,
+    places: Vec<Place>,
+}
+
+/// The sources of a command line with the output of each, in its order, and where each output goes.
 pub struct Opened<R, W> {
     pub sources: Vec<R>,
     pub outputs: Vec<W>,
+    pub places: Vec<Place>,
 }
 
 /// The name of a file's output.
 pub fn output_name(alloc: Global, file: &str) -> Result<String, AllocError>
     ensures { IfOk result (λ name. string_bytes name ≡ file.now ++ SUFFIX.now) }
 {
-    let mut name = String::from_str(alloc, file)?;
-    name.push_str(SUFFIX)?;
-    Ok(name)
+    joined(alloc, file, SUFFIX)
 }
 
 /// Opens each file.
@@ -60,32 +69,33 @@ fn open_sources<'a, R: Drop, W: Output, P: FileStore<R, W>>(
     Ok(sources)
 }
 
-/// Whether an output's name is that of a file that another output goes to.
-fn is_taken<R, W: Output, P: FileStore<R, W>>(store: &P, names: &[String], name: &str) -> bool
-    ensures { result ≡ false → (k : ℕ) (other : List ℕ) → slice_get (map string_bytes names.now) k ≡ Some other
-        → P.are_apart store.now other name.now }
+/// Whether an output has a name of a file that another output goes to.
+fn is_taken<R, W: Output, P: FileStore<R, W>>(store: &P, places: &[Place], place: &Place) -> bool
+    ensures { result ≡ false → (k : ℕ) (other : List ℕ) → slice_get (map place_name places.now) k ≡ Some other
+        → AreTwoOutputs (P.are_apart store.now) other (place_name place.now) }
 {
-    'names: for other in names {
-        if store.are_one_file(other.as_str(), name) {
+    'places: for other in places {
+        if share_file(store, other, place) {
             return true;
         }
     }
     false
 }
 
-/// Whether an output's name is that of one of the files.
-fn is_source<R, W: Output, P: FileStore<R, W>>(store: &P, files: &[&str], name: &str) -> bool
-    ensures { result ≡ false → IsNoSource (P.are_apart store.now) (map (λ file. file.now) files.now) name.now }
+/// Whether an output has a name of one of the files.
+fn is_source<R, W: Output, P: FileStore<R, W>>(store: &P, files: &[&str], place: &Place) -> bool
+    ensures { result ≡ false
+        → IsNoSource (P.are_apart store.now) (map (λ file. file.now) files.now) (place_name place.now) }
 {
     'files: for &other in files {
-        if store.are_one_file(other, name) {
+        if is_of_output(store, other, place) {
             return true;
         }
     }
     false
 }
 
-/// Refuses the first file whose output would go to one of the files and empty it, as where it is a link to it.
+/// Refuses the first file whose output has a name of one of the files, as where it is a link to it.
 fn check_sources_kept<'a, R, W: Output, P: FileStore<R, W>>(
     alloc: Global,
     store: &P,
@@ -95,10 +105,10 @@ fn check_sources_kept<'a, R, W: Output, P: FileStore<R, W>>(
     ensures named { IfErr result (IsOfFiles (map (λ file. file.now) files.now)) }
 {
     'files: for &file in files {
-        let Ok(name) = output_name(alloc, file) else {
+        let Ok(place) = Place::new(alloc, file, SUFFIX) else {
             return Err(FileFault::OutOfMemory);
         };
-        if is_source(store, files, name.as_str()) {
+        if is_source(store, files, &place) {
             return Err(FileFault::CannotMake(file));
         }
     }
@@ -110,32 +120,34 @@ fn make_outputs<'a, R, W: Output + Drop, P: FileStore<R, W>>(
     alloc: Global,
     store: &P,
     files: &[&'a str],
-) -> Result<Vec<W>, FileFault<'a>>
+) -> Result<Made<W>, FileFault<'a>>
     requires few { length files.now < 2 ^ 32 }
-    ensures made { IfOk result (λ outputs. AreMade (IsNewlyMade W.Output
-        (P.is_made store.now)) (map (λ file. file.now) files.now) outputs.items) }
-    ensures apart { IfOk result (λ outputs. AreTwoFiles (P.are_apart store.now) (map (λ file. file.now) files.now)) }
+    ensures made { IfOk result (λ made. AreMade (IsNewlyMade W.Output
+        (P.is_made store.now)) (map (λ file. file.now) files.now) made.outputs.items) }
+    ensures placed { IfOk result (λ made. map place_name made.places.items
+        ≡ output_names (map (λ file. file.now) files.now)) }
+    ensures apart { OnOk result (AreTwoFiles (P.are_apart store.now) (map (λ file. file.now) files.now)) }
     ensures named { IfErr result (IsOfFiles (map (λ file. file.now) files.now)) }
 {
     let mut outputs = Vec::new(alloc);
-    let mut names = Vec::new(alloc);
+    let mut places = Vec::new(alloc);
     let mut mark = 0;
     'files: for &file in files {
-        let Ok(name) = output_name(alloc, file) else {
+        let Ok(mut place) = Place::new(alloc, file, SUFFIX) else {
             return Err(FileFault::OutOfMemory);
         };
         mark += 1;
-        let Ok(output) = store.make(name.as_str(), mark) else {
+        let Ok(output) = store.make(&mut place, mark) else {
             return Err(FileFault::CannotMake(file));
         };
-        if is_taken(store, names.as_slice(), name.as_str()) {
+        if is_taken(store, places.as_slice(), &place) {
             return Err(FileFault::CannotMake(file));
         }
-        if outputs.push(output).is_err() || names.push(name).is_err() {
+        if outputs.push(output).is_err() || places.push(place).is_err() {
             return Err(FileFault::OutOfMemory);
         }
     }
-    Ok(outputs)
+    Ok(Made { outputs, places })
 }
 
 /// Opens all files, and then makes the output of each. The mark of an output is its place, from 1.
@@ -155,12 +167,18 @@ pub fn open_files<'a, R: Drop, W: Output + Drop, P: FileStore<R, W>>(
         o.sources.items) }
     ensures made { IfOk result (λ o. AreMade (IsNewlyMade W.Output
         (P.is_made store.now)) (map (λ file. file.now) files.now) o.outputs.items) }
+    ensures placed { IfOk result (λ o. map place_name o.places.items
+        ≡ output_names (map (λ file. file.now) files.now)) }
     ensures kept { IfOk result (λ o. AreNotSources (P.are_apart store.now) (map (λ file. file.now) files.now)) }
     ensures apart { IfOk result (λ o. AreTwoFiles (P.are_apart store.now) (map (λ file. file.now) files.now)) }
     ensures named { IfErr result (IsOfFiles (map (λ file. file.now) files.now)) }
 {
     let sources = open_sources(alloc, store, files)?;
     check_sources_kept(alloc, store, files)?;
-    let outputs = make_outputs(alloc, store, files)?;
-    Ok(Opened { sources, outputs })
+    let Made { outputs, places } = make_outputs(alloc, store, files)?;
+    Ok(Opened {
+        sources,
+        outputs,
+        places,
+    })
 }

@@ -1,6 +1,6 @@
 -- Items that are moved from the front of one list to the end of another.
 use Rattle.std.proofs.Common.{◌≡◌, ◌++◌, ◌∷◌, [], List, All, append_assoc, arith, length, map, subst, sym}
-use Rattle.std.proofs.Common.{◌≢◌, ◌⊎◌, ℕ, ap₂, inl, inr, refl}
+use Rattle.std.proofs.Common.{◌≢◌, ◌∙◌, ◌⊎◌, ℕ, ap, ap₂, inl, inr, refl}
 use Rattle.std.proofs.Common.{◌<◌, ◌+◌, Bool, get_or, take, true}
 use Rattle.std.specs.Prelude.{◌==◌}
 use Rattle.std.specs.Borrow.{Bor}
@@ -13,7 +13,7 @@ use Rattle.register_records.specs.declared.outputs.Output as outputs
 use Rattle.register_sheets.specs.declared.name_lists.NameLine.{NameLine}
 use Rattle.sheet_arguments.specs.Requests.{Task}
 use Rattle.sheet_app.specs.EndedSheets.{IsEndOf, IsEndedSheet, ended_name}
-use Rattle.sheet_app.specs.FileSheets.{IsNewSheet, register_endings, sheet_name}
+use Rattle.sheet_app.specs.FileSheets.{IsNewSheet, ending_of, names_ending, register_endings, sheet_name}
 use Rattle.sheet_app.specs.declared.converting.EndedSheet.{EndedSheet}
 use Rattle.sheet_app.specs.declared.file_sheets.FileSheet.{FileSheet}
 
@@ -55,27 +55,29 @@ zip_more R all xs left rest ys new x y n s e zip one =
     (xs ++ x ∷ [], rw append_assoc (rw s at e), rw n (zip_pushed R xs ys x y zip one))
 
 -- the sheets that were made have ended
-pub ends_named : {R W : Type 0} (r : reads.Ghosts R) (o : outputs.Ghosts W) (task : Task) (lines : List NameLine)
-    (sheets : List (FileSheet R W)) (ended : List (EndedSheet W)) → AllZip (IsEndOf r o task lines) sheets ended
-    → map ended_name ended ≡ map sheet_name sheets
-ends_named r o task lines [] [] zip = refl
-ends_named r o task lines [] (end ∷ ended) zip = absurd zip
-ends_named r o task lines (sheet ∷ sheets) [] zip = absurd zip
-ends_named r o task lines (sheet ∷ sheets) (end ∷ ended) zip =
-    ap₂ (λ (n : Text) (ns : List Text). n ∷ ns) zip.0.named (ends_named r o task lines sheets ended zip.1)
+pub ends_named : {R W : Type 0} (r : reads.Ghosts R) (o : outputs.Ghosts W) (IsNamed : Text → Type 0) (task : Task)
+    (lines : List NameLine) (sheets : List (FileSheet R W)) (ended : List (EndedSheet W))
+    → AllZip (IsEndOf r o IsNamed task lines) sheets ended → map ended_name ended ≡ map sheet_name sheets
+ends_named r o IsNamed task lines [] [] zip = refl
+ends_named r o IsNamed task lines [] (end ∷ ended) zip = absurd zip
+ends_named r o IsNamed task lines (sheet ∷ sheets) [] zip = absurd zip
+ends_named r o IsNamed task lines (sheet ∷ sheets) (end ∷ ended) zip =
+    ap₂ (λ (n : Text) (ns : List Text). n ∷ ns) zip.0.named (ends_named r o IsNamed task lines sheets ended zip.1)
 
 pub ends_all : {R W : Type 0} (r : reads.Ghosts R) (o : outputs.Ghosts W) (IsOpened : Text → R → Type 0)
-    (IsMade : Text → ℕ → W → Type 0) (task : Task) (lines : List NameLine) (sheets : List (FileSheet R W))
-    (ended : List (EndedSheet W)) → All (IsNewSheet o IsOpened IsMade task (register_endings task)) sheets
-    → AllZip (IsEndOf r o task lines) sheets ended → All (IsEndedSheet r o IsOpened IsMade task lines) ended
-ends_all r o IsOpened IsMade task lines [] [] new zip = All-nil (IsEndedSheet r o IsOpened IsMade task lines)
-ends_all r o IsOpened IsMade task lines [] (end ∷ ended) new zip = absurd zip
-ends_all r o IsOpened IsMade task lines (sheet ∷ sheets) [] new zip = absurd zip
-ends_all r o IsOpened IsMade task lines (sheet ∷ sheets) (end ∷ ended) new zip =
+    (IsMade : Text → ℕ → W → Type 0) (IsNamed : Text → Type 0) (task : Task) (lines : List NameLine)
+    (sheets : List (FileSheet R W)) (ended : List (EndedSheet W))
+    → All (IsNewSheet o IsOpened IsMade task (register_endings task)) sheets
+    → AllZip (IsEndOf r o IsNamed task lines) sheets ended
+    → All (IsEndedSheet r o IsOpened IsMade IsNamed task lines) ended
+ends_all r o IsOpened IsMade IsNamed task lines [] [] new zip = All-nil (IsEndedSheet r o IsOpened IsMade IsNamed task lines)
+ends_all r o IsOpened IsMade IsNamed task lines [] (end ∷ ended) new zip = absurd zip
+ends_all r o IsOpened IsMade IsNamed task lines (sheet ∷ sheets) [] new zip = absurd zip
+ends_all r o IsOpened IsMade IsNamed task lines (sheet ∷ sheets) (end ∷ ended) new zip =
     let New = IsNewSheet o IsOpened IsMade task (register_endings task) in
     let one = All-head New sheet sheets new in
     let name = zip.0.named in
-    All-cons (IsEndedSheet r o IsOpened IsMade task lines) end ended (record {
+    All-cons (IsEndedSheet r o IsOpened IsMade IsNamed task lines) end ended (record {
       source = sheet.source;
       opened = rw name one.opened;
       given = sheet.output;
@@ -83,7 +85,9 @@ ends_all r o IsOpened IsMade task lines (sheet ∷ sheets) (end ∷ ended) new z
       new = sheet.registers.items;
       registers = rw name one.registers;
       converted = zip.0.converted;
-    }) (ends_all r o IsOpened IsMade task lines sheets ended (All-tail New sheet sheets new) zip.1)
+      names = λ all. subst (All IsNamed) (one.places ∙ ap (λ (file : Text). names_ending (ending_of task) (λ ending. ending)
+          (register_endings task) file) (sym name)) (zip.0.names all);
+    }) (ends_all r o IsOpened IsMade IsNamed task lines sheets ended (All-tail New sheet sheets new) zip.1)
 
 -- one more, of the name at its index
 pub named_more : {X : Type 0} (f : X → Text) (names : List (Bor Text)) (done new : List X) (one : X) (i : ℕ) (d : Bor Text)

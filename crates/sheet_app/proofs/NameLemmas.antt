@@ -7,6 +7,8 @@ use Rattle.std.proofs.lemmas.List.{flat_map_more, map-append, take_all, take_mor
 use Rattle.std.proofs.lemmas.List.Elements.{All-append, All-push}
 use Rattle.std.proofs.lemmas.List.Quantifiers.{all_pairs_push}
 use Rattle.register_files.specs.Openings.{IsNewlyMade}
+use Rattle.register_files.specs.Places.{place_name}
+use Rattle.register_files.specs.declared.places.Place.{Place}
 use Rattle.register_records.specs.declared.outputs.Output as outputs
 use Rattle.sheet_app.specs.FileSheets.{names_ending}
 
@@ -37,6 +39,13 @@ same_endings : {X : Type 0} (file : List ℕ) (text : X → List ℕ) (others : 
 same_endings file text [] = refl
 same_endings file text (x ∷ xs) = ap (λ (rest : List (List ℕ)). (file ++ text x) ∷ rest) (same_endings file text xs)
 
+-- the names of the places of a sheet, its own and those of its registers
+pub all_placed : (before now new : List (List ℕ)) (file own : List ℕ) (endings : List (String Global)) → before ≡ []
+    → now ≡ before ++ (file ++ own) ∷ [] → new ≡ now ++ map (λ ending. file ++ string_bytes ending) endings
+    → new ≡ names_ending own (λ ending. ending) (map string_bytes endings) file
+all_placed before now new file own endings none one others =
+    rw (others, one, none) (ap (λ (rest : List (List ℕ)). (file ++ own) ∷ rest) (same_endings file string_bytes endings))
+
 pub same_names : {X Y : Type 0} (name : X → List ℕ) (own : List ℕ) (text : Y → List ℕ) (others : List Y) (xs : List X)
     → flat_map (λ x. names_ending own text others (name x)) xs
     ≡ flat_map (names_ending own (λ ending. ending) (map text others)) (map name xs)
@@ -57,10 +66,10 @@ pub made_by : {W : Type 0} (o : outputs.Ghosts W) (IsMade : List ℕ → ℕ →
 made_by o IsMade name same mark output e made =
     (mark, subst (λ (n : List ℕ). IsNewlyMade o IsMade n mark output) e made)
 
--- the name of a text that was put behind others
-pub noted_last : (names new : List (String Global)) (one : String Global) (name : List ℕ) → new ≡ names ++ one ∷ []
-    → string_bytes one ≡ name → map string_bytes new ≡ map string_bytes names ++ name ∷ []
-noted_last names new one name n is = rw (n, map-append, is) refl
+-- the name of a place that was put behind others
+pub noted_last : (places new : List Place) (one : Place) (name : List ℕ) → new ≡ places ++ one ∷ []
+    → place_name one ≡ name → map place_name new ≡ map place_name places ++ name ∷ []
+noted_last places new one name n is = rw (n, map-append, is) refl
 
 -- one name more, of the next item
 pub noted_more : {X : Type 0} (f : X → List ℕ) (xs : List X) (i : ℕ) (d : X) (before now new : List (List ℕ))

@@ -83,13 +83,13 @@ pub record IsInputAnswered {R W E : Type 0} (r : reads.Ghosts R) (o : outputs.Gh
   pub no_sheets : sheets ≡ []
   pub converted : IsInputConverted r o e task lines status input given written before after
 
--- the arguments ask for the sheets of files: the name of no output is that of an input or of another output, as far as
+-- the arguments ask for the sheets of files: no name of an output is that of an input or of another output, as far as
 -- names were told apart; each sheet has ended, with its lines, and the status is 0 exactly where all are complete; standard
 -- output is as it was
 pub record AreFilesAnswered {R W E : Type 0} (r : reads.Ghosts R) (o : outputs.Ghosts W) (e : outputs.Ghosts E)
-    (IsOpened : Text → R → Type 0) (IsMade : Text → ℕ → W → Type 0) (AreApart : Text → Text → Type 0)
-    (arguments : List Text) (built : List ℕ) (status : ℕ) (given written : W) (sheets : List (EndedSheet W))
-    (before after : E) : Type 0 where
+    (IsOpened : Text → R → Type 0) (IsMade : Text → ℕ → W → Type 0) (IsNamed : Text → Type 0)
+    (AreApart : Text → Text → Type 0) (arguments : List Text) (built : List ℕ) (status : ℕ) (given written : W)
+    (sheets : List (EndedSheet W)) (before after : E) : Type 0 where
   pub task : Task
   pub lines : List NameLine
   pub asked : MeanJust arguments (work task)
@@ -98,6 +98,6 @@ pub record AreFilesAnswered {R W E : Type 0} (r : reads.Ghosts R) (o : outputs.G
   pub untouched : written ≡ given
   pub outputs : AreApartOutputs AreApart task
   pub of_files : map ended_name sheets ≡ task.files
-  pub ended : All (IsEndedSheet r o IsOpened IsMade task lines) sheets
+  pub ended : All (IsEndedSheet r o IsOpened IsMade IsNamed task lines) sheets
   pub complete : (status ≡ 0) ↔ All (λ sheet. is_complete sheet ≡ true) sheets
   pub reported : AreReported e task sheets before after

@@ -1,14 +1,15 @@
 -- The sheets of a command line, as they have ended.
-use Rattle.std.specs.Prelude.{◌≡◌, ◌&&◌, ◌⊎◌, ℕ, All, Bool, List, IfSome, false, length, true}
+use Rattle.std.specs.Prelude.{◌≡◌, ◌&&◌, ◌⊎◌, ◌++◌, ℕ, All, Bool, List, IfSome, false, length, map, true}
 use Rattle.std.specs.Io.KnownBytes.{Appends}
 use Rattle.std.specs.List.{AllZip, flat_map}
 use Rattle.std.specs.declared.io.traits.Read as reads
 use Rattle.clap.specs.Words.{Text}
+use Rattle.register_files.specs.Places.{place_name}
 use Rattle.register_records.specs.declared.outputs.Output as outputs
 use Rattle.register_sheets.specs.declared.name_lists.NameLine.{NameLine}
 use Rattle.sheet_arguments.specs.Requests.{Task}
-use Rattle.sheet_app.specs.FileSheets.{IsMadeFor, ending_of, register_endings, sheet_name}
-use Rattle.sheet_app.specs.Lines.{lines_on}
+use Rattle.sheet_app.specs.FileSheets.{IsMadeFor, ending_of, names_ending, register_endings, sheet_name}
+use Rattle.sheet_app.specs.Lines.{lines_on, names_line}
 use Rattle.sheet_app.specs.Sheets.{IsEnded}
 use Rattle.sheet_app.specs.declared.converting.EndedSheet.{EndedSheet}
 use Rattle.sheet_app.specs.declared.file_sheets.FileSheet.{FileSheet}
@@ -38,13 +39,15 @@ is_whole (done.Whole whole) = true
 is_whole (done.Listed listed) = true
 is_whole other = false
 
--- and nothing to report was lost
+-- under its names, and nothing to report was lost
 abbrev pub is_complete : {W : Type 0} → EndedSheet W → Bool
-is_complete sheet = is_whole sheet.done && sheet.is_reported
+is_complete sheet = (is_whole sheet.done && sheet.are_named) && sheet.is_reported
 
 -- the lines on a sheet
 abbrev pub ended_lines : {W : Type 0} → Task → EndedSheet W → List ℕ
-ended_lines task sheet = lines_on task.summary (length task.dates) (ended_name sheet) sheet.done
+ended_lines task sheet =
+    lines_on task.summary (length task.dates) (ended_name sheet) sheet.done
+    ++ names_line (ended_name sheet) sheet.are_named
 
 -- standard error has gained the lines on these sheets, if there was memory for all, and unless it failed
 pub record AreReported {W E : Type 0} (e : outputs.Ghosts E) (task : Task) (sheets : List (EndedSheet W))
@@ -53,16 +56,19 @@ pub record AreReported {W E : Type 0} (e : outputs.Ghosts E) (task : Task) (shee
   pub gained : All (λ sheet. sheet.is_reported ≡ true) sheets → e.has_failed after ≡ false
       → Appends (e.contents before) (e.contents after) (flat_map (ended_lines task) sheets)
 
--- this is how a sheet has ended
-pub record IsEndOf {R W : Type 0} (r : reads.Ghosts R) (o : outputs.Ghosts W) (task : Task) (lines : List NameLine)
-    (sheet : FileSheet R W) (ended : EndedSheet W) : Type 0 where
+-- this is how a sheet has ended; its outputs have got their names, where that is said
+pub record IsEndOf {R W : Type 0} (r : reads.Ghosts R) (o : outputs.Ghosts W) (IsNamed : Text → Type 0) (task : Task)
+    (lines : List NameLine) (sheet : FileSheet R W) (ended : EndedSheet W) : Type 0 where
   pub named : ended_name ended ≡ sheet_name sheet
   pub converted : IsConverted r o task lines sheet.source sheet.output ended.output sheet.registers.items
       ended.registers.items ended.done
+  pub names : ended.are_named ≡ true → All IsNamed (map place_name sheet.places.items)
 
--- a sheet of a file was converted from the file of its name, to outputs that were made by that name with their endings
+-- a sheet of a file was converted from the file of its name, to outputs that were made by that name with their endings, and
+-- have got these names, where that is said
 pub record IsEndedSheet {R W : Type 0} (r : reads.Ghosts R) (o : outputs.Ghosts W) (IsOpened : Text → R → Type 0)
-    (IsMade : Text → ℕ → W → Type 0) (task : Task) (lines : List NameLine) (sheet : EndedSheet W) : Type 0 where
+    (IsMade : Text → ℕ → W → Type 0) (IsNamed : Text → Type 0) (task : Task) (lines : List NameLine)
+    (sheet : EndedSheet W) : Type 0 where
   pub source : R
   pub opened : IsOpened (ended_name sheet) source
   pub given : W
@@ -70,3 +76,5 @@ pub record IsEndedSheet {R W : Type 0} (r : reads.Ghosts R) (o : outputs.Ghosts 
   pub new : List W
   pub registers : AllZip (IsMadeFor o IsMade (ended_name sheet)) (register_endings task) new
   pub converted : IsConverted r o task lines source given sheet.output new sheet.registers.items sheet.done
+  pub names : sheet.are_named ≡ true
+      → All IsNamed (names_ending (ending_of task) (λ ending. ending) (register_endings task) (ended_name sheet))

@@ -1,10 +1,12 @@
 -- The sheets of a command line, as their files are opened.
-use Rattle.std.specs.Prelude.{◌==◌, ◌&&◌, ◌++◌, ◌∷◌, [], ℕ, All, AllPairs, IfSome, List, codes, flat_map, if◌then◌else◌}
+use Rattle.std.specs.Prelude.{◌≡◌, ◌==◌, ◌&&◌, ◌++◌, ◌∷◌, [], ℕ, All, AllPairs, IfSome, List, codes, flat_map, if◌then◌else◌}
 use Rattle.std.specs.Prelude.{length, map, not}
 use Rattle.std.specs.Fmt.{decimal}
 use Rattle.std.specs.List.{AllZip, range_with_len}
 use Rattle.clap.specs.Words.{Text}
 use Rattle.register_files.specs.Openings.{IsNewlyMade}
+use Rattle.register_files.specs.OutputNames.{AreTwoOutputs, IsApartFrom}
+use Rattle.register_files.specs.Places.{place_name}
 use Rattle.register_records.specs.declared.outputs.Output as outputs
 use Rattle.sheet_arguments.specs.Requests.{Task}
 use Rattle.sheet_app.specs.declared.file_sheets.FileSheet.{FileSheet}
@@ -32,15 +34,15 @@ names_ending own text others file = (file ++ own) ∷ map (λ ending. file ++ te
 abbrev pub outputs_of : Task → List Text
 outputs_of task = flat_map (names_ending (ending_of task) (λ ending. ending) (register_endings task)) task.files
 
--- the name was told apart from those of all inputs: of the sheets, and of the list of names
+-- the names of all inputs, of the sheets and of the list of names, were told apart from both names of an output
 pub record IsNoInput (AreApart : Text → Text → Type 0) (task : Task) (name : Text) : Type 0 where
-  pub sheets : All (λ file. AreApart file name) task.files
-  pub list : IfSome task.names (λ list. AreApart list name)
+  pub sheets : All (λ file. IsApartFrom AreApart file name) task.files
+  pub list : IfSome task.names (λ list. IsApartFrom AreApart list name)
 
 -- the outputs were told apart from all inputs and from one another
 pub record AreApartOutputs (AreApart : Text → Text → Type 0) (task : Task) : Type 0 where
   pub kept : All (IsNoInput AreApart task) (outputs_of task)
-  pub apart : AllPairs AreApart (outputs_of task)
+  pub apart : AllPairs (AreTwoOutputs AreApart) (outputs_of task)
 
 abbrev pub source_name : {R : Type 0} → OpenedFile R → Text
 source_name opened = opened.name.now
@@ -52,9 +54,12 @@ sheet_name sheet = sheet.name.now
 abbrev pub IsMadeFor : {W : Type 0} → outputs.Ghosts W → (Text → ℕ → W → Type 0) → Text → List ℕ → W → Type 0
 IsMadeFor o IsMade file ending output = (mark : ℕ) × IsNewlyMade o IsMade (file ++ ending) mark output
 
--- the sheet comes from the file of its name, and its output and those of its registers, which end so, were made for it
+-- the sheet comes from the file of its name, and its output and those of its registers, which end so, were made for it and
+-- are to get these names
 pub record IsNewSheet {R W : Type 0} (o : outputs.Ghosts W) (IsOpened : Text → R → Type 0)
     (IsMade : Text → ℕ → W → Type 0) (task : Task) (endings : List (List ℕ)) (sheet : FileSheet R W) : Type 0 where
   pub opened : IsOpened (sheet_name sheet) sheet.source
   pub output : IsMadeFor o IsMade (sheet_name sheet) (ending_of task) sheet.output
   pub registers : AllZip (IsMadeFor o IsMade (sheet_name sheet)) endings sheet.registers.items
+  pub places : map place_name sheet.places.items ≡ names_ending (ending_of task) (λ ending. ending) endings
+      (sheet_name sheet)

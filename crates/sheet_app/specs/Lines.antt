@@ -34,6 +34,7 @@ abbrev pub fault_text : SheetFault → Text
 fault_text fault.OutOfMemory = codes "out of memory"
 fault_text fault.Unread = codes "cannot be read"
 fault_text fault.Unwritten = codes "cannot write what comes of it"
+fault_text fault.Unnamed = codes "cannot name what comes of it"
 fault_text fault.NoNames = codes "no record with names"
 fault_text fault.TooManyRecords = codes "more than 1000000 records"
 fault_text (fault.NoColumn word names) =
@@ -124,3 +125,7 @@ lines_on summary dates name (done.Whole whole) =
 lines_on summary dates name (done.WholeBut fault) = head_of name ++ (fault_text fault ++ 10 ∷ [])
 lines_on summary dates name (done.Listed listed) = more_line name listed.more ++ kept_lines name listed.unread
 lines_on summary dates name (done.Broken fault) = head_of name ++ (fault_text fault ++ 10 ∷ [])
+
+-- the line on a sheet of which not all outputs have got their names
+abbrev pub names_line : Text → Bool → Text
+names_line name named = if named then [] else (head_of name ++ (fault_text fault.Unnamed ++ 10 ∷ []))

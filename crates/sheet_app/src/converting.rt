@@ -1,16 +1,19 @@
 //! Reads the sheets of a command line, and converts each.
 
 ghost use Rattle.std.specs.Prelude.{◌≡◌, ◌≤◌, ◌↔◌, [], All, true, vec_capacity, vec_len};
+ghost use Rattle.std.specs.Prelude.{map};
 ghost use Rattle.std.specs.List.{AllZip};
+ghost use Rattle.register_files.specs.Places.{place_name};
 ghost use Rattle.sheet_arguments.specs.Requests.{task_of};
 ghost use Rattle.sheet_app.specs.EndedSheets.{AreReported, IsConverted, IsEndOf, ended_lines, ended_name};
 ghost use Rattle.sheet_app.specs.EndedSheets.{is_complete};
 ghost use Rattle.sheet_app.specs.SheetViews.{IsTask, Says};
 
 use crate::file_sheets::FileSheet;
-use crate::reports::report_sheet;
+use crate::reports::{report_names, report_sheet};
 use crate::sheet_faults::SheetFault;
 use crate::sheets::{SheetDone, convert_text};
+use register_files::{FileStore, Place};
 use register_records::Output;
 use register_sheets::NameList;
 use sheet_arguments::Job;
@@ -30,6 +33,8 @@ pub struct EndedSheet<'a, W> {
     pub registers: Vec<W>,
     /// How it ended.
     pub done: SheetDone<'a>,
+    /// Whether all its outputs have got their names.
+    pub are_named: bool,
     /// Whether there was memory for the lines on it.
     pub is_reported: bool,
 }
@@ -54,16 +59,31 @@ fn convert_source<'b, R: Read, W: Output>(
     convert_text(alloc, text.as_slice(), list, job, output, registers)
 }
 
-/// Converts a sheet, and reports how it has ended.
-fn convert_one<'a, R: Read + Drop, W: Output + Drop, E: Output>(
+/// Gives the outputs of a sheet their names, and returns whether all have theirs.
+fn give_names<R, W: Output, P: FileStore<R, W>>(store: &P, places: &[Place]) -> bool
+    ensures { result ≡ true → All (P.is_named store.now) (map place_name places.now) }
+{
+    let mut are_named = true;
+    'places: for place in places {
+        if !store.give_name(place) {
+            are_named = false;
+        }
+    }
+    are_named
+}
+
+/// Converts a sheet, gives its outputs their names, and reports how it has ended.
+fn convert_one<'a, R: Read + Drop, W: Output + Drop, P: FileStore<R, W>, E: Output>(
     alloc: Global,
     list: &NameList,
     job: &Job<'a>,
     sheet: FileSheet<'a, R, W>,
+    store: &P,
     errors: &mut E,
 ) -> EndedSheet<'a, W>
     requires { IsTask (task_of job.now) }
-    ensures ended { IsEndOf R.Read W.Output (task_of job.now) list.now.lines.items sheet.entry result }
+    ensures ended { IsEndOf R.Read W.Output (P.is_named store.now) (task_of job.now) list.now.lines.items sheet.entry
+        result }
     ensures lines { Says E.Output errors.old errors.new result.is_reported (ended_lines (task_of job.now) result) }
     ensures errors_mark { E.own_mark errors.new ≡ E.own_mark errors.old }
 {
@@ -72,6 +92,7 @@ fn convert_one<'a, R: Read + Drop, W: Output + Drop, E: Output>(
         mut source,
         mut output,
         mut registers,
+        places,
     } = sheet;
     let done = convert_source(
         alloc,
@@ -81,48 +102,53 @@ fn convert_one<'a, R: Read + Drop, W: Output + Drop, E: Output>(
         &mut output,
         registers.as_mut_slice(),
     );
+    let are_named = give_names(store, places.as_slice());
     let dates = job.dates.len();
-    let is_reported = report_sheet(alloc, errors, name, dates, job.summary, &done);
+    let is_told = report_sheet(alloc, errors, name, dates, job.summary, &done);
+    let is_reported = report_names(alloc, errors, name, are_named) && is_told;
     EndedSheet {
         name,
         output,
         registers,
         done,
+        are_named,
         is_reported,
     }
 }
 
 /// Converts each sheet. There is room for the converted ones.
-pub fn convert_all<'a, R: Read + Drop, W: Output + Drop, E: Output>(
+pub fn convert_all<'a, R: Read + Drop, W: Output + Drop, P: FileStore<R, W>, E: Output>(
     alloc: Global,
     list: &NameList,
     job: &Job<'a>,
     sheets: Vec<FileSheet<'a, R, W>>,
     room: Vec<EndedSheet<'a, W>>,
+    store: &P,
     errors: &mut E,
 ) -> Vec<EndedSheet<'a, W>>
     requires task { IsTask (task_of job.now) }
     requires none { room.items ≡ [] }
     requires room { vec_len sheets ≤ vec_capacity room }
-    ensures ended { AllZip (IsEndOf R.Read W.Output (task_of job.now) list.now.lines.items) sheets.entry.items
-        result.items }
+    ensures ended { AllZip (IsEndOf R.Read W.Output (P.is_named store.now) (task_of job.now) list.now.lines.items)
+        sheets.entry.items result.items }
     ensures lines { AreReported E.Output (task_of job.now) result.items errors.old errors.new }
     ensures errors_mark { E.own_mark errors.new ≡ E.own_mark errors.old }
 {
     let mut ended = room;
     'sheets: for sheet in sheets {
-        ended.push_reserved(convert_one(alloc, list, job, sheet, errors));
+        ended.push_reserved(convert_one(alloc, list, job, sheet, store, errors));
     }
     ended
 }
 
 /// Converts the sheet that standard input gives.
-pub fn convert_input<'a, R: Read + Drop, W: Output + Drop, E: Output>(
+pub fn convert_input<'a, R: Read + Drop, W: Output + Drop, P: FileStore<R, W>, E: Output>(
     alloc: Global,
     list: &NameList,
     job: &Job<'a>,
     input: R,
     output: W,
+    store: &P,
     errors: &mut E,
 ) -> EndedSheet<'a, W>
     requires { IsTask (task_of job.now) }
@@ -137,8 +163,9 @@ pub fn convert_input<'a, R: Read + Drop, W: Output + Drop, E: Output>(
         source: input,
         output,
         registers: Vec::new(alloc),
+        places: Vec::new(alloc),
     };
-    convert_one(alloc, list, job, sheet, errors)
+    convert_one(alloc, list, job, sheet, store, errors)
 }
 
 impl<W> EndedSheet<'_, W> {
@@ -153,7 +180,7 @@ impl<W> EndedSheet<'_, W> {
             SheetDone::Whole(_) | SheetDone::Listed(_) => true,
             SheetDone::WholeBut(_) | SheetDone::Broken(_) => false,
         };
-        is_whole && self.is_reported
+        is_whole && self.are_named && self.is_reported
     }
 }
 

@@ -4,6 +4,8 @@ ghost use Rattle.std.specs.Prelude.{◌≡◌, ◌++◌, ◌∷◌, [], All, All
 ghost use Rattle.std.specs.Prelude.{option_map};
 ghost use Rattle.std.specs.List.{AllZip, range_with_len};
 ghost use Rattle.std.specs.String.{string_bytes};
+ghost use Rattle.register_files.specs.OutputNames.{AreTwoOutputs, IsApartFrom};
+ghost use Rattle.register_files.specs.Places.{place_name};
 ghost use Rattle.sheet_arguments.specs.Requests.{task_of};
 ghost use Rattle.sheet_app.specs.FileSheets.{AreApartOutputs, IsMadeFor, IsNewSheet, IsNoInput, ending_of, names_ending};
 ghost use Rattle.sheet_app.specs.FileSheets.{register_ending, register_endings, sheet_name, source_name};
@@ -11,7 +13,7 @@ ghost use Rattle.sheet_app.specs.ProgramFaults.{IsFaultOfFiles};
 ghost use Rattle.sheet_app.specs.SheetViews.{IsOfInputs, IsOfOutputs};
 
 use itoa::Buffer;
-use register_files::FileStore;
+use register_files::{FileStore, Place, is_of_output, share_file};
 use register_records::Output;
 use sheet_arguments::Job;
 use std::alloc::{AllocError, Global};
@@ -56,6 +58,8 @@ pub struct FileSheet<'a, R, W> {
     pub output: W,
     /// Where the registers go, one for each column of dates; none where they are not asked for.
     pub registers: Vec<W>,
+    /// Where all these go.
+    pub places: Vec<Place>,
 }
 
 /// What the name of a sheet's output ends with, behind the name of the sheet.
@@ -106,15 +110,6 @@ fn register_endings(alloc: Global, job: &Job) -> Result<Vec<String>, AllocError>
     numbered_endings(alloc, job.dates.len())
 }
 
-/// The name of a file that comes of a sheet.
-fn output_name(alloc: Global, file: &str, ending: &str) -> Result<String, AllocError>
-    ensures { IfOk result (λ name. string_bytes name ≡ file.now ++ ending.now) }
-{
-    let mut name = String::from_str(alloc, file)?;
-    name.push_str(ending)?;
-    Ok(name)
-}
-
 /// Opens each file.
 fn open_sources<'a, R: Drop, W: Output, P: FileStore<R, W>>(
     alloc: Global,
@@ -138,24 +133,26 @@ fn open_sources<'a, R: Drop, W: Output, P: FileStore<R, W>>(
     Ok(sources)
 }
 
-/// Whether a name is that of one of these files.
-fn is_among<R, W: Output, P: FileStore<R, W>>(store: &P, files: &[&str], name: &str) -> bool
-    ensures { result ≡ false → All (λ file. P.are_apart store.now file name.now) (map (λ file. file.now) files.now) }
+/// Whether an output has a name of one of these files.
+fn is_among<R, W: Output, P: FileStore<R, W>>(store: &P, files: &[&str], place: &Place) -> bool
+    ensures { result ≡ false
+        → All (λ file. IsApartFrom (P.are_apart store.now) file (place_name place.now)) (map (λ file. file.now) files.now) }
 {
     'files: for &file in files {
-        if store.are_one_file(file, name) {
+        if is_of_output(store, file, place) {
             return true;
         }
     }
     false
 }
 
-/// Whether a name is that of a list of names.
-fn is_list<R, W: Output, P: FileStore<R, W>>(store: &P, list: Option<&str>, name: &str) -> bool
-    ensures { result ≡ false → IfSome (option_map (λ file. file.now) list.entry) (λ file. P.are_apart store.now file name.now) }
+/// Whether an output has a name of a list of names.
+fn is_list<R, W: Output, P: FileStore<R, W>>(store: &P, list: Option<&str>, place: &Place) -> bool
+    ensures { result ≡ false → IfSome (option_map (λ file. file.now) list.entry)
+        (λ file. IsApartFrom (P.are_apart store.now) file (place_name place.now)) }
 {
     match list {
-        Some(file) => store.are_one_file(file, name),
+        Some(file) => is_of_output(store, file, place),
         None => false,
     }
 }
@@ -171,12 +168,12 @@ fn check_kept<'a, R, W: Output, P: FileStore<R, W>>(
     ensures kept { OnOk result (IsNoInput (P.are_apart store.now) (task_of job.now) (file.now ++ ending.now)) }
     ensures missing { IfErr result (IsOfOutputs ((file.now ++ ending.now) ∷ [])) }
 {
-    let name = output_name(alloc, file, ending)?;
-    if is_list(store, job.names, name.as_str()) {
-        return Err(FileFault::CannotMake(name));
+    let place = Place::new(alloc, file, ending)?;
+    if is_list(store, job.names, &place) {
+        return Err(FileFault::CannotMake(place.into_name()));
     }
-    if is_among(store, job.files.as_slice(), name.as_str()) {
-        return Err(FileFault::CannotMake(name));
+    if is_among(store, job.files.as_slice(), &place) {
+        return Err(FileFault::CannotMake(place.into_name()));
     }
     Ok(())
 }
@@ -220,45 +217,50 @@ fn check_inputs_kept<'a, R, W: Output, P: FileStore<R, W>>(
     Ok(())
 }
 
-/// Whether an output's name is that of a file that another output goes to.
-fn is_taken<R, W: Output, P: FileStore<R, W>>(store: &P, names: &[String], name: &str) -> bool
-    ensures { result ≡ false → All (λ other. P.are_apart store.now other name.now) (map string_bytes names.now) }
+/// Whether an output has a name of a file that another output goes to.
+fn is_taken<R, W: Output, P: FileStore<R, W>>(store: &P, taken: &[Place], place: &Place) -> bool
+    ensures { result ≡ false → All (λ other. AreTwoOutputs (P.are_apart store.now) other (place_name place.now))
+        (map place_name taken.now) }
 {
-    'names: for other in names {
-        if store.are_one_file(other.as_str(), name) {
+    'taken: for other in taken {
+        if share_file(store, other, place) {
             return true;
         }
     }
     false
 }
 
-/// Makes an output of a file, and notes its name. Its mark is its place among all, from 1.
+/// Makes an output of a file, and notes its place among those that are taken. Its mark is its place among all, from 1.
 fn make_output<'a, R, W: Output + Drop, P: FileStore<R, W>>(
     alloc: Global,
     store: &P,
-    names: &mut Vec<String>,
+    taken: &mut Vec<Place>,
+    places: &mut Vec<Place>,
     file: &str,
     ending: &str,
 ) -> Result<W, FileFault<'a>>
     ensures made { IfOk result (IsMadeFor W.Output (P.is_made store.now) file.now ending.now) }
-    ensures noted { IfOk result (λ output. map string_bytes names.new.items
-        ≡ map string_bytes names.old.items ++ (file.now ++ ending.now) ∷ []) }
-    ensures apart { IfOk result (λ output. AllPairs (P.are_apart store.now) (map string_bytes names.old.items)
-        → AllPairs (P.are_apart store.now) (map string_bytes names.new.items)) }
+    ensures noted { IfOk result (λ output. map place_name taken.new.items
+        ≡ map place_name taken.old.items ++ (file.now ++ ending.now) ∷ []) }
+    ensures placed { IfOk result (λ output. map place_name places.new.items
+        ≡ map place_name places.old.items ++ (file.now ++ ending.now) ∷ []) }
+    ensures apart { IfOk result (λ output. AllPairs (AreTwoOutputs (P.are_apart store.now)) (map place_name taken.old.items)
+        → AllPairs (AreTwoOutputs (P.are_apart store.now)) (map place_name taken.new.items)) }
     ensures missing { IfErr result (IsOfOutputs ((file.now ++ ending.now) ∷ [])) }
 {
-    let name = output_name(alloc, file, ending)?;
-    let Ok(before) = u32::try_from(names.len()) else {
+    let mut place = Place::new(alloc, file, ending)?;
+    let Ok(before) = u32::try_from(taken.len()) else {
         return Err(FileFault::OutOfMemory);
     };
     let mark = before.wrapping_add(1);
-    let Ok(output) = store.make(name.as_str(), mark) else {
-        return Err(FileFault::CannotMake(name));
+    let Ok(output) = store.make(&mut place, mark) else {
+        return Err(FileFault::CannotMake(place.into_name()));
     };
-    if is_taken(store, names.as_slice(), name.as_str()) {
-        return Err(FileFault::CannotMake(name));
+    if is_taken(store, taken.as_slice(), &place) {
+        return Err(FileFault::CannotMake(place.into_name()));
     }
-    if names.push(name).is_err() {
+    let copy = place.copy(alloc)?;
+    if taken.push(copy).is_err() || places.push(place).is_err() {
         return Err(FileFault::OutOfMemory);
     }
     Ok(output)
@@ -268,21 +270,24 @@ fn make_output<'a, R, W: Output + Drop, P: FileStore<R, W>>(
 fn make_registers<'a, R, W: Output + Drop, P: FileStore<R, W>>(
     alloc: Global,
     store: &P,
-    names: &mut Vec<String>,
+    taken: &mut Vec<Place>,
+    places: &mut Vec<Place>,
     file: &str,
     endings: &[String],
 ) -> Result<Vec<W>, FileFault<'a>>
     ensures made { IfOk result (λ outputs. AllZip (IsMadeFor W.Output (P.is_made store.now) file.now)
         (map string_bytes endings.now) outputs.items) }
-    ensures noted { IfOk result (λ outputs. map string_bytes names.new.items
-        ≡ map string_bytes names.old.items ++ map (λ ending. file.now ++ string_bytes ending) endings.now) }
-    ensures apart { IfOk result (λ outputs. AllPairs (P.are_apart store.now) (map string_bytes names.old.items)
-        → AllPairs (P.are_apart store.now) (map string_bytes names.new.items)) }
+    ensures noted { IfOk result (λ outputs. map place_name taken.new.items
+        ≡ map place_name taken.old.items ++ map (λ ending. file.now ++ string_bytes ending) endings.now) }
+    ensures placed { IfOk result (λ outputs. map place_name places.new.items
+        ≡ map place_name places.old.items ++ map (λ ending. file.now ++ string_bytes ending) endings.now) }
+    ensures apart { IfOk result (λ outputs. AllPairs (AreTwoOutputs (P.are_apart store.now)) (map place_name taken.old.items)
+        → AllPairs (AreTwoOutputs (P.are_apart store.now)) (map place_name taken.new.items)) }
     ensures missing { IfErr result (IsOfOutputs (map (λ ending. file.now ++ string_bytes ending) endings.now)) }
 {
     let mut outputs = Vec::new(alloc);
     'endings: for ending in endings {
-        let output = make_output(alloc, store, names, file, ending.as_str())?;
+        let output = make_output(alloc, store, taken, places, file, ending.as_str())?;
         if outputs.push(output).is_err() {
             return Err(FileFault::OutOfMemory);
         }
@@ -295,7 +300,7 @@ fn make_sheet<'a, R: Drop, W: Output + Drop, P: FileStore<R, W>>(
     alloc: Global,
     store: &P,
     job: &Job<'a>,
-    names: &mut Vec<String>,
+    taken: &mut Vec<Place>,
     opened: OpenedFile<'a, R>,
     endings: &[String],
 ) -> Result<FileSheet<'a, R, W>, FileFault<'a>>
@@ -303,20 +308,22 @@ fn make_sheet<'a, R: Drop, W: Output + Drop, P: FileStore<R, W>>(
     ensures made { P.is_opened store.now opened.entry.name.now opened.entry.source
         → IfOk result (IsNewSheet W.Output (P.is_opened store.now) (P.is_made store.now) (task_of job.now)
         (map string_bytes endings.now)) }
-    ensures noted { IfOk result (λ sheet. map string_bytes names.new.items ≡ map string_bytes names.old.items
+    ensures noted { IfOk result (λ sheet. map place_name taken.new.items ≡ map place_name taken.old.items
         ++ names_ending (ending_of (task_of job.now)) string_bytes endings.now (source_name opened.entry)) }
-    ensures apart { IfOk result (λ sheet. AllPairs (P.are_apart store.now) (map string_bytes names.old.items)
-        → AllPairs (P.are_apart store.now) (map string_bytes names.new.items)) }
+    ensures apart { IfOk result (λ sheet. AllPairs (AreTwoOutputs (P.are_apart store.now)) (map place_name taken.old.items)
+        → AllPairs (AreTwoOutputs (P.are_apart store.now)) (map place_name taken.new.items)) }
     ensures missing { IfErr result (IsOfOutputs
         (names_ending (ending_of (task_of job.now)) string_bytes endings.now (source_name opened.entry))) }
 {
-    let output = make_output(alloc, store, names, opened.name, ending(job))?;
-    let registers = make_registers(alloc, store, names, opened.name, endings)?;
+    let mut places = Vec::new(alloc);
+    let output = make_output(alloc, store, taken, &mut places, opened.name, ending(job))?;
+    let registers = make_registers(alloc, store, taken, &mut places, opened.name, endings)?;
     Ok(FileSheet {
         name: opened.name,
         source: opened.source,
         output,
         registers,
+        places,
     })
 }
 
@@ -332,7 +339,7 @@ fn make_sheets<'a, R: Drop, W: Output + Drop, P: FileStore<R, W>>(
     ensures named { IfOk result (λ sheets. map sheet_name sheets.items ≡ map source_name sources.entry.items) }
     ensures made { IfOk result (λ sheets. All (IsNewSheet W.Output (P.is_opened store.now) (P.is_made store.now)
         (task_of job.now) (map string_bytes endings.now)) sheets.items) }
-    ensures apart { IfOk result (λ sheets. AllPairs (P.are_apart store.now)
+    ensures apart { IfOk result (λ sheets. AllPairs (AreTwoOutputs (P.are_apart store.now))
         (flat_map (λ opened. names_ending (ending_of (task_of job.now)) string_bytes endings.now (source_name opened))
         sources.entry.items)) }
     ensures missing { IfErr result (IsOfOutputs
@@ -340,9 +347,9 @@ fn make_sheets<'a, R: Drop, W: Output + Drop, P: FileStore<R, W>>(
         sources.entry.items)) }
 {
     let mut sheets = Vec::new(alloc);
-    let mut names = Vec::new(alloc);
+    let mut taken = Vec::new(alloc);
     'sources: for opened in sources {
-        let sheet = make_sheet(alloc, store, job, &mut names, opened, endings)?;
+        let sheet = make_sheet(alloc, store, job, &mut taken, opened, endings)?;
         if sheets.push(sheet).is_err() {
             return Err(FileFault::OutOfMemory);
         }

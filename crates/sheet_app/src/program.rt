@@ -229,12 +229,13 @@ fn prepare<'a, R: Read + Drop, W: Output + Drop, P: FileStore<R, W>>(
 }
 
 /// Converts what standard input gives.
-fn run_input<'a, R: Read + Drop, W: Output + Drop, E: Output>(
+fn run_input<'a, R: Read + Drop, W: Output + Drop, P: FileStore<R, W>, E: Output>(
     alloc: Global,
     list: &NameList,
     job: &Job<'a>,
     input: R,
     output: W,
+    store: &P,
     errors: &mut E,
 ) -> Outcome<'a, W>
     requires { IsTask (task_of job.now) }
@@ -244,7 +245,7 @@ fn run_input<'a, R: Read + Drop, W: Output + Drop, E: Output>(
     ensures statuses { (result.status ≡ 0) ⊎ (result.status ≡ 1) }
     ensures errors_mark { E.own_mark errors.new ≡ E.own_mark errors.old }
 {
-    let ended = convert_input(alloc, list, job, input, output, errors);
+    let ended = convert_input(alloc, list, job, input, output, store, errors);
     Outcome {
         status: status_of(ended.is_complete()),
         output: ended.output,
@@ -273,8 +274,8 @@ fn run_job<'a, R: Read + Drop, W: Output + Drop, P: FileStore<R, W>, E: Output>(
         × (result.output ≡ output)
         × AreApartOutputs (P.are_apart store.now) (task_of job.now)
         × (map ended_name result.sheets.items ≡ (task_of job.now).files)
-        × All (IsEndedSheet R.Read W.Output (P.is_opened store.now) (P.is_made store.now) (task_of job.now) lines)
-        result.sheets.items
+        × All (IsEndedSheet R.Read W.Output (P.is_opened store.now) (P.is_made store.now) (P.is_named store.now)
+        (task_of job.now) lines) result.sheets.items
         × ((result.status ≡ 0) ↔ All (λ sheet. is_complete sheet ≡ true) result.sheets.items)
         × AreReported E.Output (task_of job.now) result.sheets.items errors.old errors.new }
     ensures statuses { (result.status ≡ 0) ⊎ (result.status ≡ 1) ⊎ (result.status ≡ 3) }
@@ -289,9 +290,9 @@ fn run_job<'a, R: Read + Drop, W: Output + Drop, P: FileStore<R, W>, E: Output>(
         Err(why) => return refuse(alloc, output, errors, &why),
     };
     if job.files.is_empty() {
-        return run_input(alloc, &list, job, input, output, errors);
+        return run_input(alloc, &list, job, input, output, store, errors);
     }
-    let ended = convert_all(alloc, &list, job, sheets, room, errors);
+    let ended = convert_all(alloc, &list, job, sheets, room, store, errors);
     Outcome {
         status: status_of(are_complete(ended.as_slice())),
         output,
@@ -306,8 +307,8 @@ fn run_job<'a, R: Read + Drop, W: Output + Drop, P: FileStore<R, W>, E: Output>(
 /// The status is
 ///
 /// - 0 where all sheets were converted, refused dates included, or a page was printed;
-/// - 1 where a sheet broke off, with a line for each such sheet in order, where there was no memory for a line, or where
-///   the page could not be printed;
+/// - 1 where a sheet broke off or an output has not got its name, with a line for each such sheet in order, where there
+///   was no memory for a line, or where the page could not be printed;
 /// - 2 where the arguments were refused, with one line of the program's own or the text of clap;
 /// - 3 where a file could not be opened or made, an output would go to an input or to the file of another output, the list
 ///   of names is none, or memory ran out before the first sheet was read, with one line.
@@ -334,9 +335,9 @@ pub fn answer<'a, R: Read + Drop, W: Output + Drop, P: FileStore<R, W>, E: Outpu
         output result.output result.sheets.items errors.old errors.new
         ⊎ IsInputAnswered R.Read W.Output E.Output (P.is_opened store.now) (map string_bytes arguments.entry.now)
         built.now result.status input output result.output result.sheets.items errors.old errors.new
-        ⊎ AreFilesAnswered R.Read W.Output E.Output (P.is_opened store.now) (P.is_made store.now) (P.are_apart store.now)
-        (map string_bytes arguments.entry.now) built.now result.status output result.output result.sheets.items
-        errors.old errors.new }
+        ⊎ AreFilesAnswered R.Read W.Output E.Output (P.is_opened store.now) (P.is_made store.now) (P.is_named store.now)
+        (P.are_apart store.now) (map string_bytes arguments.entry.now) built.now result.status output result.output
+        result.sheets.items errors.old errors.new }
 
     // Unless the status is 3, arguments are refused exactly where something is wrong with them.
     ensures refused { result.status ≢ 3 → (result.status ≡ 2) ↔ AreWrong (map string_bytes arguments.entry.now) }

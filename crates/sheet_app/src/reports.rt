@@ -5,7 +5,7 @@ ghost use Rattle.std.specs.Fmt.{decimal};
 ghost use Rattle.sheet_app.specs.Lines.{line_of_dates as dates_line};
 ghost use Rattle.sheet_app.specs.Lines.{fault_text, head_of, kept_lines, lines_on, listed_at, missing_lines, more_line};
 ghost use Rattle.sheet_app.specs.Lines.{other_lines, reason_line, reason_lines, reason_words, short_line, sign_lines, stopped_line};
-ghost use Rattle.sheet_app.specs.Lines.{summary_line};
+ghost use Rattle.sheet_app.specs.Lines.{names_line, summary_line};
 ghost use Rattle.sheet_app.specs.SheetViews.{Says};
 ghost use Rattle.sheet_app.specs.declared.sheets.SheetDone.TheVariants.{Listed, Whole};
 
@@ -388,4 +388,15 @@ pub fn report_sheet<E: Output>(
             send_line(errors, line_of_fault(alloc, name, fault))
         }
     }
+}
+
+/// Reports of a sheet that not all of its outputs have got their names, if so. Says whether there was memory for the line.
+pub fn report_names<E: Output>(alloc: Global, errors: &mut E, name: &str, are_named: bool) -> bool
+    ensures line { Says E.Output errors.old errors.new result (names_line name.now are_named) }
+    ensures mark { E.own_mark errors.new ≡ E.own_mark errors.old }
+{
+    if are_named {
+        return true;
+    }
+    send_line(errors, line_of_fault(alloc, name, &SheetFault::Unnamed))
 }

@@ -23,6 +23,8 @@ pub enum SheetFault<'a> {
     Unread,
     /// What comes of it could not be written.
     Unwritten,
+    /// What comes of it has not got its name.
+    Unnamed,
     /// No record with names stands below those above them.
     NoNames,
     /// More than 1,000,000 records stand below the names.
@@ -125,6 +127,7 @@ impl SheetFault<'_> {
             SheetFault::OutOfMemory => line.extend_from_slice(b"out of memory"),
             SheetFault::Unread => line.extend_from_slice(b"cannot be read"),
             SheetFault::Unwritten => line.extend_from_slice(b"cannot write what comes of it"),
+            SheetFault::Unnamed => line.extend_from_slice(b"cannot name what comes of it"),
             SheetFault::NoNames => line.extend_from_slice(b"no record with names"),
             SheetFault::TooManyRecords => line.extend_from_slice(b"more than 1000000 records"),
             SheetFault::NoColumn { word, names } => push_no_column(line, word, names),

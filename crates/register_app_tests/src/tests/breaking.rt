@@ -4,7 +4,7 @@ ghost use Rattle.std.specs.Prelude.{⊤};
 
 use crate::tests::helpers::{Heard, NoFiles, ONE_RECORD, ONE_ROW, hear};
 use register_arguments::HELP;
-use register_files::{FileStore, LoggedWriter};
+use register_files::{FileStore, LoggedWriter, Place};
 use register_records::PlainOutput;
 use std::alloc::{AllocError, Global};
 use std::io;
@@ -68,7 +68,8 @@ impl Write for Breaking {
     }
 }
 
-/// A folder whose files all hold one record, but that `none.csv` is not there. No table can be made for `locked.csv`.
+/// A folder whose files all hold one record, but that `none.csv` is not there. No table can be made for `locked.csv`, and that
+/// of `unnamed.csv` does not get its name.
 #[derive(Clone, Copy)]
 struct Folder {
     alloc: Global,
@@ -79,6 +80,8 @@ impl FileStore<&'static [u8], PlainOutput<LoggedWriter<Breaking>>> for Folder {
 
     ghost is_made = { λ _ _ _ _. ⊤ };
 
+    ghost is_named = { λ _ _. ⊤ };
+
     ghost are_apart = { λ _ _ _. ⊤ };
 
     fn open(&self, name: &str) -> io::Result<&'static [u8]> {
@@ -88,12 +91,20 @@ impl FileStore<&'static [u8], PlainOutput<LoggedWriter<Breaking>>> for Folder {
         Ok(ONE_RECORD)
     }
 
-    fn make(&self, name: &str, mark: u32) -> io::Result<PlainOutput<LoggedWriter<Breaking>>> {
-        if name == "locked.csv.out.csv" {
+    fn make(
+        &self,
+        place: &mut Place,
+        mark: u32,
+    ) -> io::Result<PlainOutput<LoggedWriter<Breaking>>> {
+        if place.name() == "locked.csv.out.csv" {
             return Err(io::Error::from(ErrorKind::PermissionDenied));
         }
         let table = Breaking::new(self.alloc, NOWHERE)?;
         Ok(PlainOutput::new(LoggedWriter::new(table), mark))
+    }
+
+    fn give_name(&self, place: &Place) -> bool {
+        place.name() != "unnamed.csv.out.csv"
     }
 
     fn are_one_file(&self, _name: &str, _other: &str) -> bool {
@@ -123,7 +134,7 @@ const REFUSED: Case = Case {
     errors: b"",
 };
 
-static CASES: [Case; 12] = [
+static CASES: [Case; 13] = [
     // What is wrong with the arguments: what clap refuses, and each fault that the program finds itself.
     Case {
         arguments: &["--bogus"],
@@ -193,6 +204,14 @@ static CASES: [Case; 12] = [
         status: 0,
         tables: &[ONE_ROW, ONE_ROW],
         errors: b"source 1: 1 rows, 0 refused\nsource 2: 1 rows, 0 refused\n",
+        ..REFUSED
+    },
+    // A table that does not get its name beside one that does.
+    Case {
+        arguments: &["--to", "gregorian", "unnamed.csv", "a.csv"],
+        status: 1,
+        tables: &[ONE_ROW, ONE_ROW],
+        errors: b"register: cannot name unnamed.csv.out.csv\n",
         ..REFUSED
     },
 ];
@@ -378,10 +397,12 @@ fn a_page_that_cannot_be_printed_is_reported(rt: HostRuntime) {
 
 const OUT_OF_MEMORY: &[u8] = b"register: out of memory\n";
 
-/// Whether a line says that a source is broken since memory ran out or a thread did not start.
+/// Whether a line says that a source is broken since memory ran out or a thread did not start, or that there was no memory
+/// for the line on a name.
 fn is_of_memory(line: &[u8]) -> bool {
-    line.starts_with(b"source ")
-        && (line.ends_with(b": cause 1\n") || line.ends_with(b": cause 2\n"))
+    let is_broken = line.starts_with(b"source ")
+        && (line.ends_with(b": cause 1\n") || line.ends_with(b": cause 2\n"));
+    is_broken || line == OUT_OF_MEMORY
 }
 
 /// Whether each line on standard error is wanted, or is that of one source that is refused memory.

@@ -4,7 +4,7 @@ ghost use Rattle.std.specs.Prelude.{◌≡◌, [], ⊤, false};
 ghost use Rattle.register_files.specs.LoggedWriters.{logged_bytes};
 
 use register_app::{Outcome, answer};
-use register_files::{FileStore, LoggedWriter};
+use register_files::{FileStore, LoggedWriter, Place};
 use register_records::{Output, PlainOutput};
 use std::alloc::{AllocError, Global};
 use std::io;
@@ -136,14 +136,20 @@ impl<R, W: Output> FileStore<R, W> for NoFiles {
 
     ghost is_made = { λ _ _ _ _. ⊤ };
 
+    ghost is_named = { λ _ _. ⊤ };
+
     ghost are_apart = { λ _ _ _. ⊤ };
 
     fn open(&self, _name: &str) -> io::Result<R> {
         Err(io::Error::from(ErrorKind::NotFound))
     }
 
-    fn make(&self, _name: &str, _mark: u32) -> io::Result<W> {
+    fn make(&self, _place: &mut Place, _mark: u32) -> io::Result<W> {
         Err(io::Error::from(ErrorKind::NotFound))
+    }
+
+    fn give_name(&self, _place: &Place) -> bool {
+        false
     }
 
     fn are_one_file(&self, _name: &str, _other: &str) -> bool {

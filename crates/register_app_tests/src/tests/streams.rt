@@ -4,7 +4,7 @@ ghost use Rattle.std.specs.Prelude.{⊤};
 
 use crate::tests::helpers::{Heard, NoFiles, hear, hear_in_memory};
 use register_arguments::HELP;
-use register_files::{FileStore, LoggedWriter};
+use register_files::{FileStore, LoggedWriter, Place};
 use register_records::PlainOutput;
 use std::alloc::{AllocError, Global};
 use std::io;
@@ -14,29 +14,32 @@ use std::sync::atomic::{AtomicU32, Ordering};
 use std::thread::Threads;
 use std::time::{Clock, CpuClock};
 
-/// How often something was read, opened and made.
+/// How often something was read, opened, made and named.
 #[derive(Drop)]
 struct Counts {
     reads: AtomicU32,
     opened: AtomicU32,
     made: AtomicU32,
+    named: AtomicU32,
 }
 
 impl Counts {
-    /// Nothing was read, opened or made.
+    /// Nothing was read, opened, made or named.
     fn none() -> Counts {
         Counts {
             reads: AtomicU32::new(0),
             opened: AtomicU32::new(0),
             made: AtomicU32::new(0),
+            named: AtomicU32::new(0),
         }
     }
 
-    /// Whether nothing was read, opened or made.
+    /// Whether nothing was read, opened, made or named.
     fn are_none(&self) -> bool {
         self.reads.load(Ordering::SeqCst) == 0
             && self.opened.load(Ordering::SeqCst) == 0
             && self.made.load(Ordering::SeqCst) == 0
+            && self.named.load(Ordering::SeqCst) == 0
     }
 }
 
@@ -65,6 +68,8 @@ impl<'a> FileStore<CountedText<'a>, PlainOutput<LoggedWriter<Vec<u8>>>> for Coun
 
     ghost is_made = { λ _ _ _ _. ⊤ };
 
+    ghost is_named = { λ _ _. ⊤ };
+
     ghost are_apart = { λ _ _ _. ⊤ };
 
     fn open(&self, _name: &str) -> io::Result<CountedText<'a>> {
@@ -74,9 +79,18 @@ impl<'a> FileStore<CountedText<'a>, PlainOutput<LoggedWriter<Vec<u8>>>> for Coun
         })
     }
 
-    fn make(&self, _name: &str, mark: u32) -> io::Result<PlainOutput<LoggedWriter<Vec<u8>>>> {
+    fn make(
+        &self,
+        _place: &mut Place,
+        mark: u32,
+    ) -> io::Result<PlainOutput<LoggedWriter<Vec<u8>>>> {
         self.counts.made.fetch_add(1, Ordering::SeqCst);
         Ok(PlainOutput::new(LoggedWriter::new(Vec::new(self.alloc)), mark))
+    }
+
+    fn give_name(&self, _place: &Place) -> bool {
+        self.counts.named.fetch_add(1, Ordering::SeqCst);
+        true
     }
 
     fn are_one_file(&self, _name: &str, _other: &str) -> bool {
@@ -163,6 +177,7 @@ fn touches_as_wanted(
     status == touching.status
         && files.opened.load(Ordering::SeqCst) == touching.files
         && files.made.load(Ordering::SeqCst) == touching.files
+        && files.named.load(Ordering::SeqCst) == touching.files
         && (input.reads.load(Ordering::SeqCst) > 0) == touching.reads_input
         && (files.reads.load(Ordering::SeqCst) > 0) == (touching.files > 0)
 }

@@ -1,4 +1,4 @@
-use Rattle.register_files.proofs.Common.{rules, List, ℕ, ◌++◌, ◌∙◌, arith, codes, map, length-map, subst, sym}
+use Rattle.register_files.proofs.Common.{rules, List, ℕ, ◌++◌, arith, codes, map, length-map, subst}
 use Rattle.register_files.specs.Openings.{IsNoSource}
 use Rattle.register_files.proofs.MatchLemmas.{all_before, none_before, one_before, value_at}
 use Rattle.register_files.proofs.opening.check_sources_kept.Goals as goal
@@ -12,7 +12,7 @@ files-preserved g c =
     (file ++ codes ".out.csv")) (map (λ f. f.now) c.args.files.now) c.files.file-index _ c.files.invariant
     (value_at (λ f. f.now) c.args.files.now c.files.file-index _ c.files-test.true)
     (subst (λ (name : List ℕ). IsNoSource (g.P.FileStore.are_apart c.args.store.now)
-    (map (λ f. f.now) c.args.files.now) name) (c.as_str.ensures.value ∙ c.in-Ok.ensures)
+    (map (λ f. f.now) c.args.files.now) name) c.in-Ok.ensures
     (c.is_source.ensures c.if-is_source.false))
 
 pub returns-clause-kept : goal.returns-clause-kept

@@ -1,4 +1,6 @@
 use Rattle.register_files.proofs.Common.{rules, arith, map, length-map}
+use Rattle.register_files.specs.OutputNames.{IsApartFrom}
+use Rattle.register_files.specs.Places.{place_name}
 use Rattle.register_files.proofs.MatchLemmas.{all_before, none_before, one_before, value_at}
 use Rattle.register_files.proofs.opening.is_source.Goals as goal
 
@@ -7,13 +9,13 @@ files-init g c = search (rules, none_before)
 
 pub files-preserved : goal.files-preserved
 files-preserved g c =
-    one_before (λ other. g.P.FileStore.are_apart c.args.store.now other c.args.name.now)
+    one_before (λ other. IsApartFrom (g.P.FileStore.are_apart c.args.store.now) other (place_name c.args.place.now))
     (map (λ f. f.now) c.args.files.now) c.files.other-index _ c.files.invariant
     (value_at (λ f. f.now) c.args.files.now c.files.other-index _ c.files-test.true)
-    (c.are_one_file.ensures c.if-are_one_file.false)
+    (c.is_of_output.ensures c.if-is_of_output.false)
 
 pub returns : goal.returns
 returns g c = λ no.
-    all_before (λ other. g.P.FileStore.are_apart c.args.store.now other c.args.name.now)
+    all_before (λ other. IsApartFrom (g.P.FileStore.are_apart c.args.store.now) other (place_name c.args.place.now))
     (map (λ f. f.now) c.args.files.now) c.files.other-index c.files.invariant
     (omega (arith, c.files-test.false, length-map c.args.files.now (λ f. f.now)))

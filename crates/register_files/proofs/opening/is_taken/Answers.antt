@@ -1,17 +1,26 @@
-use Rattle.register_files.proofs.Common.{rules, arith, map, string_bytes, length-map}
-use Rattle.std.proofs.lemmas.Option.{slice_get-map, slice_get_read}
-use Rattle.register_files.proofs.MatchLemmas.{all_before, none_before, one_before}
+use Rattle.register_files.proofs.Common.{◌≡◌, ◌∙◌, ap, arith, length-map, map, rules, Some, sym}
+use Rattle.std.proofs.Common.{get_or}
+use Rattle.register_files.specs.OutputNames.{AreTwoOutputs}
+use Rattle.register_files.specs.Places.{place_name}
+use Rattle.register_files.proofs.MatchLemmas.{all_before, none_before, one_before, value_at}
 use Rattle.register_files.proofs.opening.is_taken.Goals as goal
 
-pub names-init : goal.names-init
-names-init g c = search (rules, none_before)
+pub places-init : goal.places-init
+places-init g c = search (rules, none_before)
 
-pub names-preserved : goal.names-preserved
-names-preserved g c = search (rules, one_before, slice_get-map, slice_get_read)
+pub places-preserved : goal.places-preserved
+places-preserved g c =
+    let item = c.other-item.result in
+    let there : item ≡ get_or c.args.places.now c.places.other-index item = search rules in
+    one_before (λ other. AreTwoOutputs (g.P.FileStore.are_apart c.args.store.now) other (place_name c.args.place.now))
+    (map place_name c.args.places.now) c.places.other-index (place_name item) c.places.invariant
+    (value_at place_name c.args.places.now c.places.other-index item c.places-test.true
+    ∙ ap (λ one. Some (place_name one)) (sym there))
+    (c.share_file.ensures c.if-share_file.false)
 
 pub returns : goal.returns
 returns g c = λ no.
-    all_before (λ other. g.P.FileStore.are_apart c.args.store.now other c.args.name.now)
-    (map string_bytes c.args.names.now)
-    c.names.other-index c.names.invariant
-    (omega (arith, c.names-test.false, c.names.auto.other-index-end, length-map c.args.names.now string_bytes))
+    all_before (λ other. AreTwoOutputs (g.P.FileStore.are_apart c.args.store.now) other (place_name c.args.place.now))
+    (map place_name c.args.places.now)
+    c.places.other-index c.places.invariant
+    (omega (arith, c.places-test.false, c.places.auto.other-index-end, length-map c.args.places.now place_name))

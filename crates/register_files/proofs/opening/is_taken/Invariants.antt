@@ -1,8 +1,11 @@
-use Rattle.register_files.proofs.Common.{map, string_bytes}
+use Rattle.register_files.proofs.Common.{map}
+use Rattle.register_files.specs.OutputNames.{AreTwoOutputs}
+use Rattle.register_files.specs.Places.{place_name}
 use Rattle.register_files.proofs.MatchLemmas.{HoldBefore}
 use Rattle.register_files.proofs.opening.is_taken.Given as goal
 
--- the name was told apart from the names so far
-abbrev pub invariant-names : goal.invariant-names
-invariant-names g l = HoldBefore (λ other. g.P.FileStore.are_apart l.store other l.name) (map string_bytes l.names)
-    l.other-index
+-- the output was told apart from the outputs so far
+abbrev pub invariant-places : goal.invariant-places
+invariant-places g l =
+    HoldBefore (λ other. AreTwoOutputs (g.P.FileStore.are_apart l.store) other (place_name l.place))
+    (map place_name l.places) l.other-index

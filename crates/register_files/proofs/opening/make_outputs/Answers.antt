@@ -1,7 +1,10 @@
 -- Each turn makes the next output, and tells its name apart from those before.
 use Rattle.register_files.proofs.Common.{◌≡◌, ◌∙◌, ◌+◌, ◌++◌, ap, rules, arith, codes, is_ok, map, true, slice_get}
-use Rattle.register_files.proofs.Common.{string_bytes, length-map, IsNewlyMade}
+use Rattle.register_files.proofs.Common.{length-map, IsNewlyMade}
+use Rattle.register_files.specs.OutputNames.{AreTwoOutputs}
+use Rattle.register_files.specs.Places.{place_name}
 use Rattle.register_files.proofs.MatchLemmas.{all_pairs, apart_from_earlier, more_pairs, no_pairs, value_at, made_as}
+use Rattle.register_files.proofs.MatchLemmas.{matched_values}
 use Rattle.register_files.proofs.MatchLemmas.{so_far_all, so_far_more, so_far_none}
 use Rattle.register_files.proofs.opening.make_outputs.Goals as goal
 
@@ -21,22 +24,22 @@ files-preserved g c =
           (λ f. f.now) c.args.files.now c.files.outputs.items c.push.new.self.items
           c.files.file-index _ c.in-Ok-make.output c.files.invariant.1 c.files-test.true
           (made_as (λ text mark output. IsNewlyMade g.W.Output
-          (g.P.FileStore.is_made c.args.store.now) text mark output) c.as_str.result.now _
+          (g.P.FileStore.is_made c.args.store.now) text mark output) (place_name c.in-Ok.place) _
           c.files.mark c.files.file-index c.in-Ok-make.output
-          (c.as_str.ensures.value ∙ c.in-Ok.ensures) place c.in-Ok-make.ensures)
+          c.in-Ok.ensures place c.in-Ok-make.ensures.made)
           items,
-      so_far_more (λ i file name. string_bytes name ≡ file ++ codes ".out.csv") (λ f. f.now) c.args.files.now
-          c.files.names.items c.push-else-is_err.new.self.items c.files.file-index _ c.in-Ok.name c.files.invariant.2
-          c.files-test.true c.in-Ok.ensures named,
-      more_pairs (λ file later. g.P.FileStore.are_apart c.args.store.now (file ++ codes ".out.csv")
+      so_far_more (λ i file place. place_name place ≡ file ++ codes ".out.csv") (λ f. f.now) c.args.files.now
+          c.files.places.items c.push-else-is_err.new.self.items c.files.file-index _ c.make.new.place c.files.invariant.2
+          c.files-test.true (c.make.ensures.kept ∙ c.in-Ok.ensures) named,
+      more_pairs (λ file later. AreTwoOutputs (g.P.FileStore.are_apart c.args.store.now) (file ++ codes ".out.csv")
           (later ++ codes ".out.csv")) (map (λ f. f.now) c.args.files.now) c.files.file-index _ c.files.invariant.3
           (value_at (λ f. f.now) c.args.files.now c.files.file-index _ c.files-test.true)
-          (apart_from_earlier (g.P.FileStore.are_apart c.args.store.now) string_bytes
+          (apart_from_earlier (AreTwoOutputs (g.P.FileStore.are_apart c.args.store.now)) place_name
           (map (λ f. f.now) c.args.files.now)
-          c.files.names.items c.as_str-in-files.result.now _ c.files.file-index c.files.invariant.2
-          (c.as_str-in-files.ensures.value ∙ c.in-Ok.ensures)
+          c.files.places.items (place_name c.make.new.place) _ c.files.file-index c.files.invariant.2
+          (c.make.ensures.kept ∙ c.in-Ok.ensures)
           (λ k other is. c.is_taken.ensures c.if-is_taken.false k other
-          (ap (λ names. slice_get (map string_bytes names) k) c.as_slice.ensures.value ∙ is))),
+          (ap (λ places. slice_get (map place_name places) k) c.as_slice.ensures.value ∙ is))),
     )
 
 pub returns-clause-made : goal.returns-clause-made
@@ -46,9 +49,17 @@ returns-clause-made g c =
     (λ f. f.now) c.args.files.now c.files.outputs.items c.files.file-index c.files.invariant.1
     (omega (arith, c.files-test.false, c.files.auto.file-index-end))
 
+pub returns-clause-placed : goal.returns-clause-placed
+returns-clause-placed g c =
+    matched_values (λ file. file ++ codes ".out.csv") place_name (map (λ f. f.now) c.args.files.now)
+    c.files.places.items
+    (so_far_all (λ i file place. place_name place ≡ file ++ codes ".out.csv")
+    (λ f. f.now) c.args.files.now c.files.places.items c.files.file-index c.files.invariant.2
+    (omega (arith, c.files-test.false, c.files.auto.file-index-end)))
+
 pub returns-clause-apart : goal.returns-clause-apart
 returns-clause-apart g c =
-    all_pairs (λ file later. g.P.FileStore.are_apart c.args.store.now (file ++ codes ".out.csv")
+    all_pairs (λ file later. AreTwoOutputs (g.P.FileStore.are_apart c.args.store.now) (file ++ codes ".out.csv")
     (later ++ codes ".out.csv")) (map (λ f. f.now) c.args.files.now) c.files.file-index c.files.invariant.3
     (omega (arith, c.files-test.false, c.files.auto.file-index-end, length-map c.args.files.now (λ f. f.now)))
 

@@ -10,7 +10,8 @@ abbrev pub invariant-sheets : goal.invariant-sheets
 invariant-sheets g l = record {
   room : vec_len l.ended + into_iter_len l.sheet-iterator ≤ vec_capacity l.ended;
   ended : (taken : _) × (taken ++ into_iter_items l.sheet-iterator ≡ l.fn.sheets.items)
-      × AllZip (IsEndOf g.R.Read g.W.Output (task_of l.job) l.list.lines.items) taken l.ended.items;
+      × AllZip (IsEndOf g.R.Read g.W.Output (g.P.FileStore.is_named l.store) (task_of l.job) l.list.lines.items) taken
+      l.ended.items;
   reported : AreReported g.E.Output (task_of l.job) l.ended.items l.initial.errors l.errors;
   mark : g.E.Output.own_mark l.errors ≡ g.E.Output.own_mark l.initial.errors;
 }

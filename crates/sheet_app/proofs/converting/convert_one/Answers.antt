@@ -9,4 +9,8 @@ returns-clause-ended g c =
     let new = c.convert_source-done.new.registers in
     let there : (with_items c.args.sheet.registers new).items ≡ new
     = with_items_is c.args.sheet.registers new (search (rules, places)) in
-    record { named = refl; converted = rw there (rw c.as_mut_slice.ensures.value at c.convert_source-done.ensures) }
+    record {
+      named = refl;
+      converted = rw there (rw c.as_mut_slice.ensures.value at c.convert_source-done.ensures);
+      names = rw c.as_slice.ensures.value at c.give_names-are_named.ensures;
+    }

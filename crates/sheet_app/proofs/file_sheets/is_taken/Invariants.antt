@@ -1,8 +1,10 @@
 use Rattle.std.proofs.Common.{All, map, take}
-use Rattle.std.specs.String.{string_bytes}
+use Rattle.register_files.specs.OutputNames.{AreTwoOutputs}
+use Rattle.register_files.specs.Places.{place_name}
 use Rattle.sheet_app.proofs.file_sheets.is_taken.Given as goal
 
--- the name was told apart from the names so far
-abbrev pub invariant-names : goal.invariant-names
-invariant-names g l =
-    All (λ other. g.P.FileStore.are_apart l.store other l.name) (map string_bytes (take l.other-index l.names))
+-- the output was told apart from the outputs so far
+abbrev pub invariant-taken : goal.invariant-taken
+invariant-taken g l =
+    All (λ other. AreTwoOutputs (g.P.FileStore.are_apart l.store) other (place_name l.place))
+    (map place_name (take l.other-index l.taken))

@@ -2,6 +2,7 @@ use Rattle.std.proofs.Common.{◌≡◌, ◌∙◌, ◌++◌, ◌∷◌, [], ℕ
 use Rattle.std.specs.List.{AllZip}
 use Rattle.std.specs.String.{string_bytes}
 use Rattle.std.proofs.lemmas.List.{take_all}
+use Rattle.register_files.specs.Places.{place_name}
 use Rattle.sheet_app.specs.FileSheets.{IsMadeFor}
 use Rattle.sheet_app.specs.SheetViews.{IsOfOutputs}
 use Rattle.sheet_app.proofs.FaultLemmas.{handed, of_more, of_value}
@@ -22,9 +23,13 @@ endings-preserved g c =
           c.endings.outputs.items c.push.new.self.items c.in_ok-output.output c.endings-test.true pushed
           c.endings.invariant.made (rw text at c.in_ok-output.ensures.made);
       noted = noted_more (λ (ending : String Global). c.args.file.now ++ string_bytes ending) c.args.endings.now
-          c.endings.ending-index item (map string_bytes c.args.names.now.items) (map string_bytes c.endings.names.items)
-          (map string_bytes c.make_output.new.names.items) c.endings-test.true c.endings.invariant.noted
+          c.endings.ending-index item (map place_name c.args.taken.now.items) (map place_name c.endings.taken.items)
+          (map place_name c.make_output.new.taken.items) c.endings-test.true c.endings.invariant.noted
           (rw text at c.in_ok-output.ensures.noted);
+      placed = noted_more (λ (ending : String Global). c.args.file.now ++ string_bytes ending) c.args.endings.now
+          c.endings.ending-index item (map place_name c.args.places.now.items) (map place_name c.endings.places.items)
+          (map place_name c.make_output.new.places.items) c.endings-test.true c.endings.invariant.placed
+          (rw text at c.in_ok-output.ensures.placed);
       apart = λ before. c.in_ok-output.ensures.apart (c.endings.invariant.apart before);
     }
 
@@ -51,7 +56,14 @@ returns-clause-made g c =
 pub returns-clause-noted : goal.returns-clause-noted
 returns-clause-noted g c =
     c.endings.invariant.noted
-    ∙ ap (λ (endings : List (String Global)). map string_bytes c.args.names.now.items
+    ∙ ap (λ (endings : List (String Global)). map place_name c.args.taken.now.items
+    ++ map (λ (ending : String Global). c.args.file.now ++ string_bytes ending) endings)
+    (take_all c.endings.ending-index c.args.endings.now (omega (arith, c.endings-test.false)))
+
+pub returns-clause-placed : goal.returns-clause-placed
+returns-clause-placed g c =
+    c.endings.invariant.placed
+    ∙ ap (λ (endings : List (String Global)). map place_name c.args.places.now.items
     ++ map (λ (ending : String Global). c.args.file.now ++ string_bytes ending) endings)
     (take_all c.endings.ending-index c.args.endings.now (omega (arith, c.endings-test.false)))
 

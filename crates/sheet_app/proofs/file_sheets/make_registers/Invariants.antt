@@ -2,6 +2,8 @@ use Rattle.std.proofs.Common.{◌≡◌, ◌++◌, map, take}
 use Rattle.std.specs.Prelude.{AllPairs}
 use Rattle.std.specs.List.{AllZip}
 use Rattle.std.specs.String.{string_bytes}
+use Rattle.register_files.specs.OutputNames.{AreTwoOutputs}
+use Rattle.register_files.specs.Places.{place_name}
 use Rattle.sheet_app.specs.FileSheets.{IsMadeFor}
 use Rattle.sheet_app.proofs.file_sheets.make_registers.Given as goal
 
@@ -10,8 +12,10 @@ abbrev pub invariant-endings : goal.invariant-endings
 invariant-endings g l = record {
   made : AllZip (IsMadeFor g.W.Output (g.P.FileStore.is_made l.store) l.file)
       (map string_bytes (take l.ending-index l.endings)) l.outputs.items;
-  noted : map string_bytes l.names.items ≡ map string_bytes l.fn.names.items
+  noted : map place_name l.taken.items ≡ map place_name l.fn.taken.items
       ++ map (λ ending. l.file ++ string_bytes ending) (take l.ending-index l.endings);
-  apart : AllPairs (g.P.FileStore.are_apart l.store) (map string_bytes l.fn.names.items)
-      → AllPairs (g.P.FileStore.are_apart l.store) (map string_bytes l.names.items);
+  placed : map place_name l.places.items ≡ map place_name l.fn.places.items
+      ++ map (λ ending. l.file ++ string_bytes ending) (take l.ending-index l.endings);
+  apart : AllPairs (AreTwoOutputs (g.P.FileStore.are_apart l.store)) (map place_name l.fn.taken.items)
+      → AllPairs (AreTwoOutputs (g.P.FileStore.are_apart l.store)) (map place_name l.taken.items);
 }

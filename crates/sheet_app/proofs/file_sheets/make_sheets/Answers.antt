@@ -5,6 +5,8 @@ use Rattle.std.specs.String.{string_bytes}
 use Rattle.std.specs.Vec.Iter.{into_iter_items}
 use Rattle.std.proofs.lemmas.List.{nil_from_length}
 use Rattle.sheet_arguments.specs.Requests.{task_of}
+use Rattle.register_files.specs.OutputNames.{AreTwoOutputs}
+use Rattle.register_files.specs.Places.{place_name}
 use Rattle.sheet_app.specs.FileSheets.{IsNewSheet, ending_of, names_ending, sheet_name, source_name}
 use Rattle.sheet_app.specs.declared.file_sheets.FileSheet.{FileSheet}
 use Rattle.sheet_app.specs.declared.file_sheets.OpenedFile.{OpenedFile}
@@ -35,8 +37,8 @@ sources-preserved g c =
       made = each_more IsMade c.sources.sheets.items c.push.new.self.items c.in_ok-sheet.sheet pushed
           c.sources.invariant.made (c.in_ok-sheet.ensures.made first);
       noted = listed_more (λ (file : OpenedFile g.row.R.Denot). names_ending (ending_of (task_of c.args.job.now)) string_bytes
-          c.args.endings.now (source_name file)) _ (map string_bytes c.sources.names.items)
-          (map string_bytes c.make_sheet.new.names.items) (into_iter_items before) (into_iter_items c.next.new.self) opened
+          c.args.endings.now (source_name file)) _ (map place_name c.sources.taken.items)
+          (map place_name c.make_sheet.new.taken.items) (into_iter_items before) (into_iter_items c.next.new.self) opened
           c.in_ok-sheet.ensures.noted left c.sources.invariant.noted;
       apart = c.in_ok-sheet.ensures.apart c.sources.invariant.apart;
     }
@@ -51,7 +53,7 @@ returns-in_err-sheet-clause-missing g c =
     let fault = c.in_err-sheet.field-0.0 in
     handed (IsOfOutputs (flat_map names c.args.sources.items)) c.from_residual.result fault c.from_residual.ensures.1
     (of_more (names opened) (flat_map names c.args.sources.items) fault
-    (of_left names (flat_map names c.args.sources.items) (map string_bytes c.sources.names.items) (into_iter_items before)
+    (of_left names (flat_map names c.args.sources.items) (map place_name c.sources.taken.items) (into_iter_items before)
     (into_iter_items c.next.new.self) opened left c.sources.invariant.noted) c.in_err-sheet.ensures.missing)
 
 pub returns-clause-apart : goal.returns-clause-apart
@@ -60,10 +62,10 @@ returns-clause-apart g c =
     c.args.endings.now (source_name file) in
     let none : into_iter_items c.sources.opened-iterator ≡ []
     = nil_from_length _ (omega (arith, c.in-None.ensures.steps.0, c.sources.opened-iterator.rest.ok.0)) in
-    let all : map string_bytes c.sources.names.items ++ [] ≡ flat_map names c.args.sources.items
+    let all : map place_name c.sources.taken.items ++ [] ≡ flat_map names c.args.sources.items
     = rw none at c.sources.invariant.noted in
-    subst (AllPairs (g.P.FileStore.are_apart c.args.store.now))
-    (sym (append-nil (map string_bytes c.sources.names.items)) ∙ all) c.sources.invariant.apart
+    subst (AllPairs (AreTwoOutputs (g.P.FileStore.are_apart c.args.store.now)))
+    (sym (append-nil (map place_name c.sources.taken.items)) ∙ all) c.sources.invariant.apart
 
 pub returns-clause-named : goal.returns-clause-named
 returns-clause-named g c =

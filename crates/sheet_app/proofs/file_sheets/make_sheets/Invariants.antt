@@ -3,6 +3,8 @@ use Rattle.std.specs.Prelude.{AllPairs, flat_map}
 use Rattle.std.specs.String.{string_bytes}
 use Rattle.std.specs.Vec.Iter.{into_iter_items}
 use Rattle.sheet_arguments.specs.Requests.{task_of}
+use Rattle.register_files.specs.OutputNames.{AreTwoOutputs}
+use Rattle.register_files.specs.Places.{place_name}
 use Rattle.sheet_app.specs.FileSheets.{IsNewSheet, ending_of, names_ending, sheet_name, source_name}
 use Rattle.sheet_app.proofs.file_sheets.make_sheets.Given as goal
 
@@ -15,10 +17,10 @@ invariant-sources g l = record {
       (into_iter_items l.opened-iterator);
   made : All (IsNewSheet g.W.Output (g.P.FileStore.is_opened l.store) (g.P.FileStore.is_made l.store) (task_of l.job)
       (map string_bytes l.endings)) l.sheets.items;
-  noted : map string_bytes l.names.items
+  noted : map place_name l.taken.items
       ++ flat_map (λ opened. names_ending (ending_of (task_of l.job)) string_bytes l.endings (source_name opened))
       (into_iter_items l.opened-iterator)
       ≡ flat_map (λ opened. names_ending (ending_of (task_of l.job)) string_bytes l.endings (source_name opened))
       l.fn.sources.items;
-  apart : AllPairs (g.P.FileStore.are_apart l.store) (map string_bytes l.names.items);
+  apart : AllPairs (AreTwoOutputs (g.P.FileStore.are_apart l.store)) (map place_name l.taken.items);
 }

@@ -4,6 +4,7 @@ use Rattle.std.specs.Borrow.{Bor}
 use Rattle.std.specs.Prelude.{AllPairs, IfOk, flat_map}
 use Rattle.std.specs.String.{string_bytes}
 use Rattle.sheet_arguments.specs.Requests.{Task, task_of}
+use Rattle.register_files.specs.OutputNames.{AreTwoOutputs}
 use Rattle.sheet_app.specs.FileSheets.{IsNewSheet, IsNoInput, ending_of, names_ending, outputs_of, register_endings}
 use Rattle.sheet_app.specs.FileSheets.{source_name}
 use Rattle.sheet_app.specs.ProgramFaults.{IsFaultOfFiles}
@@ -40,7 +41,7 @@ returns-clause-apart g c =
     = rw (c.as_slice-2.ensures.value, c.as_slice-3.ensures.value) at c.in_ok-check_inputs_kept.ensures.kept in
     on_ok c.make_sheets.result _ _ c.make_sheets.ensures.apart (λ sheets apart. record {
       kept = subst (All (λ (name : List ℕ). IsNoInput Apart task name)) of_files kept;
-      apart = subst (AllPairs Apart) of_opened (rw c.as_slice-4.ensures.value at apart);
+      apart = subst (AllPairs (AreTwoOutputs Apart)) of_opened (rw c.as_slice-4.ensures.value at apart);
     })
 
 pub returns-clause-made : goal.returns-clause-made

@@ -65,9 +65,10 @@ returns-clause-files g c = λ low some.
       c.in-Ok.ensures.lists,
       refl,
       c.in-Ok.ensures.apart,
-      ends_named g.R.Read g.W.Output task list sheets ended zip ∙ c.in-Ok.ensures.named,
-      ends_all g.R.Read g.W.Output (g.P.FileStore.is_opened c.args.store.now) (g.P.FileStore.is_made c.args.store.now) task
-          list sheets ended c.in-Ok.ensures.made zip,
+      ends_named g.R.Read g.W.Output (g.P.FileStore.is_named c.args.store.now) task list sheets ended zip
+          ∙ c.in-Ok.ensures.named,
+      ends_all g.R.Read g.W.Output (g.P.FileStore.is_opened c.args.store.now) (g.P.FileStore.is_made c.args.store.now)
+          (g.P.FileStore.is_named c.args.store.now) task list sheets ended c.in-Ok.ensures.made zip,
       (λ zero. all.0 (c.status_of.ensures.complete.0 zero), λ each. c.status_of.ensures.complete.1 (all.1 each)),
       c.convert_all-ended.ensures.lines,
     )

@@ -5,21 +5,20 @@ use Rattle.std.specs.List.{AllZip, flat_map}
 use Rattle.std.proofs.lemmas.List.{map-append, take-map, take_more}
 use Rattle.std.proofs.lemmas.List.Concat.{flat_map-append}
 use Rattle.register_records.specs.Entries.{Fields}
-use Rattle.register_records.specs.Outcomes.{TableRow}
+use Rattle.register_sheets.specs.DateEnds.{Dated}
 use Rattle.register_sheets.specs.Converted.{below, body_record, body_records, head_record, sheet_records}
 use Rattle.register_sheets.specs.Sheets.{filled, widest}
-use Rattle.register_sheets.specs.declared.choices.AskedColumn.{AskedColumn}
 use Rattle.register_sheets.specs.declared.choices.SheetChoice.{SheetChoice}
 
 -- records without rows add nothing
-pub body_front : (width : ℕ) (columns : List AskedColumn) (xs zs : List Fields) (ys : List (List TableRow))
-    → length xs ≡ length ys → body_records width columns (xs ++ zs) ys ≡ body_records width columns xs ys
-body_front width columns [] [] [] e = refl
-body_front width columns [] (z ∷ zs) [] e = refl
-body_front width columns (x ∷ xs) zs (y ∷ ys) e =
-    ap (λ rest. body_record width columns x y ∷ rest) (body_front width columns xs zs ys (omega arith))
-body_front width columns [] zs (y ∷ ys) e = absurd (omega arith)
-body_front width columns (x ∷ xs) zs [] e = absurd (omega arith)
+pub body_front : (width : ℕ) (choice : SheetChoice) (xs zs : List Fields) (ys : List (List Dated))
+    → length xs ≡ length ys → body_records width choice (xs ++ zs) ys ≡ body_records width choice xs ys
+body_front width choice [] [] [] e = refl
+body_front width choice [] (z ∷ zs) [] e = refl
+body_front width choice (x ∷ xs) zs (y ∷ ys) e =
+    ap (λ rest. body_record width choice x y ∷ rest) (body_front width choice xs zs ys (omega arith))
+body_front width choice [] zs (y ∷ ys) e = absurd (omega arith)
+body_front width choice (x ∷ xs) zs [] e = absurd (omega arith)
 
 -- the records that come back
 joined : (xs ys : List Fields) (x : Fields) → (([] ++ xs) ++ x ∷ []) ++ ys ≡ xs ++ x ∷ ys
@@ -48,11 +47,11 @@ pub below_names : (choice : SheetChoice) (records left rest : List Fields) → l
     → rest ≡ drop 1 left → rest ≡ below choice records
 below_names choice records left rest e f = f ∙ ap (drop 1) e ∙ same_rest choice.above records
 
-pub sheet_made : (choice : SheetChoice) (records left rest : List Fields) (width : ℕ) (rows : List (List TableRow))
+pub sheet_made : (choice : SheetChoice) (records left rest : List Fields) (width : ℕ) (rows : List (List Dated))
     → left ≡ drop choice.above records → rest ≡ drop 1 left → width ≡ widest (drop choice.above records)
     → (([] ++ take choice.above records)
     ++ (filled width (get_or left 0 []) ++ map (λ name. name.now) choice.headings.now) ∷ [])
-    ++ body_records width choice.columns.now rest rows ≡ sheet_records choice records rows
+    ++ body_records width choice rest rows ≡ sheet_records choice records rows
 sheet_made choice records left rest width rows e f w =
     let same : rest ≡ below choice records = below_names choice records left rest e f in
     rw (same, w, e, same_head choice.above records []) (joined (take choice.above records) _ (head_record choice

@@ -5,6 +5,7 @@ pub mod NameMeanings
 pub mod NameLists
 pub mod Choices
 pub mod ChoiceViews
+pub mod DateEnds
 pub mod AskedViews
 pub mod DateCounts
 pub mod Converted
@@ -19,6 +20,7 @@ pub mod DateStops
 pub mod UnknownNames
 pub mod UnknownViews
 pub mod SheetRecords
+pub mod DateViews
 pub mod SheetReaders
 pub mod RecordLines
 pub mod Produced

@@ -58,7 +58,7 @@ returns-then-choice-clause-fault c =
       asks_once c.args.choice.now _ _ c.if-choice-gt-MAX_COLUMNS.false c.asks_twice.ensures c.if-asks_twice.false
           c.asked_targets-count.ensures.value once,
       not_false _ (λ off. no_fault _ _ (made.delimiter.1 (once, refl, off))),
-      c.if-choice.true,
+      rw c.added_each-each.ensures at c.if-choice.true,
     )
 
 pub returns-clause-good : goal.returns-clause-good
@@ -70,7 +70,7 @@ returns-clause-good c =
       asks_once c.args.choice.now _ _ c.if-choice-gt-MAX_COLUMNS.false c.asks_twice.ensures c.if-asks_twice.false
           c.asked_targets-count.ensures.value once,
       not_false _ (λ off. no_fault _ _ (made.delimiter.1 (once, refl, off))),
-      c.if-choice.false,
+      rw c.added_each-each.ensures at c.if-choice.false,
       made.value.0 ∙ c.asked_targets-count.ensures.value,
     )
 

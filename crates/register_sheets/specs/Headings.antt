@@ -8,7 +8,7 @@ use Rattle.std.specs.Str.{bytes_eq}
 use Rattle.date_texts.specs.Calendars.{target_name}
 use Rattle.register_records.specs.Entries.{Fields}
 use Rattle.register_sheets.specs.declared.choices.AskedColumn.{AskedColumn}
-use Rattle.register_sheets.specs.declared.choices.AskedColumn.TheVariants.{Cells, DayNumber, Weekday}
+use Rattle.register_sheets.specs.declared.choices.AskedColumn.TheVariants.{Cells, Church, DayNumber, Weekday}
 use Rattle.register_sheets.specs.declared.choices.DateColumn.{DateColumn}
 use Rattle.register_sheets.specs.declared.choices.Spans.{Spans}
 use Rattle.register_sheets.specs.declared.choices.Spans.TheVariants as spans
@@ -17,6 +17,7 @@ use Rattle.register_sheets.specs.declared.choices.Spans.TheVariants as spans
 abbrev pub asked_name : AskedColumn → List ℕ
 asked_name DayNumber = codes "rd"
 asked_name Weekday = codes "weekday"
+asked_name Church = codes "church"
 asked_name (Cells target) = target_name target
 
 -- one name behind another, with a space (32) between

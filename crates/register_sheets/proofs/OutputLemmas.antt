@@ -1,10 +1,11 @@
 -- What one reading of a sheet makes.
 use Rattle.std.proofs.Common.{◌≡◌, ◌≤◌, ◌<◌, ◌∙◌, ◌++◌, ◌+◌, ◌-◌, ℕ, zero, suc, List, [], ◌∷◌, Some, ap}
-use Rattle.std.proofs.Common.{IsErrAnd, arith, drop, false, inl, inr, length, map, nat_lt, nat_tests, refl, replicate}
+use Rattle.std.proofs.Common.{IsErrAnd, arith, drop, false, inl, inr, length, map, nat_lt, refl, replicate}
 use Rattle.std.proofs.Common.{subst, sym, take, true}
 use Rattle.std.specs.Prelude.{◌⊎◌, Err, IsOk, Ok, OnOk, Result, slice_get}
 use Rattle.std.specs.List.{AllZip}
 use Rattle.std.proofs.lemmas.List.{length-map, length-replicate, take-append-drop}
+use Rattle.std.proofs.lemmas.Bool.Decides.{nat_tests}
 use Rattle.std.proofs.lemmas.Option.{slice_get_within}
 use Rattle.std.proofs.KnownBytes.{Appends-nil}
 use Rattle.register_records.specs.Entries.{Fields, record_limit}
@@ -298,7 +299,7 @@ at_map f (x ∷ xs) (suc place) y e = at_map f xs place y e
 at_append : {X : Type 0} (xs ys : List X) (place : ℕ) (x : X) → slice_get (xs ++ ys) place ≡ Some x
     → ((place < length xs) × (slice_get xs place ≡ Some x))
     ⊎ ((length xs ≤ place) × (slice_get ys (place - length xs) ≡ Some x))
-at_append [] ys place x e = inr (omega arith, e)
+at_append [] ys place x e = let same : place - 0 ≡ place = omega arith in inr (omega arith, ap (slice_get ys) same ∙ e)
 at_append (z ∷ xs) ys zero x e = inl (omega arith, e)
 at_append (z ∷ xs) ys (suc place) x e =
     elim (at_append xs ys place x e) [

@@ -1,7 +1,8 @@
 -- The rows of records, one record after the other.
-use Rattle.std.proofs.Common.{◌≡◌, ◌<◌, ◌∙◌, ◌++◌, ◌+◌, ℕ, zero, suc, List, [], ◌∷◌, ap}
+use Rattle.std.proofs.Common.{◌≡◌, ◌<◌, ◌≤◌, ◌∙◌, ◌++◌, ◌+◌, ℕ, zero, suc, List, [], ◌∷◌, ap}
 use Rattle.std.proofs.Common.{append-nil, append_assoc, arith, drop, get_or, length, map, refl, subst, sym, take}
 use Rattle.std.specs.List.{AllZip, flat_map}
+use Rattle.std.specs.Prelude.{None, Option, Some, slice_get}
 use Rattle.std.proofs.lemmas.List.{map-append, take-map, take_more}
 use Rattle.std.proofs.lemmas.List.Concat.{flat_map-append}
 use Rattle.register_records.specs.Entries.{Fields}
@@ -83,3 +84,20 @@ pub zip_at : {X Y : Type 0} (R : X → Y → Type 0) (xs : List X) (ys : List Y)
     → AllZip R (take i xs) ys → R (get_or xs i d) y → AllZip R (take (i + 1) xs) (ys ++ y ∷ [])
 zip_at R xs ys i d y lt h r =
     subst (λ zs. AllZip R zs (ys ++ y ∷ [])) (sym (take_more xs i d lt)) (zip_more R (take i xs) ys _ y h r)
+
+-- what is made of the element at a place
+pub seen_at : {X Y : Type 0} (f : X → Y) (xs : List X) (i : ℕ) (x : X) → slice_get xs i ≡ Some x
+    → slice_get (map f xs) i ≡ Some (f x)
+seen_at f [] i x e = absurd (cc)
+seen_at f (y ∷ xs) zero x e = cc
+seen_at f (y ∷ xs) (suc i) x e = seen_at f xs i x e
+
+pub none_seen : {X Y : Type 0} (f : X → Y) (xs : List X) (i : ℕ) → slice_get xs i ≡ None → slice_get (map f xs) i ≡ None
+none_seen f [] i e = refl
+none_seen f (y ∷ xs) zero e = absurd (cc)
+none_seen f (y ∷ xs) (suc i) e = none_seen f xs i e
+
+pub none_behind : {X : Type 0} (xs : List X) (i : ℕ) → length xs ≤ i → slice_get xs i ≡ None
+none_behind [] i e = refl
+none_behind (y ∷ xs) zero e = absurd (omega arith)
+none_behind (y ∷ xs) (suc i) e = none_behind xs i (omega arith)

@@ -33,7 +33,10 @@ abbrev pub edtf_field : Bool → Dated → Fields
 edtf_field true dated = dated.edtf ∷ []
 edtf_field false dated = []
 
+abbrev pub fields_behind : Bool → Dated → Fields
+fields_behind true dated = dated.edtf ∷ mark_text dated.marks ∷ shown_in (codes "refusal") (told dated) ∷ []
+fields_behind false dated = mark_text dated.marks ∷ shown_in (codes "refusal") (told dated) ∷ []
+
 abbrev pub ends_fields : List AskedColumn → Dated → Bool → Fields
 ends_fields columns dated with_edtf =
-    asked_cells columns dated.first.row ++ asked_cells columns dated.last.row
-    ++ edtf_field with_edtf dated ++ mark_text dated.marks ∷ shown_in (codes "refusal") (told dated) ∷ []
+    asked_cells columns dated.first.row ++ asked_cells columns dated.last.row ++ fields_behind with_edtf dated

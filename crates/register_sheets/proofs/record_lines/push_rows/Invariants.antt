@@ -7,5 +7,5 @@ use Rattle.register_sheets.proofs.record_lines.push_rows.Given as goal
 
 abbrev pub invariant-columns : goal.invariant-columns
 invariant-columns l =
-    GainsFields (flat_map (dated_fields l.setup.choice.now)
+    GainsFields (flat_map (dated_fields l.setup.choice)
     (take l.dates-index (map dated_seen l.dates-items))) l.fn.lines l.lines

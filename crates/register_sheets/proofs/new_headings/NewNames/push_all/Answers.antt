@@ -1,6 +1,6 @@
-use Rattle.std.proofs.Common.{◌++◌, ◌∷◌, [], append_assoc, codes, refl, sym}
+use Rattle.std.proofs.Common.{◌++◌, ◌∷◌, [], codes, refl}
 use Rattle.std.proofs.lemmas.Result.{on_ok_weaker}
-use Rattle.register_sheets.specs.Headings.{column_names, mark_names}
+use Rattle.register_sheets.specs.Headings.{asked_names, column_names, mark_names}
 use Rattle.register_sheets.proofs.HeadingLemmas.{then_all}
 use Rattle.register_sheets.proofs.new_headings.NewNames.push_all.Goals as goal
 
@@ -10,7 +10,7 @@ returns c =
     let date = c.args.date.now in
     let names = column_names c.args.spans c.args.columns.now in
     let marks = mark_names c.args.spans in
-    on_ok_weaker c.push_for.result (λ more. then_all several date (names ++ marks) (codes "refusal" ∷ []) _
-    c.args.self.now c.push_marks.new.self c.push_for.new.self (sym (append_assoc names marks (codes "refusal" ∷ [])))
+    on_ok_weaker c.push_for.result (λ more. then_all several date (names ++ marks) (codes "refusal" ∷ [])
+    (asked_names c.args.spans c.args.columns.now) c.args.self.now c.push_marks.new.self c.push_for.new.self refl
     (then_all several date names marks _ c.args.self.now c.push_asked.new.self c.push_marks.new.self refl
     c.in_ok-push_asked.ensures c.in_ok-push_marks.ensures) more) c.push_for.ensures

@@ -135,7 +135,26 @@ x;1001-1-1;;5;365243;
 """
 TWO_COLUMNS = "--skip 1 --date a --date b --all julian --all gregorian --delimiter semicolon --to rd"
 
+# Dates that say no single day; days and weekdays by Python's datetime.
+SPANS = "No,Date\n1,12 Mai 1806\n2,Mai 1806\n3,ca. 1750\n4,vor 12.5.1806\n5,31.4.1801 bis 5.5.1801\n6,1755-1750\n7,\n"
+SPANS_CONVERTED = """\
+No,Date,first weekday,first gregorian,last weekday,last gregorian,edtf,mark,refusal
+1,12 Mai 1806,Monday,1806-05-12,Monday,1806-05-12,1806-05-12,,
+2,Mai 1806,Thursday,1806-05-01,Saturday,1806-05-31,1806-05,,
+3,ca. 1750,Thursday,1750-01-01,Thursday,1750-12-31,1750~,about,
+4,vor 12.5.1806,,,Sunday,1806-05-11,../1806-05-11,before,
+5,31.4.1801 bis 5.5.1801,,,Tuesday,1801-05-05,,,6
+6,1755-1750,,,,,,,5
+7,,,,,,,,5
+"""
+SPANS_FIRST = ("id,calendar,date\n1,gregorian,1806-5-12\n2,gregorian,1806-5-1\n3,gregorian,1750-1-1\n4,gregorian,\n"
+               "5,gregorian,1801-4-31\n6,gregorian,1755-1750\n7,gregorian,\n")
+SPANS_LAST = ("id,calendar,date\n1,gregorian,1806-5-12\n2,gregorian,1806-5-31\n3,gregorian,1750-12-31\n"
+              "4,gregorian,1806-05-11\n5,gregorian,1801-5-5\n6,gregorian,1755-1750\n7,gregorian,\n")
+SPANS_COLUMNS = "--date Date --all gregorian --order day"
+
 FILES = {
+    "spans.csv": SPANS,
     "a.csv": SHEET, "c.csv": SHEET, "own.csv": SHEET, "two.csv": TWO_DATES, "empty.csv": "",
     "names.csv": "name,means,in\nMeyo,month 5,\n", "weekdays.csv": "name,means,in\nSonntag,weekday 0,\n",
     "own.csv.unknown.csv": "name,means,in\nMeyo,month 5,\n",
@@ -214,6 +233,11 @@ STREAMS = [
     ("--date d --all julian --order day --to julian", "d\n1. zza 1700\n2. zzb 1700\n", 0,
      "d,julian,refusal\n1. zza 1700,,5\n2. zzb 1700,,5\n",
      lines("standard input: 2 dates have names that are not known: --unknown lists them")),
+    # Dates with a first and a last day, and without the text of EDTF.
+    (f"{SPANS_COLUMNS} --spans --edtf", SPANS, 0, SPANS_CONVERTED,
+     lines("standard input: 1 date has no day")),
+    (f"{SPANS_COLUMNS} --spans --to rd", "Date\nMai 1806\n", 0,
+     "Date,first rd,last rd,mark,refusal\nMai 1806,659383,659413,,\n", ""),
     # Sheets that break off.
     ("--date Datum --calendar Calendar", SHEET, 1, "",
      lines("standard input: no column Datum: the columns are No, Calendar, Date")),
@@ -246,6 +270,10 @@ MADE = [
       "two.csv.register.2.csv": "id;calendar;date\n1;gregorian;1001-1-1\n2;gregorian;1001-1-1\n"},
      lines(not_known("two.csv"))),
     (f"{COLUMNS} --unknown --register a.csv", 0, {"a.csv.unknown.csv": UNKNOWN}, ""),
+    # Registers of the first and of the last days.
+    (f"{SPANS_COLUMNS} --edtf --register spans.csv", 0,
+     {"spans.csv.dates.csv": SPANS_CONVERTED, "spans.csv.first.register.csv": SPANS_FIRST,
+      "spans.csv.last.register.csv": SPANS_LAST}, lines("spans.csv: 1 date has no day")),
     # Files that cannot be opened or made: all are opened before any is made.
     ("--date 1 --all iso a.csv none.csv", 3, {}, lines("cannot open none.csv")),
     ("--date 1 --all iso a.csv c.csv", 3, {"a.csv.dates.csv.part": ""}, lines("cannot make c.csv.dates.csv")),

@@ -15,8 +15,8 @@ export const NO_CALENDAR = 255;
 // Of three numbers the day stands first.
 const DAY_FIRST = 1;
 // The columns of dates that a sheet can have, and the numbers of each in a report: how many dates were refused, how many by
-// each reason, and how many are empty.
-const MOST_DATES = 8, COUNTS = FACTS.refusals.length + 2;
+// each reason, how many are empty, and how many are no single day, of which the page knows nothing.
+const MOST_DATES = 8, COUNTS = FACTS.refusals.length + 3;
 /** Why dates stay as they are written, in the order of the module's counts, from number 1 on. */
 export const REASONS = ['noCalendar', 'character', 'minus', 'otherWeekday', 'noDay', 'noYear', 'noSuchYear', 'noDate'];
 
@@ -27,7 +27,7 @@ function unreadOf(/** @type {number[]} */ [stopped, short, ...counts]) {
 
 // How many dates of a column were refused, by the reason, and how many are empty.
 function dateCountsOf(/** @type {number[]} */ [refused, ...counts]) {
-  return { refused, counts: counts.slice(0, -1), empty: counts[COUNTS - 2] };
+  return { refused, counts: counts.slice(0, -2), empty: counts[COUNTS - 3] };
 }
 
 /** Memory ran out: what the module answers by an ending 1, and what the heap of this script throws. */

@@ -16,6 +16,7 @@ use Rattle.written_dates.specs.declared.rules.Order.TheVariants.{YearFirst, DayF
 use Rattle.written_dates.specs.declared.written.Choice.{Choice}
 use Rattle.written_dates.specs.declared.written.Short.{Short}
 use Rattle.written_dates.specs.declared.written.Short.TheVariants.{Refuse, Keep, Add}
+use Rattle.register_sheets.specs.declared.choices.Spans.TheVariants as spans
 
 -- the number that stands for no place
 abbrev pub no_place : ℕ
@@ -94,6 +95,7 @@ asked_by (delimiter ∷ above ∷ id ∷ order ∷ years ∷ hebrew ∷ charters
       above = above;
       id = id_by id;
       reading = reading;
+      spans = spans.Unread;
       dates = dates;
       columns = asked;
     }))

@@ -7,6 +7,7 @@ use Rattle.register_sheets.specs.NameLists.{IsFaultOf, IsListOf}
 use Rattle.register_sheets.specs.Registers.{IsRegister}
 use Rattle.register_sheets.specs.UnknownNames.{AreUnreadIn, IsUnknown, NameCount, list_text}
 use Rattle.register_sheets.specs.declared.choices.DateColumn.{DateColumn}
+use Rattle.register_sheets.specs.declared.choices.End.TheVariants.{First}
 use Rattle.register_sheets.specs.declared.choices.SheetChoice.{SheetChoice}
 use Rattle.register_sheets.specs.declared.date_counts.SheetCounts.{SheetCounts}
 use Rattle.register_sheets.specs.declared.name_lists.NameLine.{NameLine}
@@ -54,7 +55,7 @@ pub record IsAskedRegister (numbers names sheet : List ℕ) (place : ℕ) (bytes
   pub asked : IsAsked numbers [] names sheet choice
   pub is_choice : IsChoice choice
   pub at_place : slice_get choice.dates.now place ≡ Some column
-  pub whole : IsRegister choice column (text_records choice.delimiter sheet) count bytes
+  pub whole : IsRegister choice column First (text_records choice.delimiter sheet) count bytes
 
 -- the list of the first names that are not known for what is asked, at most so many, how many dates others stopped, and
 -- how many dates were not read

@@ -7,7 +7,7 @@ ghost use Rattle.register_page_exports.specs.SheetChoices.{flag_by, id_by, order
 
 use date_texts::laws::{all_calendars, all_targets};
 use date_texts::{Calendar, Target};
-use register_sheets::{AskedColumn, AskedOfSheet, CalendarField, DateColumn, IdField};
+use register_sheets::{AskedColumn, AskedOfSheet, CalendarField, DateColumn, IdField, Spans};
 use std::alloc::{AllocError, Global};
 use written_dates::{Choice, Order, Short};
 
@@ -184,6 +184,7 @@ fn asked_of(
         above: head[1],
         id: id_of(head[2]),
         reading,
+        spans: Spans::Unread,
         dates,
         columns,
     }))

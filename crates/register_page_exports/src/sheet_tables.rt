@@ -22,7 +22,7 @@ use crate::sheets::{TextReport, put_text};
 use register_page::{bytes_for, copy_if_fits};
 use register_records::PlainOutput;
 use register_sheets::{
-    AskedByNames, AskedOfSheet, NameList, NameListFault, SheetCause, SheetCounts, SheetEnd,
+    AskedByNames, AskedOfSheet, End, NameList, NameListFault, SheetCause, SheetCounts, SheetEnd,
     SheetSetup, Unknown, UnreadDates, convert_sheet, unknown_names, write_register,
 };
 use std::alloc::{AllocError, Global};
@@ -169,7 +169,7 @@ fn register_by(
 ) -> Result<Vec<u8>, SheetEnding>
     ensures whole { IfOk result (λ text. (choice : SheetChoiceValue) × IsChoiceBy known.now choice × IsChoice choice
         × (found : DateColumnValue) × (count : ℕ) × (slice_get choice.dates.now column ≡ Some found)
-        × IsRegister choice found (text_records choice.delimiter sheet.now) count text.items) }
+        × IsRegister choice found End.First (text_records choice.delimiter sheet.now) count text.items) }
     ensures ends { IfErr result (EndsBy (IsChoiceBy known.now) (IsChoiceAt column) sheet.now) }
 {
     let setup = setup_of(known)?;
@@ -177,7 +177,7 @@ fn register_by(
         return Err(SheetEnding::Choice);
     };
     let mut output = PlainOutput::new(bytes_for(alloc, expected), 0);
-    let end = write_register(alloc, sheet, &setup, column, &mut output);
+    let end = write_register(alloc, sheet, &setup, column, End::First, &mut output);
     let text = output.into_inner();
     match end {
         Ok(_) => Ok(text),

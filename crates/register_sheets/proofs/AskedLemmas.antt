@@ -1,7 +1,7 @@
 -- The columns asked, one after the other.
 use Rattle.std.proofs.Common.{◌≡◌, ◌≤◌, ◌<◌, ◌∙◌, ◌++◌, ◌+◌, ℕ, List, [], ◌∷◌, Option, Some, None, add-one, ap}
 use Rattle.std.proofs.Common.{append-nil, append_assoc, arith, drop, drop-cons, get_or, length, refl, set, sym, take}
-use Rattle.std.proofs.Common.{map, suc, true, zero}
+use Rattle.std.proofs.Common.{codes, map, suc, true, zero}
 use Rattle.std.specs.List.{flat_map, list_all}
 use Rattle.std.specs.Prelude.{option_to_list}
 use Rattle.std.proofs.lemmas.List.{take_more, take_more_set}
@@ -12,7 +12,7 @@ use Rattle.register_records.specs.Outcomes.{TableRow}
 use Rattle.date_texts.specs.declared.target.Target.{Target}
 use Rattle.register_sheets.specs.AskedViews.{day_columns, has_cells}
 use Rattle.register_sheets.specs.Choices.{asked_targets, target_in}
-use Rattle.register_sheets.specs.Converted.{asked_fields, asked_text, asked_texts, cells_taken}
+use Rattle.register_sheets.specs.Converted.{asked_fields, asked_text, asked_texts, cells_taken, shown_in}
 use Rattle.register_sheets.specs.declared.choices.AskedColumn.{AskedColumn}
 use Rattle.register_sheets.specs.declared.choices.AskedColumn.TheVariants.{Cells, Church, DayNumber, Weekday}
 use Rattle.register_sheets.proofs.RowLemmas.{drop_both, same_head}
@@ -67,12 +67,13 @@ behind_cells = flat_map (kind_columns []) (drop 3 tail_order)
 -- where so many columns of cells are asked, they and the refusal show what a table shows behind the day
 cells_shown : (columns : List AskedColumn) (ts : List Target) (row : TableRow) (place : ℕ)
     → list_all has_cells columns ≡ true → length columns ≡ length ts
-    → asked_texts columns row (drop place row.cells)
+    → asked_texts columns row (drop place row.cells) ++ shown_in (codes "refusal") row ∷ []
     ≡ map (λ (c : Column). c.field row) (cell_columns place ts ++ behind_cells)
 cells_shown [] [] row place all same = refl
 cells_shown (Cells t ∷ columns) (u ∷ ts) row place all same =
     ap (λ (rest : Fields). get_or (drop place row.cells) 0 [] ∷ rest)
-    (ap (asked_texts columns row) (drop_both place 1 (place + 1) row.cells refl)
+    (ap (λ (cells : List (List ℕ)). asked_texts columns row cells ++ shown_in (codes "refusal") row ∷ [])
+    (drop_both place 1 (place + 1) row.cells refl)
     ∙ cells_shown columns ts row (place + 1) all (omega arith))
     ∙ ap (λ (text : List ℕ). text ∷ map (λ (c : Column). c.field row) (cell_columns (place + 1) ts ++ behind_cells))
     (same_head place row.cells [])

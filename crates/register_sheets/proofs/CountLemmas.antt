@@ -11,17 +11,17 @@ use Rattle.std.proofs.lemmas.List.Sums.{count_by-le-length, sum_by-append}
 use Rattle.date_texts.specs.declared.refusal.Refusal.{Refusal}
 use Rattle.date_texts.specs.declared.refusal.Refusal.TheVariants as refusals
 use Rattle.register_records.specs.Entries.{Fields}
-use Rattle.register_records.specs.Outcomes.{TableRow}
+use Rattle.register_sheets.specs.DateEnds.{Dated}
 use Rattle.register_records.specs.RefusalCounts.{count_of}
 use Rattle.register_sheets.specs.CountViews.{AreUpTo, CountsDates, CountsRecord}
 use Rattle.register_sheets.specs.DateCounts.{AreDateCounts, AreSheetCounts, DateRow, date_at, date_of, dates_at}
-use Rattle.register_sheets.specs.DateCounts.{is_blank_record, is_empty, is_refused, is_refused_with, no_counts}
+use Rattle.register_sheets.specs.DateCounts.{is_blank_record, is_empty, is_refused, is_refused_with, is_span, no_counts}
 use Rattle.register_sheets.specs.declared.choices.DateColumn.{DateColumn}
 use Rattle.register_sheets.specs.declared.date_counts.DateCounts.{DateCounts}
 use Rattle.register_sheets.specs.declared.date_counts.SheetCounts.{SheetCounts}
 
 pub none_more : (counts : DateCounts) → CountsDates [] counts counts
-none_more counts = record { refused = omega arith; reasons = λ refusal. omega arith; empty = omega arith }
+none_more counts = record { refused = omega arith; reasons = λ refusal. omega arith; empty = omega arith; spans = omega arith }
 
 -- each has no count yet
 none_refused : (refusal : Refusal) → count_of no_counts.refused_with refusal ≡ 0
@@ -35,7 +35,7 @@ none_refused refusals.OutOfRange = refl
 
 pub none_at : (counts : DateCounts) (n i : ℕ) → AreDateCounts [] counts
     → AreDateCounts [] (get_or (replicate n counts) i no_counts)
-none_at counts zero i none = record { refused = refl; reasons = none_refused; empty = refl }
+none_at counts zero i none = record { refused = refl; reasons = none_refused; empty = refl; spans = refl }
 none_at counts (suc n) zero none = none
 none_at counts (suc n) (suc i) none = none_at counts n i none
 
@@ -50,18 +50,18 @@ zip_more (a ∷ xs) (b ∷ ys) x y e = ap (λ rest. (a, b) ∷ rest) (zip_more x
 zip_more [] (b ∷ ys) x y e = absurd (omega arith)
 zip_more (a ∷ xs) [] x y e = absurd (omega arith)
 
-dates_more : (columns : List DateColumn) (place : ℕ) (done : List Fields) (rows : List (List TableRow)) (fields :
+dates_more : (columns : List DateColumn) (place : ℕ) (done : List Fields) (rows : List (List Dated)) (fields :
     Fields)
-    (one : List TableRow) → length done ≡ length rows → dates_at columns place (done ++ fields ∷ []) (rows ++ one ∷ [])
+    (one : List Dated) → length done ≡ length rows → dates_at columns place (done ++ fields ∷ []) (rows ++ one ∷ [])
     ≡ dates_at columns place done rows ++ date_at columns place fields one
 dates_more columns place done rows fields one e =
-    let f : Fields × List TableRow → List DateRow = λ r. date_at columns place r.0 r.1 in
+    let f : Fields × List Dated → List DateRow = λ r. date_at columns place r.0 r.1 in
     ap (flat_map f) (zip_more done rows fields one e)
     ∙ flat_map-append f (zip done rows) ((fields, one) ∷ [])
     ∙ ap (λ dates. dates_at columns place done rows ++ dates) (append-nil (date_at columns place fields one))
 
-pub counts_more : (columns : List DateColumn) (done : List Fields) (rows : List (List TableRow)) (fields : Fields)
-    (one : List TableRow) (old new : SheetCounts) → length done ≡ length rows → AreSheetCounts columns done rows old
+pub counts_more : (columns : List DateColumn) (done : List Fields) (rows : List (List Dated)) (fields : Fields)
+    (one : List Dated) (old new : SheetCounts) → length done ≡ length rows → AreSheetCounts columns done rows old
     → CountsRecord columns fields one old new → AreSheetCounts columns (done ++ fields ∷ []) (rows ++ one ∷ []) new
 counts_more columns done rows fields one old new same all more =
     record {
@@ -89,6 +89,7 @@ counts_more columns done rows fields one old new same all more =
                   ap (count_by (is_refused_with refusal)) next,
                 );
             empty = omega (arith, then_.empty, before.empty, both is_empty xs ys, ap (count_by is_empty) next);
+            spans = omega (arith, then_.spans, before.spans, both is_span xs ys, ap (count_by is_span) next);
           };
       blank = omega (arith, more.blank, all.blank, both is_blank_record done (fields ∷ []));
     }
@@ -98,12 +99,12 @@ if_few : (b : Bool) (dates : List DateRow) → length dates ≤ 1 → length (if
 if_few true dates few = omega arith
 if_few false dates few = few
 
-of_few : (fields : Fields) (column : Option DateColumn) (row : Option TableRow) → length (date_of fields column row) ≤ 1
+of_few : (fields : Fields) (column : Option DateColumn) (row : Option Dated) → length (date_of fields column row) ≤ 1
 of_few fields (Some column) (Some row) = omega arith
 of_few fields (Some column) None = omega arith
 of_few fields None row = omega arith
 
-dates_few : (columns : List DateColumn) (place : ℕ) (records : List Fields) (rows : List (List TableRow))
+dates_few : (columns : List DateColumn) (place : ℕ) (records : List Fields) (rows : List (List Dated))
     → length (dates_at columns place records rows) ≤ length records
 dates_few columns place [] rows = omega arith
 dates_few columns place (x ∷ xs) [] = omega arith
@@ -116,7 +117,7 @@ dates_few columns place (x ∷ xs) (y ∷ ys) =
       dates_few columns place xs ys,
     )
 
-pub up_to : (columns : List DateColumn) (records : List Fields) (rows : List (List TableRow)) (counts : SheetCounts)
+pub up_to : (columns : List DateColumn) (records : List Fields) (rows : List (List Dated)) (counts : SheetCounts)
     (limit : ℕ) → AreSheetCounts columns records rows counts → length records ≤ limit → AreUpTo limit columns counts
 up_to columns records rows counts limit all few =
     record {
@@ -129,6 +130,7 @@ up_to columns records rows counts limit all few =
             reasons = λ refusal.
                 omega (arith, of_column.reasons refusal, count_by-le-length (is_refused_with refusal) dates, many, few);
             empty = omega (arith, of_column.empty, count_by-le-length is_empty dates, many, few);
+            spans = omega (arith, of_column.spans, count_by-le-length is_span dates, many, few);
           };
       blank = omega (arith, all.blank, count_by-le-length is_blank_record records, few);
     }
@@ -149,9 +151,9 @@ seen_slot f (x ∷ xs) zero d low = refl
 seen_slot f (x ∷ xs) (suc i) d low = seen_slot f xs i d (omega arith)
 
 -- the date at one place more is counted
-pub place_counted : (columns : List DateColumn) (fields : Fields) (rows : List TableRow) (place : ℕ) (column :
+pub place_counted : (columns : List DateColumn) (fields : Fields) (rows : List Dated) (place : ℕ) (column :
     DateColumn)
-    (row : TableRow) (old mid : List DateCounts) (next : DateCounts) → place < length mid
+    (row : Dated) (old mid : List DateCounts) (next : DateCounts) → place < length mid
     → slice_get columns place ≡ Some column → slice_get rows place ≡ Some row → is_blank_record fields ≡ false
     → CountsDates ((get_or fields column.date [], row) ∷ []) (get_or mid place no_counts) next
     → ((q : ℕ) → place ≤ q → get_or mid q no_counts ≡ get_or old q no_counts)

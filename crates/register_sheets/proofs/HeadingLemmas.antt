@@ -9,8 +9,9 @@ use Rattle.std.proofs.lemmas.Cmp.{nat_list_eq_equiv}
 use Rattle.std.proofs.lemmas.List.{at_drop_more, map-append, take_more}
 use Rattle.csv.specs.Records.{fields_of}
 use Rattle.register_records.specs.Entries.{Fields}
-use Rattle.register_sheets.specs.HeadingViews.{NamesMore, taken_by}
-use Rattle.register_sheets.specs.Headings.{AreHeadings, IsHeading, asked_name, is_taken, items_of, numbered}
+use Rattle.register_sheets.specs.HeadingViews.{NamesMore, taken_by, wanted_all}
+use Rattle.register_sheets.specs.declared.choices.DateColumn.{DateColumn}
+use Rattle.register_sheets.specs.Headings.{AreHeadings, IsHeading, is_taken, items_of, numbered}
 use Rattle.register_sheets.specs.Headings.{wanted_heading}
 use Rattle.register_sheets.specs.declared.choices.AskedColumn.{AskedColumn}
 use Rattle.register_sheets.specs.declared.new_headings.NewNames.{NewNames}
@@ -63,6 +64,22 @@ then_named wanted next old mid new h i =
     both_named wanted (next (fields_of old.own)) old mid new h
     (subst (λ (own : Fields). NamesMore (next own) mid new) (ap fields_of h.own) i)
 
+-- and where names come for a column of dates
+pub then_all : (several : Bool) (date : DateColumn) (xs ys all : Fields) (old mid new : NewNames) → all ≡ xs ++ ys
+    → NamesMore (wanted_all several date xs (fields_of old.own)) old mid
+    → NamesMore (wanted_all several date ys (fields_of mid.own)) mid new
+    → NamesMore (wanted_all several date all (fields_of old.own)) old new
+then_all several date xs ys all old mid new e h i =
+    subst (λ (names : Fields). NamesMore names old new)
+    (sym (ap (λ (names : Fields). wanted_all several date names (fields_of old.own)) e
+    ∙ map-append (wanted_heading several (get_or (fields_of old.own) date.date [])) xs ys))
+    (then_named _ (wanted_all several date ys) old mid new h i)
+
+pub name_more : (f : AskedColumn → List ℕ) (columns : List AskedColumn) (i : ℕ) (d : AskedColumn) → i < length columns
+    → map f (take (i + 1) columns) ≡ map f (take i columns) ++ f (get_or columns i d) ∷ []
+name_more f columns i d lt =
+    ap (map f) (take_more columns i d lt) ∙ map-append f (take i columns) (get_or columns i d ∷ [])
+
 -- a name is that at this place, or stands behind it
 pub taken_next : (xs : Fields) (k : ℕ) (name : List ℕ) → k < length xs
     → is_taken (drop k xs) name ≡ (bytes_eq name (get_or xs k []) || is_taken (drop (k + 1) xs) name)
@@ -79,17 +96,6 @@ pub made_next : (made : List (Vec ℕ Global)) (k : ℕ) (text : Vec ℕ Global)
 made_next made k text name lt is =
     at_drop_more (λ (xs : List (Vec ℕ Global)). is_taken (items_of xs) name) made k text lt
     ∙ ap (λ (it : Vec ℕ Global). bytes_eq name it.items || is_taken (items_of (drop (k + 1) made)) name) (sym is)
-
--- one more column asked
-pub one_column : (several : Bool) (own : List ℕ) (columns : List AskedColumn) (k : ℕ) (d : AskedColumn)
-    → k < length columns
-    → map (wanted_heading several own) (map asked_name (take (k + 1) columns))
-    ≡ map (wanted_heading several own) (map asked_name (take k columns))
-    ++ wanted_heading several own (asked_name (get_or columns k d)) ∷ []
-one_column several own columns k d lt =
-    ap (λ (xs : List AskedColumn). map (wanted_heading several own) (map asked_name xs)) (take_more columns k d lt)
-    ∙ ap (map (wanted_heading several own)) (map-append asked_name (take k columns) (get_or columns k d ∷ []))
-    ∙ map-append (wanted_heading several own) (map asked_name (take k columns)) (asked_name (get_or columns k d) ∷ [])
 
 pub bytes_alike : (name : List ℕ) → bytes_eq name name ≡ true
 bytes_alike name = nat_list_eq_equiv.refl name

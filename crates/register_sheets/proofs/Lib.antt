@@ -2,7 +2,7 @@
 --   LineLemmas: that lines are the text of their fields, for `write`. ListLemmas: what is left of a list of fields.
 --   SheetLemmas: `pick`, and that records come one after the other.
 --   MeaningLemmas, NameListLemmas: `NameList::read`. HeadingLemmas: `headings`. StopLemmas, FoundLemmas,
---     NoteLemmas: `unknown_names`. RegisterLemmas: `write_register`.
+--     NoteLemmas: `unknown_names`.
 --   The others: `convert_outputs`.
 pub mod ListLemmas
 pub mod LineLemmas
@@ -13,11 +13,11 @@ pub mod SendingLemmas
 pub mod NameLemmas
 pub mod CountLemmas
 pub mod RowLemmas
+pub mod DateLemmas
 pub mod WidthLemmas
 pub mod AskedLemmas
 pub mod AskedOfSheetLemmas
 pub mod HeadingLemmas
-pub mod RegisterLemmas
 pub mod StopLemmas
 pub mod FoundLemmas
 pub mod ReadingLemmas

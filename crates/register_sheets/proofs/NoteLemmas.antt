@@ -8,15 +8,15 @@ use Rattle.std.proofs.Math.Seq.{take-nil}
 use Rattle.std.proofs.lemmas.List.{length-append, length-map, map-append}
 use Rattle.std.proofs.lemmas.List.Sums.{count_by-le-length, sum_by_push}
 use Rattle.register_records.specs.Entries.{Fields, record_limit}
-use Rattle.register_records.specs.Outcomes.{TableRow}
+use Rattle.register_sheets.specs.DateEnds.{Dated}
 use Rattle.register_sheets.specs.CountViews.{AreUpTo, CountsRecord}
 use Rattle.register_sheets.specs.DateCounts.{AreSheetCounts}
 use Rattle.register_sheets.specs.DateStops.{DateStop, IsStopOf, NameStop, SheetDate, is_for, name_in}
 use Rattle.register_sheets.specs.Converted.{below}
 use Rattle.register_sheets.specs.SheetNotes.{HasFound, HasNotes, HasSpace, HasSpaceFor, unknown_of, unless_lost}
-use Rattle.register_sheets.specs.SheetRecords.{AreDatesRead, DateRead, IsDateRead, RecordRead, date_seen, dates_seen}
+use Rattle.register_sheets.specs.SheetRecords.{IsDateRead, RecordRead, date_seen}
 use Rattle.register_sheets.specs.SheetRecords.{fields_read, rows_read}
-use Rattle.register_sheets.specs.UnknownNames.{IsFound, IsUnknown, all_dates, counted, dates_of, is_short, name_seen}
+use Rattle.register_sheets.specs.UnknownNames.{IsFound, IsShort, IsUnknown, all_dates, counted, dates_of, name_seen}
 use Rattle.register_sheets.specs.UnknownNames.{names_in}
 use Rattle.register_sheets.specs.UnknownViews.{CountsDate, HasNames, HasPlace, HasRoom}
 use Rattle.register_sheets.specs.declared.choices.DateColumn.{DateColumn}
@@ -42,7 +42,13 @@ none_found choice found most limit none empty no_more =
       limit = limit;
       stops = [];
       are_stops = tt;
-      counts = record { stopped_are = none.stopped; short_are = none.short; reasons_are = none.reasons };
+      counts = record {
+        stopped_are = none.stopped;
+        shorts = [];
+        are_short = tt;
+        short_are = none.short;
+        reasons_are = none.reasons;
+      };
       named = λ here.
           record {
             names_are = ap (map name_seen) empty ∙ ap (map (counted [])) (sym (take-nil most));
@@ -52,12 +58,13 @@ none_found choice found most limit none empty no_more =
 
 -- one more date
 pub date_found : (choice : SheetChoice) (dates : List SheetDate) (d : SheetDate) (most : ℕ) (old new : Found)
-    (stop : Option DateStop) → IsStopOf choice d stop → CountsDate stop (is_short choice d) old.unread new.unread
+    (stop : Option DateStop) (short : Bool) → IsStopOf choice d stop → IsShort choice d short
+    → CountsDate stop short old.unread new.unread
     → new.most ≡ old.most
     → (new.is_lost ≡ false → (old.is_lost ≡ false) × ((stops : List NameStop) → HasNames old.most stops old.names
     → HasNames old.most (stops ++ option_to_list (name_in stop)) new.names))
     → HasFound choice dates most old → HasFound choice (dates ++ d ∷ []) most new
-date_found choice dates d most old new stop is counts kept named found =
+date_found choice dates d most old new stop short is is_short counts kept named found =
     let stops = found.stops in
     let more : List NameStop = option_to_list (name_in stop) in
     let all : names_in (stops ++ stop ∷ []) ≡ names_in stops ++ more
@@ -67,6 +74,9 @@ date_found choice dates d most old new stop is counts kept named found =
       stops = stops ++ stop ∷ [];
       are_stops = zip_both (IsStopOf choice) dates stops (d ∷ []) (stop ∷ []) found.are_stops (is, tt);
       counts = record {
+        shorts = found.counts.shorts ++ short ∷ [];
+        are_short = zip_both (IsShort choice) dates found.counts.shorts (d ∷ []) (short ∷ []) found.counts.are_short
+            (is_short, tt);
         stopped_are = omega (
           arith,
           counts.stopped,
@@ -74,8 +84,8 @@ date_found choice dates d most old new stop is counts kept named found =
           ap length all,
           length-append (names_in stops) more,
         );
-        short_are = counts.short ∙ ap (λ (n : ℕ). n + (if is_short choice d then 1 else 0)) found.counts.short_are
-            ∙ sym (sum_by_push (λ date. cond (is_short choice date) 1 0) dates d);
+        short_are = counts.short ∙ ap (λ (n : ℕ). n + (if short then 1 else 0)) found.counts.short_are
+            ∙ sym (sum_by_push (λ (b : Bool). cond b 1 0) found.counts.shorts short);
         reasons_are = λ reason.
             counts.reasons reason
             ∙ ap (λ (n : ℕ). n + (if is_for reason stop then 1 else 0)) (found.counts.reasons_are reason)
@@ -96,7 +106,13 @@ found_place choice dates most found h few =
     let all = zip_length (IsStopOf choice) dates h.stops h.are_stops in
     record {
       stopped = omega (arith, h.counts.stopped_are, names_few h.stops, all, few);
-      short = omega (arith, h.counts.short_are, count_by-le-length (is_short choice) dates, few);
+      short = omega (
+        arith,
+        h.counts.short_are,
+        count_by-le-length (λ (short : Bool). short) h.counts.shorts,
+        zip_length (IsShort choice) dates h.counts.shorts h.counts.are_short,
+        few,
+      );
       reasons = λ reason. omega (
         arith,
         h.counts.reasons_are reason,
@@ -123,19 +139,19 @@ zip_place R (u ∷ xs) (v ∷ ys) (suc i) x y h a b = zip_place R xs ys i x y h.
 
 pub date_at_place : (choice : SheetChoice) (number : ℕ) (fields : Fields) (columns : List DateColumn)
     (dates : List ColumnDates) (place : ℕ) (e : DateColumn) (date : ColumnDates)
-    → AllZip (AreDatesRead choice number fields) columns (map dates_seen dates) → place < length columns
+    → AllZip (IsDateRead choice number fields) columns (map date_seen dates) → place < length columns
     → place < length dates → date ≡ get_or dates place date
-    → IsDateRead choice (get_or columns place e) number fields (date_seen date.first)
+    → IsDateRead choice number fields (get_or columns place e) (date_seen date)
 date_at_place choice number fields columns dates place e date h low room is =
-    zip_place (AreDatesRead choice number fields) columns (map dates_seen dates) place (get_or columns place e)
-    (dates_seen date) h (slice_get-get_or columns place e low)
-    (seen_slot dates_seen dates place date room ∙ ap (λ (d : ColumnDates). Some (dates_seen d)) (sym is))
+    zip_place (IsDateRead choice number fields) columns (map date_seen dates) place (get_or columns place e)
+    (date_seen date) h (slice_get-get_or columns place e low)
+    (seen_slot date_seen dates place date room ∙ ap (λ (d : ColumnDates). Some (date_seen d)) (sym is))
 
 pub columns_count : (choice : SheetChoice) (number : ℕ) (fields : Fields) (columns : List DateColumn)
-    (dates : List ColumnDates) → AllZip (AreDatesRead choice number fields) columns (map dates_seen dates)
+    (dates : List ColumnDates) → AllZip (IsDateRead choice number fields) columns (map date_seen dates)
     → length dates ≡ length columns
 columns_count choice number fields columns dates h =
-    sym (length-map dates dates_seen) ∙ zip_length (AreDatesRead choice number fields) columns (map dates_seen dates) h
+    sym (length-map dates date_seen) ∙ zip_length (IsDateRead choice number fields) columns (map date_seen dates) h
 
 -- one more record
 fields_more : (reads : List RecordRead) (one : RecordRead) → fields_read (reads ++ one ∷ []) ≡ fields_read reads ++
@@ -154,7 +170,7 @@ notes_more choice reads one most old new records counts found noted =
       counts = subst
           (λ (xs : List Fields). AreSheetCounts choice.dates.now xs (map rows_read (reads ++ one ∷ [])) new.counts)
           (sym fields)
-          (subst (λ (ys : List (List TableRow)). AreSheetCounts choice.dates.now (fields_read reads ++ one.fields ∷ [])
+          (subst (λ (ys : List (List Dated)). AreSheetCounts choice.dates.now (fields_read reads ++ one.fields ∷ [])
           ys new.counts)
           (sym (map-append rows_read reads (one ∷ [])))
           (counts_more choice.dates.now (fields_read reads) (map rows_read reads) one.fields (rows_read one) old.counts

@@ -1,33 +1,39 @@
 -- What one reading of a sheet makes.
-use Rattle.std.proofs.Common.{◌≡◌, ◌≤◌, ◌<◌, ◌∙◌, ◌++◌, ◌+◌, ℕ, zero, suc, List, [], ◌∷◌, Some, ap}
-use Rattle.std.proofs.Common.{IsErrAnd, arith, drop, get_or, inl, inr, length, map, min, refl, replicate, subst, sym}
-use Rattle.std.proofs.Common.{take}
+use Rattle.std.proofs.Common.{◌≡◌, ◌≤◌, ◌<◌, ◌∙◌, ◌++◌, ◌+◌, ◌-◌, ℕ, zero, suc, List, [], ◌∷◌, Some, ap}
+use Rattle.std.proofs.Common.{IsErrAnd, arith, drop, false, inl, inr, length, map, nat_lt, refl, replicate}
+use Rattle.std.proofs.Common.{subst, sym, take, true}
 use Rattle.std.specs.Prelude.{◌⊎◌, Err, IsOk, Ok, OnOk, Result, slice_get}
-use Rattle.std.specs.List.{AllZip, flat_map}
-use Rattle.std.proofs.lemmas.List.{length-map, length-replicate, take-append-drop, take-append-le}
+use Rattle.std.specs.List.{AllZip}
+use Rattle.std.proofs.lemmas.List.{length-map, length-replicate, take-append-drop}
+use Rattle.std.proofs.lemmas.Bool.Decides.{nat_tests}
 use Rattle.std.proofs.lemmas.Option.{slice_get_within}
 use Rattle.std.proofs.KnownBytes.{Appends-nil}
 use Rattle.register_records.specs.Entries.{Fields, record_limit}
-use Rattle.register_records.specs.Outcomes.{IsRowOf, TableRow}
 use Rattle.register_records.specs.declared.outputs.Output as outputs
-use Rattle.register_sheets.specs.Choices.{asked_targets, register_entry, register_record}
+use Rattle.register_sheets.specs.Choices.{id_text, register_record}
+use Rattle.register_sheets.specs.DateEnds.{Dated, IsDated, end_text}
 use Rattle.register_sheets.specs.Converted.{AreFirstRows, AreRowsFrom, below, body_records, sheet_records}
-use Rattle.register_sheets.specs.SheetOutputs.{AreMadeRegisters, IsMadeRegister, IsMadeSheet, sheet_ending}
+use Rattle.register_sheets.specs.SheetOutputs.{AreMadeRegisters, IsMadeRegister, IsMadeSheet, OfColumn, registers_by}
+use Rattle.register_sheets.specs.SheetOutputs.{sheet_ending}
 use Rattle.register_sheets.specs.Produced.{Agrees, AreLines, Ending, Produced, cut, ending_of, first_fault, lost}
 use Rattle.register_sheets.specs.Produced.{untouched, whole}
-use Rattle.register_sheets.specs.RecordLines.{body_line, entry_line, entry_of}
-use Rattle.register_sheets.specs.Registers.{register_head, register_records}
+use Rattle.register_sheets.specs.RecordLines.{body_line, entry_line, if_dated}
+use Rattle.register_sheets.specs.Registers.{AreEntries, AreFirstEntries, IsEntry, register_head}
 use Rattle.register_sheets.specs.Sending.{top_records}
 use Rattle.register_sheets.specs.SheetNotes.{HasNotes}
-use Rattle.register_sheets.specs.SheetReadings.{AreRegisterWriters, HasReadSheet, line_of_entry, sheet_end}
+use Rattle.register_sheets.specs.SheetReadings.{AreRegisterWriters, HasReadSheet, entry_maker, line_of_entry, sheet_end}
 use Rattle.register_sheets.specs.DateCounts.{AreSheetCounts}
 use Rattle.register_sheets.specs.UnknownNames.{AreUnread, all_dates}
 use Rattle.register_sheets.specs.LineWriters.{Finishes, FinishesEach, Gathers, GathersEach, Waits}
-use Rattle.register_sheets.specs.SheetRecords.{AreDatesRead, AreRecordsRead, DateRead, IsDateRead, RecordRead}
+use Rattle.register_sheets.specs.SheetRecords.{AreRecordsRead, DateRead, IsDateRead, RecordRead}
 use Rattle.register_sheets.specs.SheetRecords.{fields_read, rows_read}
 use Rattle.register_sheets.specs.Sheets.{records_text, widest}
 use Rattle.register_sheets.specs.declared.choices.DateColumn.{DateColumn}
+use Rattle.register_sheets.specs.declared.choices.End.{End}
+use Rattle.register_sheets.specs.declared.choices.End.TheVariants as ends
 use Rattle.register_sheets.specs.declared.choices.SheetChoice.{SheetChoice}
+use Rattle.register_sheets.specs.declared.choices.Spans.{Spans}
+use Rattle.register_sheets.specs.declared.choices.Spans.TheVariants as spans
 use Rattle.register_sheets.specs.declared.sheet_ends.SheetCause.{SheetCause}
 use Rattle.register_sheets.specs.declared.sheet_ends.SheetCause.TheVariants as cause
 use Rattle.register_sheets.specs.declared.line_writers.LineWriter.{LineWriter}
@@ -38,9 +44,7 @@ use Rattle.register_sheets.specs.declared.sheet_notes.SheetNotes.{SheetNotes}
 use Rattle.register_sheets.proofs.EachLemmas.{found_at}
 use Rattle.register_sheets.proofs.CountLemmas.{one_found}
 use Rattle.register_sheets.proofs.LineWriterLemmas.{holds_waiting}
-use Rattle.register_sheets.proofs.RegisterLemmas.{head_taken, register_both, register_taken}
 use Rattle.register_sheets.proofs.RowLemmas.{below_names, body_front, sheet_made}
-use Rattle.register_sheets.proofs.SendingLemmas.{shorter}
 
 -- what is said of the bytes may be said otherwise
 pub produced_as : {W : Type 0} (o : outputs.Ghosts W) (given written : W) (ending : Ending) (P Q : List ℕ → Type 0)
@@ -50,39 +54,28 @@ produced_as o given written whole P Q f h = ((h.0.0, f h.0.0 h.0.1, h.0.2), h.1,
 produced_as o given written cut P Q f h = ((h.0.0, f h.0.0 h.0.1, h.0.2), h.1, h.2)
 produced_as o given written lost P Q f h = h
 
--- the first of some are the first of more
-first_of_more : (count : ℕ) (xs ys : List Fields) → (n : ℕ) × (take count xs ≡ take n (xs ++ ys))
-first_of_more count xs ys = (
-  min count (length xs),
-  sym (take-append-le (min count (length xs)) xs ys (omega arith) ∙ shorter count (min count (length xs)) xs refl),
-)
-
--- the rows of a record, and of all
+-- what the columns have of a record, and of all
 rows_of_record : (choice : SheetChoice) (number : ℕ) (fields : Fields) (columns : List DateColumn)
-    (dates : List (List DateRead)) → AllZip (AreDatesRead choice number fields) columns dates
-    → AllZip (λ column row. IsRowOf (asked_targets choice.columns.now) (register_entry choice column number fields) row)
-    columns (flat_map (λ (found : List DateRead). map (λ (date : DateRead). date.row) found) dates)
+    (dates : List DateRead) → AllZip (IsDateRead choice number fields) columns dates
+    → AllZip (IsDated choice number fields) columns (map (λ (date : DateRead). date.dated) dates)
 rows_of_record choice number fields [] [] h = tt
-rows_of_record choice number fields (column ∷ columns) ((date ∷ []) ∷ dates) h =
-    (h.0.row, rows_of_record choice number fields columns dates h.1)
-rows_of_record choice number fields (column ∷ columns) ([] ∷ dates) h = absurd h.0
-rows_of_record choice number fields (column ∷ columns) ((date ∷ other ∷ more) ∷ dates) h = absurd h.0
-rows_of_record choice number fields [] (found ∷ dates) h = absurd h
+rows_of_record choice number fields (column ∷ columns) (date ∷ dates) h =
+    (h.0.dated, rows_of_record choice number fields columns dates h.1)
+rows_of_record choice number fields [] (date ∷ dates) h = absurd h
 rows_of_record choice number fields (column ∷ columns) [] h = absurd h
 
 rows_from : (choice : SheetChoice) (k : ℕ) (reads : List RecordRead) → AreRecordsRead choice k reads
     → AreRowsFrom choice k (fields_read reads) (map rows_read reads)
 rows_from choice k [] h = tt
 rows_from choice k (read ∷ reads) h = (
-  subst (λ (n : ℕ). AllZip (λ column row. IsRowOf (asked_targets choice.columns.now)
-      (register_entry choice column n read.fields) row) choice.dates.now (rows_read read)) h.0
+  subst (λ (n : ℕ). AllZip (IsDated choice n read.fields) choice.dates.now (rows_read read)) h.0
       (rows_of_record choice read.number read.fields choice.dates.now read.dates h.1),
   rows_from choice (k + 1) reads h.2,
 )
 
 -- their lines
 body_lines : (choice : SheetChoice) (width : ℕ) (reads : List RecordRead)
-    → map (body_line width choice) reads ≡ body_records width choice.columns.now (fields_read reads) (map rows_read
+    → map (body_line width choice) reads ≡ body_records width choice (fields_read reads) (map rows_read
     reads)
 body_lines choice width [] = refl
 body_lines choice width (read ∷ reads) =
@@ -101,37 +94,42 @@ ok_read (Ok v) is h = h
 ok_read (Err c) is h = absurd (cc)
 
 -- the entry of a column of dates
-entry_at : (choice : SheetChoice) (number : ℕ) (fields : Fields) (columns : List DateColumn)
-    (dates : List (List DateRead)) (place : ℕ) (column : DateColumn) → AllZip (AreDatesRead choice number fields)
-    columns dates
+date_at : (choice : SheetChoice) (number : ℕ) (fields : Fields) (columns : List DateColumn) (dates : List DateRead)
+    (place : ℕ) (column : DateColumn) → AllZip (IsDateRead choice number fields) columns dates
     → slice_get columns place ≡ Some column
-    → (date : DateRead) × (get_or dates place [] ≡ date ∷ []) × IsDateRead choice column number fields date
-entry_at choice number fields [] dates place column h there = absurd (cc)
-entry_at choice number fields (first ∷ columns) ((date ∷ []) ∷ dates) zero column h there =
+    → (date : DateRead) × (slice_get dates place ≡ Some date) × IsDateRead choice number fields column date
+date_at choice number fields [] dates place column h there = absurd (cc)
+date_at choice number fields (first ∷ columns) (date ∷ dates) zero column h there =
     let same : first ≡ column = cc in
-    (date, refl, subst (λ (c : DateColumn). IsDateRead choice c number fields date) same h.0)
-entry_at choice number fields (first ∷ columns) ((date ∷ []) ∷ dates) (suc place) column h there =
-    entry_at choice number fields columns dates place column h.1 there
-entry_at choice number fields (first ∷ columns) ([] ∷ dates) place column h there = absurd h.0
-entry_at choice number fields (first ∷ columns) ((date ∷ other ∷ more) ∷ dates) place column h there = absurd h.0
-entry_at choice number fields (first ∷ columns) [] place column h there = absurd h
+    (date, refl, subst (λ (c : DateColumn). IsDateRead choice number fields c date) same h.0)
+date_at choice number fields (first ∷ columns) (date ∷ dates) (suc place) column h there =
+    date_at choice number fields columns dates place column h.1 there
+date_at choice number fields (first ∷ columns) [] place column h there = absurd h
 
-three_same : (a b c d e : List ℕ) → b ≡ d → c ≡ e → a ∷ b ∷ c ∷ [] ≡ a ∷ d ∷ e ∷ []
-three_same a b c d e x y = cc
+entry_is : (choice : SheetChoice) (place : ℕ) (column : DateColumn) (end : End) (k : ℕ) (read : RecordRead)
+    (date : DateRead) → read.number ≡ k + 1 → slice_get read.dates place ≡ Some date
+    → IsDateRead choice read.number read.fields column date
+    → IsEntry choice column end (k + 1) read.fields (entry_line place end choice read)
+entry_is choice place column end k read date numbered there is =
+    let text = end_text end date.dated.first.text date.dated.last.text in
+    record {
+      first = date.dated.first.text;
+      last = date.dated.last.text;
+      marks = date.dated.marks;
+      ends = is.dated.ends;
+      is = ap (if_dated choice read end) there
+          ∙ ap (λ (calendar : List ℕ). id_text choice.id read.number read.fields ∷ calendar ∷ text ∷ []) is.calendar
+          ∙ ap (λ (n : ℕ). register_record choice column n read.fields text) numbered;
+    }
 
-entry_lines : (choice : SheetChoice) (place : ℕ) (column : DateColumn) → slice_get choice.dates.now place ≡ Some column
-    → (k : ℕ) (reads : List RecordRead) → AreRecordsRead choice k reads
-    → map (entry_line place choice) reads ≡ register_records choice column k (fields_read reads)
-entry_lines choice place column there k [] h = refl
-entry_lines choice place column there k (read ∷ reads) h =
-    let (date, only, is) = entry_at choice read.number read.fields choice.dates.now read.dates place column h.1 there in
-    let same : entry_line place choice read ≡ register_record choice column (k + 1) read.fields
-    = ap (entry_of choice read) only
-    ∙ three_same _ _ _ _ _ is.calendar is.text
-    ∙ ap (λ (n : ℕ). register_record choice column n read.fields) h.0 in
-    ap (λ (line : Fields). line ∷ map (entry_line place choice) reads) same
-    ∙ ap (λ (rest : List Fields). register_record choice column (k + 1) read.fields ∷ rest)
-    (entry_lines choice place column there (k + 1) reads h.2)
+entries_are : (choice : SheetChoice) (place : ℕ) (column : DateColumn) (end : End)
+    → slice_get choice.dates.now place ≡ Some column → (k : ℕ) (reads : List RecordRead)
+    → AreRecordsRead choice k reads
+    → AreEntries choice column end k (fields_read reads) (map (entry_line place end choice) reads)
+entries_are choice place column end there k [] h = tt
+entries_are choice place column end there k (read ∷ reads) h =
+    let (date, at, is) = date_at choice read.number read.fields choice.dates.now read.dates place column h.1 there in
+    (entry_is choice place column end k read date h.0 at is, entries_are choice place column end there (k + 1) reads h.2)
 
 same_ending : (answer : Result (Unit {0}) SheetCause) (notes : SheetNotes)
     → sheet_ending (sheet_end answer notes) ≡ ending_of answer
@@ -141,7 +139,7 @@ same_ending (Err c) notes = refl
 module _ (choice : SheetChoice) (records : List Fields) (reads : List RecordRead) (named : choice.above < length
     records)
     (result : Result (Unit {0}) SheetCause) (read : HasReadSheet choice (below choice records) reads result) where
-  abbrev rows : List (List TableRow)
+  abbrev rows : List (List Dated)
   rows = map rows_read reads
 
   first_rows : AreFirstRows choice records rows
@@ -169,9 +167,9 @@ module _ (choice : SheetChoice) (records : List Fields) (reads : List RecordRead
       let same : rest ≡ below choice records = below_names choice records left rest refl refl in
       ap (λ xs. top_records choice width records ++ xs)
       (body_lines choice width reads
-      ∙ sym (body_front width choice.columns.now (fields_read reads) (drop (length reads) (below choice records)) rows
+      ∙ sym (body_front width choice (fields_read reads) (drop (length reads) (below choice records)) rows
       (length_fields reads ∙ sym (length-map reads rows_read)))
-      ∙ ap (λ xs. body_records width choice.columns.now xs rows)
+      ∙ ap (λ xs. body_records width choice xs rows)
       (sym (reads_first (below choice records) reads read.first) ∙ sym same))
       ∙ sheet_made choice records left rest width rows refl refl wide
 
@@ -214,52 +212,42 @@ module _ (choice : SheetChoice) (records : List Fields) (reads : List RecordRead
   sheet_bytes width wide notes most noted (Err cause.NoNames) agrees bytes is = absurd (agrees.named refl)
   sheet_bytes width wide notes most noted (Err cause.SinkFault) agrees bytes is = tt
 
-  -- and of the register of a column
-  module _ (place : ℕ) (column : DateColumn) (there : slice_get choice.dates.now place ≡ Some column) where
-    entries_are : map (entry_line place choice) reads ≡ register_records choice column 0 (fields_read reads)
-    entries_are = entry_lines choice place column there 0 reads read.read
+  -- and of a register of a column
+  module _ (place : ℕ) (column : DateColumn) (end : End) (there : slice_get choice.dates.now place ≡ Some column) where
+    abbrev entries : List Fields
+    entries = map (entry_line place end choice) reads
+
+    as_many : length entries ≡ length reads
+    as_many = length-map reads (entry_line place end choice)
+
+    first_entries : AreFirstEntries choice column end records entries
+    first_entries =
+        record {
+          has_names = named;
+          are = subst (λ (xs : List Fields). AreEntries choice column end 0 xs entries)
+              (read.first ∙ ap (λ n. take n (below choice records)) (sym as_many))
+              (entries_are choice place column end there 0 reads read.read);
+          limited = subst (λ (n : ℕ). n ≤ record_limit) (sym as_many) read.few;
+        }
 
     pub register_bytes : (answer : Result (Unit {0}) SheetCause) → Agrees result answer → (bytes : List ℕ)
-        → AreLines choice.delimiter (register_head ∷ map (entry_line place choice) reads) answer bytes
-        → IsMadeRegister choice column records answer bytes
-    register_bytes (Ok v) agrees bytes is =
-        let all = all_read agrees.all in (
-          length reads,
-          record {
-            has_names = named;
-            counted = sym (length_fields reads) ∙ ap length all;
-            limited = read.few;
-            written = is
-                ∙ ap (λ xs. records_text choice.delimiter (register_head ∷ xs))
-                (entries_are ∙ ap (register_records choice column 0) all);
-          },
-        )
+        → AreLines choice.delimiter (register_head ∷ entries) answer bytes
+        → IsMadeRegister choice (column, end) records answer bytes
+    register_bytes (Ok v) agrees bytes is = (
+      length reads,
+      record {
+        entries = entries;
+        first = first_entries;
+        all = as_many ∙ sym (length_fields reads) ∙ ap length (all_read agrees.all);
+        counted = sym as_many;
+        written = is;
+      },
+    )
     register_bytes (Err cause.NoMemory) agrees bytes is =
-        let under = below choice records in
-        let rest = register_records choice column (0 + length (fields_read reads)) (drop (length reads) under) in
-        let more = first_of_more is.0 (register_head ∷ register_records choice column 0 (fields_read reads)) rest in (
-          more.0,
-          is.1
-              ∙ ap (λ xs. records_text choice.delimiter (take is.0 (register_head ∷ xs))) entries_are
-              ∙ ap (records_text choice.delimiter)
-              (more.1
-              ∙ ap (λ xs. take more.0 (register_head ∷ xs))
-              (sym (register_both choice column 0 (fields_read reads) (drop (length reads) under))
-              ∙ ap (register_records choice column 0) (sym (reads_first under reads read.first)))),
-        )
+        inr (record { entries = entries; count = is.0; first = first_entries; written = is.1 })
     register_bytes (Err cause.TooManyRecords) agrees bytes is =
         let full = many_read (agrees.many refl) in
-        let under = below choice records in
-        record {
-          more = full.1;
-          written = is
-              ∙ ap (λ xs. records_text choice.delimiter (register_head ∷ xs))
-              (entries_are ∙ ap (register_records choice column 0) (read.first ∙ ap (λ n. take n under) full.0)
-              ∙ register_taken choice column 0 record_limit under)
-              ∙ ap (records_text choice.delimiter)
-              (sym (head_taken record_limit (record_limit + 1) register_head (register_records choice column 0 under)
-              refl));
-        }
+        record { entries = entries; first = first_entries; full = as_many ∙ full.0; more = full.1; written = is }
     register_bytes (Err cause.NoNames) agrees bytes is = absurd (agrees.named refl)
     register_bytes (Err cause.SinkFault) agrees bytes is = tt
 
@@ -278,34 +266,106 @@ module _ (choice : SheetChoice) (records : List Fields) (reads : List RecordRead
       (produced_as o given written (ending_of answer) _ _
       (λ bytes made. sheet_bytes width wide notes most noted answer agrees bytes made) produced))
 
--- what the output of the register of one column has come to
+-- what the output of one register has come to
 pub register_produced : {W : Type 0} (o : outputs.Ghosts W) (choice : SheetChoice) (records : List Fields)
-    (result answer : Result (Unit {0}) SheetCause) (first last : LineWriter EntryLine) (place : ℕ) (column : DateColumn)
+    (result answer : Result (Unit {0}) SheetCause) (first last : LineWriter EntryLine) (of : OfColumn)
     (given mid written : W) (reads : List RecordRead) → choice.above < length records
-    → HasReadSheet choice (below choice records) reads result → first.maker.place ≡ place
-    → Waits choice.delimiter (register_head ∷ []) first → slice_get choice.dates.now place ≡ Some column
+    → HasReadSheet choice (below choice records) reads result
+    → slice_get choice.dates.now first.maker.place ≡ Some of.0 → first.maker.end ≡ of.1
+    → Waits choice.delimiter (register_head ∷ []) first
     → Gathers o line_of_entry choice reads first last given mid → Finishes o result last mid written answer
-    → Produced o given written (ending_of answer) (IsMadeRegister choice column records answer)
-register_produced o choice records result answer first last place column given mid written reads named read placed
-    waits there
-    gathers finish =
+    → Produced o given written (ending_of answer) (IsMadeRegister choice of records answer)
+register_produced o choice records result answer first last of given mid written reads named read there ended waits
+    gathers
+    finish =
     let holds = gathers.holds given (register_head ∷ []) (holds_waiting o given first choice.delimiter _ waits) in
     let (produced, agrees) = finish given _ holds in
     produced_as o given written (ending_of answer) _ _
     (λ bytes made.
-    register_bytes choice records reads named result read place column there answer agrees bytes
-    (subst (λ (d : ℕ). AreLines d (register_head ∷ map (entry_line place choice) reads) answer bytes)
-    (gathers.delimiter ∙ waits.by)
-    (subst (λ (n : ℕ). AreLines last.sender.delimiter (register_head ∷ map (entry_line n choice) reads) answer bytes)
-    placed
-    made))) produced
+    subst (λ (end : End). IsMadeRegister choice (of.0, end) records answer bytes) ended
+    (register_bytes choice records reads named result read first.maker.place of.0 first.maker.end there answer agrees
+    bytes
+    (subst (λ (d : ℕ). AreLines d (register_head ∷ map (entry_line first.maker.place first.maker.end choice) reads)
+    answer bytes)
+    (gathers.delimiter ∙ waits.by) made))) produced
+
+-- the register at a place is that of the maker there
+at_map : {X Y : Type 0} (f : X → Y) (xs : List X) (place : ℕ) (y : Y) → slice_get (map f xs) place ≡ Some y
+    → (x : X) × (slice_get xs place ≡ Some x) × (f x ≡ y)
+at_map f [] place y e = absurd (cc)
+at_map f (x ∷ xs) zero y e = (x, refl, cc)
+at_map f (x ∷ xs) (suc place) y e = at_map f xs place y e
+
+at_append : {X : Type 0} (xs ys : List X) (place : ℕ) (x : X) → slice_get (xs ++ ys) place ≡ Some x
+    → ((place < length xs) × (slice_get xs place ≡ Some x))
+    ⊎ ((length xs ≤ place) × (slice_get ys (place - length xs) ≡ Some x))
+at_append [] ys place x e = let same : place - 0 ≡ place = omega arith in inr (omega arith, ap (slice_get ys) same ∙ e)
+at_append (z ∷ xs) ys zero x e = inl (omega arith, e)
+at_append (z ∷ xs) ys (suc place) x e =
+    elim (at_append xs ys place x e) [
+      | inl found ↦ inl (omega (arith, found.0), found.1)
+      | inr found ↦ inr (omega (arith, found.0), found.1)
+    ]
+
+first_made : (columns place : ℕ) → place < columns
+    → entry_maker columns place ≡ record { place = place; end = ends.First }
+first_made columns place low = let test : nat_lt place columns ≡ true = grind (arith, nat_tests) in rw test refl
+
+last_made : (columns place : ℕ) → columns ≤ place
+    → entry_maker columns place ≡ record { place = place - columns; end = ends.Last }
+last_made columns place low = let test : nat_lt place columns ≡ false = grind (arith, nat_tests) in rw test refl
+
+abbrev IsMakerOf : List DateColumn → EntryLine → OfColumn → Type 0
+IsMakerOf columns maker of = (slice_get columns maker.place ≡ Some of.0) × (maker.end ≡ of.1)
+
+of_column : (columns : List DateColumn) (place : ℕ) (end : End) (of : OfColumn)
+    → slice_get (map (λ (column : DateColumn). (column, end)) columns) place ≡ Some of
+    → IsMakerOf columns (record { place = place; end = end }) of
+of_column columns place end of e =
+    let (column, there, same) = at_map (λ (column : DateColumn). (column, end)) columns place of e in
+    (there ∙ ap (λ (o : OfColumn). Some o.0) same, ap (λ (o : OfColumn). o.1) same)
+
+of_first : (columns : List DateColumn) (place : ℕ) (of : OfColumn)
+    → slice_get (map (λ (column : DateColumn). (column, ends.First)) columns) place ≡ Some of
+    → IsMakerOf columns (entry_maker (length columns) place) of
+of_first columns place of e =
+    subst (λ (maker : EntryLine). IsMakerOf columns maker of)
+    (sym (first_made (length columns) place (omega (
+      arith,
+      slice_get_within (map (λ (column : DateColumn). (column, ends.First)) columns) place of e,
+      length-map columns (λ (column : DateColumn). (column, ends.First)),
+    )))) (of_column columns place ends.First of e)
+
+of_both : (columns : List DateColumn) (place : ℕ) (of : OfColumn)
+    → slice_get (map (λ (column : DateColumn). (column, ends.First)) columns
+    ++ map (λ (column : DateColumn). (column, ends.Last)) columns) place ≡ Some of
+    → IsMakerOf columns (entry_maker (length columns) place) of
+of_both columns place of e =
+    let firsts : List OfColumn = map (λ (column : DateColumn). (column, ends.First)) columns in
+    let many : length firsts ≡ length columns = length-map columns (λ (column : DateColumn). (column, ends.First)) in
+    elim (at_append firsts (map (λ (column : DateColumn). (column, ends.Last)) columns) place of e) [
+      | inl found ↦ of_first columns place of found.1
+      | inr found ↦
+          subst (λ (maker : EntryLine). IsMakerOf columns maker of)
+          (sym (last_made (length columns) place (omega (arith, found.0, many))))
+          (of_column columns (place - length columns) ends.Last of
+          (ap (λ (n : ℕ). slice_get (map (λ (column : DateColumn). (column, ends.Last)) columns) (place - n)) (sym many)
+          ∙ found.1))
+    ]
+
+maker_of : (kind : Spans) (columns : List DateColumn) (place : ℕ) (of : OfColumn)
+    → slice_get (registers_by kind columns) place ≡ Some of
+    → IsMakerOf columns (entry_maker (length columns) place) of
+maker_of spans.Unread columns place of e = of_first columns place of e
+maker_of spans.Ends columns place of e = of_both columns place of e
+maker_of spans.EndsAndEdtf columns place of e = of_both columns place of e
 
 -- and those of the registers beside a sheet
 pub registers_produced : {W : Type 0} (o : outputs.Ghosts W) (choice : SheetChoice) (records : List Fields)
     (result first : Result (Unit {0}) SheetCause) (start middle last : List (LineWriter EntryLine))
     (given mid written : List W) (reads : List RecordRead) (answers : List (Result (Unit {0}) SheetCause))
     → choice.above < length records → HasReadSheet choice (below choice records) reads result
-    → AreRegisterWriters choice.delimiter (length given) start
+    → AreRegisterWriters choice.delimiter (length choice.dates.now) (length given) start
     → GathersEach o line_of_entry choice reads start middle given mid → length answers ≡ length middle
     → first ≡ first_fault answers → FinishesEach o result answers middle last mid written
     → AreMadeRegisters o choice records first given written
@@ -316,7 +376,7 @@ registers_produced o choice records result first start middle last given mid wri
       answered = many ∙ gathered.writers ∙ started.counted;
       files = finished.files ∙ gathered.files;
       first = is;
-      each = λ place column answer g w there at here came.
+      each = λ place of answer g w there at here came.
           let low = slice_get_within given place g here in
           let (w0, at0) = found_at start place (omega (arith, low, started.counted)) in
           let (w1, at1) = found_at middle place (omega (arith, low, started.counted, gathered.writers)) in
@@ -325,11 +385,12 @@ registers_produced o choice records result first start middle last given mid wri
           in
           let (found, of_place, finish) = finished.each place w1 w2 m w at1 at3 at2 came in
           let same : found ≡ answer = one_found (slice_get answers place) found answer of_place at in
-          let (placed, waits) = started.each place w0 at0 in
-          subst (λ (x : Result (Unit {0}) SheetCause). Produced o g w (ending_of x) (IsMadeRegister choice column
-          records x))
+          let (made, waits) = started.each place w0 at0 in
+          let maker = subst (λ (maker : EntryLine). IsMakerOf choice.dates.now maker of) (sym made)
+          (maker_of choice.spans choice.dates.now place of there) in
+          subst (λ (x : Result (Unit {0}) SheetCause). Produced o g w (ending_of x) (IsMadeRegister choice of records x))
           same
-          (register_produced o choice records result found w0 w1 place column g m w reads named read placed waits there
+          (register_produced o choice records result found w0 w1 of g m w reads named read maker.0 maker.1 waits
           (gathered.each place w0 w1 g m at0 at1 here at2) finish);
     }
 
@@ -355,8 +416,8 @@ in_replica x y (suc n) (suc place) e = in_replica x y n place e
 
 registers_none : {W : Type 0} (o : outputs.Ghosts W) (choice : SheetChoice) (records : List Fields) (c : SheetCause)
     (given : List W)
-    → ((g : W) (column : DateColumn) → Produced o g g (ending_of {A = Unit {0}} (Err c))
-    (IsMadeRegister {A = Unit {0}} choice column records (Err c)))
+    → ((g : W) (of : OfColumn) → Produced o g g (ending_of {A = Unit {0}} (Err c))
+    (IsMadeRegister {A = Unit {0}} choice of records (Err c)))
     → (result : Result (Unit {0}) SheetCause) → result ≡ first_fault (replicate (length given) (Err c))
     → AreMadeRegisters o choice records result given given
 registers_none {W} o choice records c given made result is =
@@ -365,26 +426,26 @@ registers_none {W} o choice records c given made result is =
       answered = length-replicate (length given) (Err c);
       files = refl;
       first = is;
-      each = λ place column answer g w there at here came.
+      each = λ place of answer g w there at here came.
           let same : g ≡ w = one_found (slice_get given place) g w here came in
           subst
-          (λ (x : Result (Unit {0}) SheetCause). Produced o g w (ending_of x) (IsMadeRegister choice column records x))
+          (λ (x : Result (Unit {0}) SheetCause). Produced o g w (ending_of x) (IsMadeRegister choice of records x))
           (in_replica (Err c) answer (length given) place at)
           (subst (λ (x : W). Produced o g x (ending_of {A = Unit {0}} (Err c))
-          (IsMadeRegister {A = Unit {0}} choice column records (Err c))) same (made g column));
+          (IsMadeRegister {A = Unit {0}} choice of records (Err c))) same (made g of));
     }
 
 -- as for want of memory, or of names
 pub register_none : {W : Type 0} (o : outputs.Ghosts W) (choice : SheetChoice) (records : List Fields) (g : W)
-    (column : DateColumn) (c : SheetCause)
+    (of : OfColumn) (c : SheetCause)
     → (c ≡ cause.NoMemory) ⊎ ((c ≡ cause.NoNames) × (length records ≤ choice.above))
-    → Produced o g g (ending_of {A = Unit {0}} (Err c)) (IsMadeRegister {A = Unit {0}} choice column records (Err c))
-register_none o choice records g column c why =
+    → Produced o g g (ending_of {A = Unit {0}} (Err c)) (IsMadeRegister {A = Unit {0}} choice of records (Err c))
+register_none o choice records g of c why =
     let Holds : SheetCause → Type 0
-    = λ x. Produced o g g (ending_of {A = Unit {0}} (Err x)) (IsMadeRegister {A = Unit {0}} choice column records (Err
+    = λ x. Produced o g g (ending_of {A = Unit {0}} (Err x)) (IsMadeRegister {A = Unit {0}} choice of records (Err
     x)) in
     elim why [
-      | inl is ↦ subst Holds (sym is) (([], (0, refl), Appends-nil _), refl, refl)
+      | inl is ↦ subst Holds (sym is) (([], inl refl, Appends-nil _), refl, refl)
       | inr is ↦ subst Holds (sym is.0) (refl, (refl, is.1))
     ]
 
@@ -406,4 +467,4 @@ pub nothing_made : {W : Type 0} (o : outputs.Ghosts W) (choice : SheetChoice) (r
     → (result : Result (Unit {0}) SheetCause) → result ≡ first_fault (replicate (length given) (Err c))
     → AreMadeRegisters o choice records result given given
 nothing_made o choice records c given why result is =
-    registers_none o choice records c given (λ g column. register_none o choice records g column c why) result is
+    registers_none o choice records c given (λ g of. register_none o choice records g of c why) result is

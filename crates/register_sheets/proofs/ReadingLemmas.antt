@@ -2,11 +2,10 @@
 use Rattle.std.proofs.Common.{◌≡◌, ◌<◌, ◌∙◌, ◌++◌, ◌+◌, ℕ, List, [], ◌∷◌, ap, length, map, set, sym, take}
 use Rattle.std.proofs.Common.{Bor, arith, drop, inl, length-append, length-drop, refl, true}
 use Rattle.register_records.specs.Entries.{Fields}
-use Rattle.register_records.specs.Outcomes.{TableRow}
-use Rattle.std.specs.List.{flat_map}
+use Rattle.register_sheets.specs.DateEnds.{Dated}
 use Rattle.register_sheets.specs.declared.choices.SheetChoice.{SheetChoice}
-use Rattle.register_sheets.specs.SheetRecords.{AreRecordsRead, IsRecordRead, DateRead, RecordRead, dates_seen}
-use Rattle.register_sheets.specs.SheetRecords.{fields_read, row_in}
+use Rattle.register_sheets.specs.SheetRecords.{AreRecordsRead, IsRecordRead, DateRead, RecordRead, date_seen}
+use Rattle.register_sheets.specs.SheetRecords.{dated_seen, fields_read}
 use Rattle.register_sheets.specs.declared.sheet_records.ColumnDates.{ColumnDates}
 use Rattle.register_sheets.proofs.ListLemmas.{one_taken}
 use Rattle.std.proofs.lemmas.List.{take_all}
@@ -55,12 +54,11 @@ all_given all left given count is none first =
 pub more_than : (all left : List Fields) (count : ℕ) → left ≡ drop count all → 0 < length left → count < length all
 more_than all left count is some = omega (arith, length-drop count all, ap length is)
 
--- the rows of the columns
+-- what the columns have
 pub rows_in : (columns : List ColumnDates)
-    → flat_map (λ (dates : List DateRead). map (λ (date : DateRead). date.row) dates) (map dates_seen columns)
-    ≡ map row_in columns
+    → map (λ (date : DateRead). date.dated) (map date_seen columns) ≡ map dated_seen columns
 rows_in [] = refl
-rows_in (column ∷ columns) = ap (λ (rows : List TableRow). row_in column ∷ rows) (rows_in columns)
+rows_in (column ∷ columns) = ap (λ (rows : List Dated). dated_seen column ∷ rows) (rows_in columns)
 
 -- one more record is read as it is to be
 pub reads_more : (choice : SheetChoice) (k : ℕ) (reads : List RecordRead) (one : RecordRead)

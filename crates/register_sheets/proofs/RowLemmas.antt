@@ -1,25 +1,25 @@
 -- The rows of records, one record after the other.
-use Rattle.std.proofs.Common.{◌≡◌, ◌<◌, ◌∙◌, ◌++◌, ◌+◌, ℕ, zero, suc, List, [], ◌∷◌, ap}
+use Rattle.std.proofs.Common.{◌≡◌, ◌<◌, ◌≤◌, ◌∙◌, ◌++◌, ◌+◌, ℕ, zero, suc, List, [], ◌∷◌, ap}
 use Rattle.std.proofs.Common.{append-nil, append_assoc, arith, drop, get_or, length, map, refl, subst, sym, take}
 use Rattle.std.specs.List.{AllZip, flat_map}
+use Rattle.std.specs.Prelude.{None, Option, Some, slice_get}
 use Rattle.std.proofs.lemmas.List.{map-append, take-map, take_more}
 use Rattle.std.proofs.lemmas.List.Concat.{flat_map-append}
 use Rattle.register_records.specs.Entries.{Fields}
-use Rattle.register_records.specs.Outcomes.{TableRow}
+use Rattle.register_sheets.specs.DateEnds.{Dated}
 use Rattle.register_sheets.specs.Converted.{below, body_record, body_records, head_record, sheet_records}
 use Rattle.register_sheets.specs.Sheets.{filled, widest}
-use Rattle.register_sheets.specs.declared.choices.AskedColumn.{AskedColumn}
 use Rattle.register_sheets.specs.declared.choices.SheetChoice.{SheetChoice}
 
 -- records without rows add nothing
-pub body_front : (width : ℕ) (columns : List AskedColumn) (xs zs : List Fields) (ys : List (List TableRow))
-    → length xs ≡ length ys → body_records width columns (xs ++ zs) ys ≡ body_records width columns xs ys
-body_front width columns [] [] [] e = refl
-body_front width columns [] (z ∷ zs) [] e = refl
-body_front width columns (x ∷ xs) zs (y ∷ ys) e =
-    ap (λ rest. body_record width columns x y ∷ rest) (body_front width columns xs zs ys (omega arith))
-body_front width columns [] zs (y ∷ ys) e = absurd (omega arith)
-body_front width columns (x ∷ xs) zs [] e = absurd (omega arith)
+pub body_front : (width : ℕ) (choice : SheetChoice) (xs zs : List Fields) (ys : List (List Dated))
+    → length xs ≡ length ys → body_records width choice (xs ++ zs) ys ≡ body_records width choice xs ys
+body_front width choice [] [] [] e = refl
+body_front width choice [] (z ∷ zs) [] e = refl
+body_front width choice (x ∷ xs) zs (y ∷ ys) e =
+    ap (λ rest. body_record width choice x y ∷ rest) (body_front width choice xs zs ys (omega arith))
+body_front width choice [] zs (y ∷ ys) e = absurd (omega arith)
+body_front width choice (x ∷ xs) zs [] e = absurd (omega arith)
 
 -- the records that come back
 joined : (xs ys : List Fields) (x : Fields) → (([] ++ xs) ++ x ∷ []) ++ ys ≡ xs ++ x ∷ ys
@@ -48,11 +48,11 @@ pub below_names : (choice : SheetChoice) (records left rest : List Fields) → l
     → rest ≡ drop 1 left → rest ≡ below choice records
 below_names choice records left rest e f = f ∙ ap (drop 1) e ∙ same_rest choice.above records
 
-pub sheet_made : (choice : SheetChoice) (records left rest : List Fields) (width : ℕ) (rows : List (List TableRow))
+pub sheet_made : (choice : SheetChoice) (records left rest : List Fields) (width : ℕ) (rows : List (List Dated))
     → left ≡ drop choice.above records → rest ≡ drop 1 left → width ≡ widest (drop choice.above records)
     → (([] ++ take choice.above records)
     ++ (filled width (get_or left 0 []) ++ map (λ name. name.now) choice.headings.now) ∷ [])
-    ++ body_records width choice.columns.now rest rows ≡ sheet_records choice records rows
+    ++ body_records width choice rest rows ≡ sheet_records choice records rows
 sheet_made choice records left rest width rows e f w =
     let same : rest ≡ below choice records = below_names choice records left rest e f in
     rw (same, w, e, same_head choice.above records []) (joined (take choice.above records) _ (head_record choice
@@ -84,3 +84,20 @@ pub zip_at : {X Y : Type 0} (R : X → Y → Type 0) (xs : List X) (ys : List Y)
     → AllZip R (take i xs) ys → R (get_or xs i d) y → AllZip R (take (i + 1) xs) (ys ++ y ∷ [])
 zip_at R xs ys i d y lt h r =
     subst (λ zs. AllZip R zs (ys ++ y ∷ [])) (sym (take_more xs i d lt)) (zip_more R (take i xs) ys _ y h r)
+
+-- what is made of the element at a place
+pub seen_at : {X Y : Type 0} (f : X → Y) (xs : List X) (i : ℕ) (x : X) → slice_get xs i ≡ Some x
+    → slice_get (map f xs) i ≡ Some (f x)
+seen_at f [] i x e = absurd (cc)
+seen_at f (y ∷ xs) zero x e = cc
+seen_at f (y ∷ xs) (suc i) x e = seen_at f xs i x e
+
+pub none_seen : {X Y : Type 0} (f : X → Y) (xs : List X) (i : ℕ) → slice_get xs i ≡ None → slice_get (map f xs) i ≡ None
+none_seen f [] i e = refl
+none_seen f (y ∷ xs) zero e = absurd (cc)
+none_seen f (y ∷ xs) (suc i) e = none_seen f xs i e
+
+pub none_behind : {X : Type 0} (xs : List X) (i : ℕ) → length xs ≤ i → slice_get xs i ≡ None
+none_behind [] i e = refl
+none_behind (y ∷ xs) zero e = absurd (omega arith)
+none_behind (y ∷ xs) (suc i) e = none_behind xs i (omega arith)

@@ -8,7 +8,7 @@ use Rattle.register_records.specs.declared.outputs.Output as outputs
 use Rattle.register_sheets.specs.LineWriters.{Waits}
 use Rattle.register_sheets.specs.Registers.{register_head}
 use Rattle.register_sheets.specs.SheetNotes.{HasNotes}
-use Rattle.register_sheets.specs.SheetReadings.{AreRegisterWriters, Takes, line_of_entry}
+use Rattle.register_sheets.specs.SheetReadings.{AreRegisterWriters, Takes, entry_maker, line_of_entry}
 use Rattle.register_sheets.specs.SheetRecords.{RecordRead}
 use Rattle.register_sheets.specs.declared.choices.SheetChoice.{SheetChoice}
 use Rattle.register_sheets.specs.declared.line_writers.LineWriter.{LineWriter}
@@ -56,14 +56,15 @@ appended (z ∷ xs) x y zero e = inl e
 appended (z ∷ xs) x y (suc place) e =
     elim (appended xs x y place e) [ inl found ↦ inl found | inr last ↦ inr (ap suc last.0, last.1) ]
 
-pub no_writers : (d : ℕ) (writers : List (LineWriter EntryLine)) → writers ≡ [] → AreRegisterWriters d 0 writers
-no_writers d [] e = record { counted = refl; each = λ place writer there. absurd (cc) }
-no_writers d (x ∷ xs) e = absurd (cc)
+pub no_writers : (d columns : ℕ) (writers : List (LineWriter EntryLine)) → writers ≡ []
+    → AreRegisterWriters d columns 0 writers
+no_writers d columns [] e = record { counted = refl; each = λ place writer there. absurd (cc) }
+no_writers d columns (x ∷ xs) e = absurd (cc)
 
-pub one_writer_more : (d count : ℕ) (old new : List (LineWriter EntryLine)) (writer : LineWriter EntryLine)
-    → AreRegisterWriters d count old → new ≡ old ++ writer ∷ [] → writer.maker.place ≡ count
-    → Waits d (register_head ∷ []) writer → AreRegisterWriters d (count + 1) new
-one_writer_more d count old new writer h is placed waits =
+pub one_writer_more : (d columns count : ℕ) (old new : List (LineWriter EntryLine)) (writer : LineWriter EntryLine)
+    → AreRegisterWriters d columns count old → new ≡ old ++ writer ∷ [] → writer.maker ≡ entry_maker columns count
+    → Waits d (register_head ∷ []) writer → AreRegisterWriters d columns (count + 1) new
+one_writer_more d columns count old new writer h is placed waits =
     record {
       counted = omega (arith, ap length is, length-append old (writer ∷ []), h.counted);
       each = λ place other there.
@@ -71,7 +72,8 @@ one_writer_more d count old new writer h is placed waits =
           ∙ there)) [
             | inl found ↦ h.each place other found
             | inr last ↦
-                subst (λ (x : LineWriter EntryLine). (x.maker.place ≡ place) × Waits d (register_head ∷ []) x) last.1
-                (placed ∙ sym h.counted ∙ sym last.0, waits)
+                subst (λ (x : LineWriter EntryLine). (x.maker ≡ entry_maker columns place)
+                × Waits d (register_head ∷ []) x) last.1
+                (placed ∙ ap (entry_maker columns) (sym h.counted ∙ sym last.0), waits)
           ];
     }

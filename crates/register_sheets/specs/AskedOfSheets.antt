@@ -16,6 +16,7 @@ use Rattle.register_sheets.specs.declared.choices.AskedColumn.{AskedColumn}
 use Rattle.register_sheets.specs.declared.choices.DateColumn.{DateColumn}
 use Rattle.register_sheets.specs.declared.choices.IdField.{IdField}
 use Rattle.register_sheets.specs.declared.choices.SheetChoice.{SheetChoice}
+use Rattle.register_sheets.specs.declared.choices.Spans.{Spans}
 use Rattle.register_sheets.specs.declared.name_lists.NameLine.{NameLine}
 
 -- what is asked of a sheet
@@ -24,6 +25,7 @@ pub record SheetAsked : Type 0 where
   pub above : ℕ
   pub id : IdField
   pub reading : Choice
+  pub spans : Spans
   pub dates : List DateColumn
   pub columns : List AskedColumn
 
@@ -37,6 +39,7 @@ pub record IsChoiceOf (asked : SheetAsked) (names : List Name) (calendars : List
   pub columns : choice.columns.now ≡ asked.columns
   pub headings_are : map (λ heading. heading.now) choice.headings.now ≡ headings
   pub reading : choice.reading ≡ asked.reading
+  pub spans : choice.spans ≡ asked.spans
   pub names_are : choice.names.now.listed.now ≡ names
   pub calendars_are : entries choice.calendars.now ≡ calendars
 
@@ -44,7 +47,7 @@ pub record IsChoiceOf (asked : SheetAsked) (names : List Name) (calendars : List
 abbrev pub HasHeadings : SheetAsked → List ℕ → Fields → Type 0
 HasHeadings asked sheet headings =
     let own = get_or (text_records asked.delimiter sheet) asked.above [] in
-    AreHeadings own (wanted_headings asked.dates asked.columns own) headings
+    AreHeadings own (wanted_headings asked.dates asked.spans asked.columns own) headings
 
 -- the choice is what is asked of a sheet, by the names of these lines
 pub record IsListedChoice (asked : SheetAsked) (lines : List NameLine) (sheet : List ℕ) (choice : SheetChoice)
@@ -72,6 +75,7 @@ asked_in asked =
       above = asked.above;
       id = asked.id;
       reading = asked.reading;
+      spans = asked.spans;
       dates = asked.dates.items;
       columns = asked.columns.items;
     }

@@ -13,7 +13,6 @@ use Rattle.register_records.specs.Entries.{Fields, Numbered, body_of}
 use Rattle.register_records.specs.SetupRules.{NamesTwice}
 use Rattle.register_records.specs.declared.setups.Form.TheVariants.{Plain}
 use Rattle.written_dates.specs.Fields.{entries, written_calendar}
-use Rattle.written_dates.specs.Written.{written}
 use Rattle.written_dates.specs.declared.fields.CalendarNames.{CalendarNames}
 use Rattle.register_sheets.specs.declared.choices.AskedColumn.{AskedColumn}
 use Rattle.register_sheets.specs.declared.choices.AskedColumn.TheVariants.{Cells, Church, DayNumber, Weekday}
@@ -23,6 +22,8 @@ use Rattle.register_sheets.specs.declared.choices.DateColumn.{DateColumn}
 use Rattle.register_sheets.specs.declared.choices.IdField.{IdField}
 use Rattle.register_sheets.specs.declared.choices.IdField.TheVariants as id
 use Rattle.register_sheets.specs.declared.choices.SheetChoice.{SheetChoice}
+use Rattle.register_sheets.specs.declared.choices.Spans.{Spans}
+use Rattle.register_sheets.specs.declared.choices.Spans.TheVariants as spans
 
 -- the most columns of dates, and the most columns that may be asked for each of them
 abbrev pub date_limit : ℕ
@@ -57,9 +58,15 @@ asks_twice columns =
     nat_lt 1 (count_by is_day_number columns) || nat_lt 1 (count_by is_weekday columns)
     || nat_lt 1 (count_by is_church columns)
 
--- how many columns come behind a sheet: for each column of dates those asked, and the refusal
+-- how many columns come behind a sheet for a column of dates: those asked and the refusal; with spans, those asked for
+-- the first and for the last day, the text of EDTF where it is asked, the mark and the refusal
+abbrev pub added_each : Spans → ℕ → ℕ
+added_each spans.Unread asked = asked + 1
+added_each spans.Ends asked = asked + asked + 2
+added_each spans.EndsAndEdtf asked = asked + asked + 3
+
 abbrev pub added : SheetChoice → ℕ
-added choice = length choice.dates.now * (length choice.columns.now + 1)
+added choice = length choice.dates.now * added_each choice.spans (length choice.columns.now)
 
 -- the id of a record with this number: a field, or the number
 abbrev pub id_text : IdField → ℕ → Fields → List ℕ
@@ -78,22 +85,19 @@ is_name text calendar = bytes_eq (str_to_ascii_lowercase (trimmed text)) (calend
 unfoldable pub calendar_called : List ℕ → Option Calendar
 calendar_called text = if is_utf8 text then find (is_name text) all_calendars else None
 
--- the date of a record as its register has it, by the rules of dates in the calendar that was found
-abbrev pub date_text : SheetChoice → DateColumn → Fields → List ℕ
-date_text choice column fields =
-    written choice.reading (calendar_called (calendar_text choice.calendars.now column.calendar fields))
-    choice.names.now.listed.now (get_or fields column.date [])
+-- the calendar of a record's date, where its register names a known one
+abbrev pub called_for : SheetChoice → DateColumn → Fields → Option Calendar
+called_for choice column fields = calendar_called (calendar_text choice.calendars.now column.calendar fields)
 
--- the record that the register of a column of dates has of the record with this number
-abbrev pub register_record : SheetChoice → DateColumn → ℕ → Fields → Fields
-register_record choice column number fields =
-    id_text choice.id number fields ∷ calendar_text choice.calendars.now column.calendar fields
-    ∷ date_text choice column fields ∷ []
+-- the record that the register of a column of dates has of the record with this number, with this text of its date
+abbrev pub register_record : SheetChoice → DateColumn → ℕ → Fields → List ℕ → Fields
+register_record choice column number fields date =
+    id_text choice.id number fields ∷ calendar_text choice.calendars.now column.calendar fields ∷ date ∷ []
 
 -- its entry
-abbrev pub register_entry : SheetChoice → DateColumn → ℕ → Fields → Numbered
-register_entry choice column number fields =
-    record { number = number; body = body_of Plain (register_record choice column number fields) }
+abbrev pub register_entry : SheetChoice → DateColumn → ℕ → Fields → List ℕ → Numbered
+register_entry choice column number fields date =
+    record { number = number; body = body_of Plain (register_record choice column number fields date) }
 
 -- what is wrong with a choice, and that nothing is
 pub record HasDates (choice : SheetChoice) : Type 0 where

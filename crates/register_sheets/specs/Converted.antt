@@ -6,14 +6,16 @@ use Rattle.std.specs.Option.{option_map_or}
 use Rattle.std.specs.Str.{bytes_eq}
 use Rattle.register_records.specs.Columns.{Column, kind_columns, tail_order}
 use Rattle.register_records.specs.Entries.{Fields, record_limit}
-use Rattle.register_records.specs.Outcomes.{IsRowOf, TableRow}
-use Rattle.register_sheets.specs.Choices.{asked_targets, register_entry}
+use Rattle.register_records.specs.Outcomes.{TableRow}
 use Rattle.register_sheets.specs.ChurchNames.{church_shown}
+use Rattle.register_sheets.specs.DateEnds.{Dated, IsDated, mark_text, told}
 use Rattle.register_sheets.specs.DateCounts.{AreSheetCounts}
 use Rattle.register_sheets.specs.Sheets.{filled, records_text, widest}
 use Rattle.register_sheets.specs.declared.choices.AskedColumn.{AskedColumn}
 use Rattle.register_sheets.specs.declared.choices.AskedColumn.TheVariants.{Cells, Church, DayNumber, Weekday}
 use Rattle.register_sheets.specs.declared.choices.SheetChoice.{SheetChoice}
+use Rattle.register_sheets.specs.declared.choices.Spans.{Spans}
+use Rattle.register_sheets.specs.declared.choices.Spans.TheVariants as spans
 use Rattle.register_sheets.specs.declared.date_counts.SheetCounts.{SheetCounts}
 
 -- what a table without targets shows of a row in the column of this name
@@ -33,23 +35,39 @@ abbrev pub cells_taken : AskedColumn → ℕ
 cells_taken (Cells target) = 1
 cells_taken column = 0
 
--- what stands in those columns, and behind them the refusal
+-- what stands in those columns
 abbrev pub asked_texts : List AskedColumn → TableRow → List (List ℕ) → Fields
-asked_texts [] row cells = shown_in (codes "refusal") row ∷ []
+asked_texts [] row cells = []
 asked_texts (column ∷ columns) row cells =
     asked_text column row cells ∷ asked_texts columns row (drop (cells_taken column) cells)
 
-abbrev pub asked_fields : List AskedColumn → TableRow → Fields
-asked_fields columns row = asked_texts columns row row.cells
+abbrev pub asked_cells : List AskedColumn → TableRow → Fields
+asked_cells columns row = asked_texts columns row row.cells
 
--- for each column of dates, the row that the table of its register has for the record with this number
-abbrev pub AreRowsOfRecord : SheetChoice → ℕ → Fields → List TableRow → Type 0
-AreRowsOfRecord choice number fields rows =
-    AllZip (λ column row. IsRowOf (asked_targets choice.columns.now) (register_entry choice column number fields) row)
-    choice.dates.now rows
+-- and behind them the refusal
+abbrev pub asked_fields : List AskedColumn → TableRow → Fields
+asked_fields columns row = asked_cells columns row ++ shown_in (codes "refusal") row ∷ []
+
+-- what comes behind a record for a column of dates: the columns asked of its day and the refusal; with spans, those of its
+-- first day, those of its last day, the text of EDTF where it is asked, the mark, and the refusal
+abbrev pub fields_by : Spans → List AskedColumn → Dated → Fields
+fields_by spans.Unread columns dated = asked_fields columns dated.first.row
+fields_by spans.Ends columns dated =
+    asked_cells columns dated.first.row ++ asked_cells columns dated.last.row
+    ++ mark_text dated.marks ∷ shown_in (codes "refusal") (told dated) ∷ []
+fields_by spans.EndsAndEdtf columns dated =
+    asked_cells columns dated.first.row ++ asked_cells columns dated.last.row
+    ++ dated.edtf ∷ mark_text dated.marks ∷ shown_in (codes "refusal") (told dated) ∷ []
+
+abbrev pub dated_fields : SheetChoice → Dated → Fields
+dated_fields choice dated = fields_by choice.spans choice.columns.now dated
+
+-- what each column of dates has of the record with this number
+abbrev pub AreRowsOfRecord : SheetChoice → ℕ → Fields → List Dated → Type 0
+AreRowsOfRecord choice number fields rows = AllZip (IsDated choice number fields) choice.dates.now rows
 
 -- those of each of these records, the first of which has the number after k
-abbrev pub AreRowsFrom : SheetChoice → ℕ → List Fields → List (List TableRow) → Type 0
+abbrev pub AreRowsFrom : SheetChoice → ℕ → List Fields → List (List Dated) → Type 0
 AreRowsFrom choice k [] [] = ⊤
 AreRowsFrom choice k (fields ∷ records) (rows ∷ others) =
     AreRowsOfRecord choice (k + 1) fields rows × AreRowsFrom choice (k + 1) records others
@@ -68,25 +86,25 @@ abbrev pub head_record : SheetChoice → List Fields → Fields
 head_record choice records =
     filled (sheet_width choice records) (get_or records choice.above []) ++ map (λ name. name.now) choice.headings.now
 
--- a record, and behind it the columns asked of its rows
-abbrev pub body_record : ℕ → List AskedColumn → Fields → List TableRow → Fields
-body_record width columns fields rows = filled width fields ++ flat_map (asked_fields columns) rows
+-- a record, and behind it what comes for its dates
+abbrev pub body_record : ℕ → SheetChoice → Fields → List Dated → Fields
+body_record width choice fields rows = filled width fields ++ flat_map (dated_fields choice) rows
 
 -- each of these records, as far as there are rows
-abbrev pub body_records : ℕ → List AskedColumn → List Fields → List (List TableRow) → List Fields
-body_records width columns [] others = []
-body_records width columns (fields ∷ records) [] = []
-body_records width columns (fields ∷ records) (rows ∷ others) =
-    body_record width columns fields rows ∷ body_records width columns records others
+abbrev pub body_records : ℕ → SheetChoice → List Fields → List (List Dated) → List Fields
+body_records width choice [] others = []
+body_records width choice (fields ∷ records) [] = []
+body_records width choice (fields ∷ records) (rows ∷ others) =
+    body_record width choice fields rows ∷ body_records width choice records others
 
 -- the records of the sheet that comes back, by the rows of the records below the names
-abbrev pub sheet_records : SheetChoice → List Fields → List (List TableRow) → List Fields
+abbrev pub sheet_records : SheetChoice → List Fields → List (List Dated) → List Fields
 sheet_records choice records rows =
     take choice.above records ++ head_record choice records
-    ∷ body_records (sheet_width choice records) choice.columns.now (below choice records) rows
+    ∷ body_records (sheet_width choice records) choice (below choice records) rows
 
 -- these are the rows of the first records below the names, so many
-pub record AreFirstRows (choice : SheetChoice) (records : List Fields) (rows : List (List TableRow)) : Type 0 where
+pub record AreFirstRows (choice : SheetChoice) (records : List Fields) (rows : List (List Dated)) : Type 0 where
   pub has_names : choice.above < length records
   pub converted : AreRowsFrom choice 0 (take (length rows) (below choice records)) rows
   pub limited : length rows ≤ record_limit
@@ -95,7 +113,7 @@ pub record AreFirstRows (choice : SheetChoice) (records : List Fields) (rows : L
 -- refused or are empty
 pub record IsWholeSheet (choice : SheetChoice) (records : List Fields) (count : ℕ) (counts : SheetCounts)
     (bytes : List ℕ) : Type 0 where
-  pub rows : List (List TableRow)
+  pub rows : List (List Dated)
   pub first : AreFirstRows choice records rows
   pub all : length rows ≡ length (below choice records)
   pub counted : count ≡ length rows
@@ -104,7 +122,7 @@ pub record IsWholeSheet (choice : SheetChoice) (records : List Fields) (count : 
 
 -- these bytes are its first records, which may be none
 pub record IsFrontOfSheet (choice : SheetChoice) (records : List Fields) (bytes : List ℕ) : Type 0 where
-  pub rows : List (List TableRow)
+  pub rows : List (List Dated)
   pub count : ℕ
   pub first : AreFirstRows choice records rows
   pub written : bytes ≡ records_text choice.delimiter (take count (sheet_records choice records rows))
@@ -115,7 +133,7 @@ ArePartOfSheet choice records bytes = (bytes ≡ []) ⊎ IsFrontOfSheet choice r
 
 -- these bytes are the sheet down to the last record that may be converted, and there are more
 pub record IsFullSheet (choice : SheetChoice) (records : List Fields) (bytes : List ℕ) : Type 0 where
-  pub rows : List (List TableRow)
+  pub rows : List (List Dated)
   pub first : AreFirstRows choice records rows
   pub full : length rows ≡ record_limit
   pub more : record_limit < length (below choice records)

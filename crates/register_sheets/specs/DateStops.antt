@@ -12,7 +12,9 @@ use Rattle.written_dates.specs.declared.meanings.Name.{Name}
 use Rattle.written_dates.specs.declared.stops.Stop.{Stop}
 use Rattle.written_dates.specs.declared.stops.Stop.TheVariants as stops
 use Rattle.written_dates.specs.declared.written.Choice.{Choice}
-use Rattle.register_sheets.specs.Choices.{calendar_called, calendar_text, date_text}
+use Rattle.date_spans.specs.declared.spans.Marks.{Marks}
+use Rattle.register_sheets.specs.Choices.{called_for}
+use Rattle.register_sheets.specs.DateEnds.{AreEnds}
 use Rattle.register_sheets.specs.declared.choices.CalendarField.{CalendarField}
 use Rattle.register_sheets.specs.declared.choices.CalendarField.TheVariants as calendar
 use Rattle.register_sheets.specs.declared.choices.DateColumn.{DateColumn}
@@ -78,25 +80,26 @@ abbrev pub unless_empty : List ℕ → DateStop → Option DateStop
 unless_empty [] stop = None
 unless_empty (byte ∷ text) stop = Some stop
 
--- the calendar of a record's date, where its register names a known one
-abbrev pub called_for : SheetChoice → DateColumn → Fields → Option Calendar
-called_for choice column fields = calendar_called (calendar_text choice.calendars.now column.calendar fields)
-
--- this stops the date of a record in a column, whose calendar is the one called; an empty field stops nothing
-abbrev pub IsStopBy : SheetChoice → DateColumn → Fields → Option Calendar → Option DateStop → Type 0
-IsStopBy choice column fields None found =
+-- this stops the date of a record in a column, whose calendar is the one called, and for which this is written; an empty
+-- field stops nothing
+abbrev pub IsStopBy : SheetChoice → DateColumn → Fields → List ℕ → Option Calendar → Option DateStop → Type 0
+IsStopBy choice column fields date None found =
     found ≡ unless_empty (without_blanks (get_or fields column.date []))
     (calendar_stop (without_blanks (calendar_field column.calendar fields)))
-IsStopBy choice column fields (Some calendar) found =
-    IsStopIn choice.reading calendar choice.names.now.listed.now (get_or fields column.date [])
-    (date_text choice column fields) found
+IsStopBy choice column fields date (Some calendar) found =
+    IsStopIn choice.reading calendar choice.names.now.listed.now (get_or fields column.date []) date found
 
 -- a date of a sheet: its column and its record
 abbrev pub SheetDate : Type 0
 SheetDate = DateColumn × Fields
 
-abbrev pub IsStopOf : SheetChoice → SheetDate → Option DateStop → Type 0
-IsStopOf choice date = IsStopBy choice date.0 date.1 (called_for choice date.0 date.1)
+-- this stops it: the text of its first day is what is written for it
+pub record IsStopOf (choice : SheetChoice) (date : SheetDate) (found : Option DateStop) : Type 0 where
+  pub first : List ℕ
+  pub last : List ℕ
+  pub marks : Marks
+  pub ends : AreEnds choice date.0 date.1 first last marks
+  pub stop : IsStopBy choice date.0 date.1 first (called_for choice date.0 date.1) found
 
 -- the name that stopped a date
 abbrev pub name_in : Option DateStop → Option NameStop

@@ -10,6 +10,8 @@ use Rattle.register_records.specs.Entries.{Fields}
 use Rattle.register_sheets.specs.declared.choices.AskedColumn.{AskedColumn}
 use Rattle.register_sheets.specs.declared.choices.AskedColumn.TheVariants.{Cells, Church, DayNumber, Weekday}
 use Rattle.register_sheets.specs.declared.choices.DateColumn.{DateColumn}
+use Rattle.register_sheets.specs.declared.choices.Spans.{Spans}
+use Rattle.register_sheets.specs.declared.choices.Spans.TheVariants as spans
 
 -- the name of a column asked
 abbrev pub asked_name : AskedColumn → List ℕ
@@ -18,20 +20,41 @@ asked_name Weekday = codes "weekday"
 asked_name Church = codes "church"
 asked_name (Cells target) = target_name target
 
--- the names of the columns asked, and behind them that of the refusal
-abbrev pub asked_names : List AskedColumn → Fields
-asked_names columns = map asked_name columns ++ codes "refusal" ∷ []
+-- one name behind another, with a space (32) between
+abbrev pub behind : List ℕ → List ℕ → List ℕ
+behind front name = front ++ 32 ∷ name
+
+abbrev pub asked_behind : List ℕ → AskedColumn → List ℕ
+asked_behind end column = behind end (asked_name column)
+
+-- those of the columns asked: with spans, for the first day, and then for the last day
+abbrev pub column_names : Spans → List AskedColumn → Fields
+column_names spans.Unread columns = map asked_name columns
+column_names spans.Ends columns =
+    map (asked_behind (codes "first")) columns ++ map (asked_behind (codes "last")) columns
+column_names spans.EndsAndEdtf columns =
+    map (asked_behind (codes "first")) columns ++ map (asked_behind (codes "last")) columns
+
+abbrev pub mark_names : Spans → Fields
+mark_names spans.Unread = []
+mark_names spans.Ends = codes "mark" ∷ []
+mark_names spans.EndsAndEdtf = codes "edtf" ∷ codes "mark" ∷ []
+
+-- the names of the columns for a column of dates
+abbrev pub asked_names : Spans → List AskedColumn → Fields
+asked_names kind columns = column_names kind columns ++ mark_names kind ++ codes "refusal" ∷ []
 
 -- the name that a column of a column of dates is to have: of several, with the own name of that and a space (32) before
 abbrev pub wanted_heading : Bool → List ℕ → List ℕ → List ℕ
-wanted_heading several own name = if several then own ++ 32 ∷ name else name
+wanted_heading several own name = if several then behind own name else name
 
-abbrev pub wanted_for : Bool → Fields → List AskedColumn → DateColumn → Fields
-wanted_for several own columns date = map (wanted_heading several (get_or own date.date [])) (asked_names columns)
+abbrev pub wanted_for : Bool → Fields → Spans → List AskedColumn → DateColumn → Fields
+wanted_for several own kind columns date =
+    map (wanted_heading several (get_or own date.date [])) (asked_names kind columns)
 
 -- those of all columns of dates, of a sheet with these names
-abbrev pub wanted_headings : List DateColumn → List AskedColumn → Fields → Fields
-wanted_headings dates columns own = flat_map (wanted_for (nat_lt 1 (length dates)) own columns) dates
+abbrev pub wanted_headings : List DateColumn → Spans → List AskedColumn → Fields → Fields
+wanted_headings dates kind columns own = flat_map (wanted_for (nat_lt 1 (length dates)) own kind columns) dates
 
 -- the name itself, or with a space and a number from 2 behind it
 abbrev pub numbered : List ℕ → ℕ → List ℕ

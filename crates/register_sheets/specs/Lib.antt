@@ -6,6 +6,7 @@ pub mod NameLists
 pub mod Choices
 pub mod ChurchNames
 pub mod ChoiceViews
+pub mod DateEnds
 pub mod AskedViews
 pub mod DateCounts
 pub mod Converted
@@ -20,6 +21,7 @@ pub mod DateStops
 pub mod UnknownNames
 pub mod UnknownViews
 pub mod SheetRecords
+pub mod DateViews
 pub mod SheetReaders
 pub mod RecordLines
 pub mod Produced

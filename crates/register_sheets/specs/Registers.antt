@@ -1,44 +1,67 @@
--- The register of a column of dates, as a text.
-use Rattle.std.specs.Prelude.{◌≡◌, ◌+◌, ◌<◌, ◌≤◌, ℕ, List, [], ◌∷◌, codes, length, take}
+-- The registers of a column of dates, as texts.
+use Rattle.std.specs.Prelude.{◌≡◌, ◌⊎◌, ◌+◌, ◌<◌, ◌≤◌, ⊤, ℕ, List, [], ◌∷◌, codes, length, take}
 use Rattle.register_records.specs.Entries.{Fields, record_limit}
+use Rattle.date_spans.specs.declared.spans.Marks.{Marks}
 use Rattle.register_sheets.specs.Choices.{register_record}
 use Rattle.register_sheets.specs.Converted.{below}
+use Rattle.register_sheets.specs.DateEnds.{AreEnds, end_text}
 use Rattle.register_sheets.specs.Sheets.{records_text}
 use Rattle.register_sheets.specs.declared.choices.DateColumn.{DateColumn}
+use Rattle.register_sheets.specs.declared.choices.End.{End}
 use Rattle.register_sheets.specs.declared.choices.SheetChoice.{SheetChoice}
 
--- what the register of a column of dates has of these records, the first of which has the number after k
-abbrev pub register_records : SheetChoice → DateColumn → ℕ → List Fields → List Fields
-register_records choice column k [] = []
-register_records choice column k (fields ∷ records) =
-    register_record choice column (k + 1) fields ∷ register_records choice column (k + 1) records
+-- this is what the register of the first or the last days of a column has of the record with this number
+pub record IsEntry (choice : SheetChoice) (column : DateColumn) (end : End) (number : ℕ) (fields entry : Fields)
+    : Type 0 where
+  pub first : List ℕ
+  pub last : List ℕ
+  pub marks : Marks
+  pub ends : AreEnds choice column fields first last marks
+  pub is : entry ≡ register_record choice column number fields (end_text end first last)
+
+-- what it has of these records, the first of which has the number after k
+abbrev pub AreEntries : SheetChoice → DateColumn → End → ℕ → List Fields → List Fields → Type 0
+AreEntries choice column end k [] [] = ⊤
+AreEntries choice column end k (fields ∷ records) (entry ∷ entries) =
+    IsEntry choice column end (k + 1) fields entry × AreEntries choice column end (k + 1) records entries
+AreEntries choice column end k records entries = ⊥
 
 abbrev pub register_head : Fields
 register_head = codes "id" ∷ codes "calendar" ∷ codes "date" ∷ []
 
--- its header, and what it has of each record below the names
-abbrev pub whole_register : SheetChoice → DateColumn → List Fields → List Fields
-whole_register choice column records = register_head ∷ register_records choice column 0 (below choice records)
-
--- these bytes are the first lines of the register, so many
-abbrev pub AreLinesOfRegister : SheetChoice → DateColumn → List Fields → ℕ → List ℕ → Type 0
-AreLinesOfRegister choice column records count bytes =
-    bytes ≡ records_text choice.delimiter (take count (whole_register choice column records))
-
-abbrev pub IsFrontOfRegister : SheetChoice → DateColumn → List Fields → List ℕ → Type 0
-IsFrontOfRegister choice column records bytes =
-    (count : ℕ) × AreLinesOfRegister choice column records count bytes
+-- these are its entries for the first records below the names
+pub record AreFirstEntries (choice : SheetChoice) (column : DateColumn) (end : End) (records entries : List Fields)
+    : Type 0 where
+  pub has_names : choice.above < length records
+  pub are : AreEntries choice column end 0 (take (length entries) (below choice records)) entries
+  pub limited : length entries ≤ record_limit
 
 -- these bytes are the register, with so many entries
-pub record IsRegister (choice : SheetChoice) (column : DateColumn) (records : List Fields) (count : ℕ)
+pub record IsRegister (choice : SheetChoice) (column : DateColumn) (end : End) (records : List Fields) (count : ℕ)
     (bytes : List ℕ) : Type 0 where
-  pub has_names : choice.above < length records
-  pub counted : count ≡ length (below choice records)
-  pub limited : count ≤ record_limit
-  pub written : bytes ≡ records_text choice.delimiter (whole_register choice column records)
+  pub entries : List Fields
+  pub first : AreFirstEntries choice column end records entries
+  pub all : length entries ≡ length (below choice records)
+  pub counted : count ≡ length entries
+  pub written : bytes ≡ records_text choice.delimiter (register_head ∷ entries)
+
+-- these bytes are its first lines, which may be none
+pub record IsFrontOfRegister (choice : SheetChoice) (column : DateColumn) (end : End) (records : List Fields)
+    (bytes : List ℕ) : Type 0 where
+  pub entries : List Fields
+  pub count : ℕ
+  pub first : AreFirstEntries choice column end records entries
+  pub written : bytes ≡ records_text choice.delimiter (take count (register_head ∷ entries))
+
+abbrev pub ArePartOfRegister : SheetChoice → DateColumn → End → List Fields → List ℕ → Type 0
+ArePartOfRegister choice column end records bytes =
+    (bytes ≡ []) ⊎ IsFrontOfRegister choice column end records bytes
 
 -- these bytes are the register down to the last entry that may be, and there are more
-pub record IsFullRegister (choice : SheetChoice) (column : DateColumn) (records : List Fields)
+pub record IsFullRegister (choice : SheetChoice) (column : DateColumn) (end : End) (records : List Fields)
     (bytes : List ℕ) : Type 0 where
+  pub entries : List Fields
+  pub first : AreFirstEntries choice column end records entries
+  pub full : length entries ≡ record_limit
   pub more : record_limit < length (below choice records)
-  pub written : AreLinesOfRegister choice column records (record_limit + 1) bytes
+  pub written : bytes ≡ records_text choice.delimiter (register_head ∷ entries)

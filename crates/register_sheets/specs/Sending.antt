@@ -5,7 +5,6 @@ use Rattle.std.specs.Prelude.{◌∷◌, None, Some, drop, get_or, length, map, 
 use Rattle.std.specs.Io.KnownBytes.{Appends}
 use Rattle.register_records.specs.Entries.{Fields, record_limit}
 use Rattle.register_sheets.specs.LineViews.{Begins}
-use Rattle.register_sheets.specs.Registers.{register_records}
 use Rattle.register_sheets.specs.Sheets.{filled, records_text}
 use Rattle.register_sheets.specs.declared.choices.DateColumn.{DateColumn}
 use Rattle.register_sheets.specs.declared.choices.SheetChoice.{SheetChoice}

@@ -1,6 +1,6 @@
 -- One reading of a sheet, and what is made of it. No public contract cites this file.
 use Rattle.std.specs.Prelude.{◌≡◌, ◌≤◌, ◌<◌, ◌⊎◌, ◌++◌, ◌∷◌, [], ℕ, List, IfErr, Ok, Err, OnOk, Result, Some, length}
-use Rattle.std.specs.Prelude.{map, slice_get, take}
+use Rattle.std.specs.Prelude.{◌-◌, if◌then◌else◌, map, nat_lt, slice_get, take}
 use Rattle.register_records.specs.Entries.{Fields, record_limit}
 use Rattle.register_records.specs.declared.outputs.Output as outputs
 use Rattle.register_sheets.specs.Converted.{below, sheet_width}
@@ -10,6 +10,7 @@ use Rattle.register_sheets.specs.Registers.{register_head}
 use Rattle.register_sheets.specs.Sending.{top_records}
 use Rattle.register_sheets.specs.SheetNotes.{HasNotes}
 use Rattle.register_sheets.specs.SheetRecords.{AreRecordsRead, RecordRead, fields_read}
+use Rattle.register_sheets.specs.declared.choices.End.TheVariants as ends
 use Rattle.register_sheets.specs.declared.choices.SheetChoice.{SheetChoice}
 use Rattle.register_sheets.specs.declared.line_writers.LineWriter.{LineWriter}
 use Rattle.register_sheets.specs.declared.record_lines.BodyLine.{BodyLine}
@@ -35,13 +36,20 @@ pub record HasReadSheet {A : Type 0} (choice : SheetChoice) (records : List Fiel
 
 -- the line of a register
 abbrev pub line_of_entry : EntryLine → SheetChoice → RecordRead → Fields
-line_of_entry maker = entry_line maker.place
+line_of_entry maker = entry_line maker.place maker.end
+
+-- what the writer of the register at a place makes, of a sheet with so many columns of dates: behind the registers of the
+-- first days come those of the last
+abbrev pub entry_maker : ℕ → ℕ → EntryLine
+entry_maker columns place =
+    if nat_lt place columns then record { place = place; end = ends.First }
+    else record { place = place - columns; end = ends.Last }
 
 -- these are the writers of the first registers, so many, and each has its header
-pub record AreRegisterWriters (delimiter count : ℕ) (writers : List (LineWriter EntryLine)) : Type 0 where
+pub record AreRegisterWriters (delimiter columns count : ℕ) (writers : List (LineWriter EntryLine)) : Type 0 where
   pub counted : length writers ≡ count
   pub each : (place : ℕ) (writer : LineWriter EntryLine) → slice_get writers place ≡ Some writer
-      → (writer.maker.place ≡ place) × Waits delimiter (register_head ∷ []) writer
+      → (writer.maker ≡ entry_maker columns place) × Waits delimiter (register_head ∷ []) writer
 
 module _ {M W : Type 0} (o : outputs.Ghosts W) where
   -- these records were noted, and their lines made
@@ -84,4 +92,4 @@ pub record AreNewWriters (choice : SheetChoice) (records : List Fields) (count :
   pub notes : HasNotes choice [] most writers.notes
   pub wide : writers.sheet.maker.width ≡ sheet_width choice records
   pub sheet : Waits choice.delimiter [] writers.sheet
-  pub registers : AreRegisterWriters choice.delimiter count writers.registers.items
+  pub registers : AreRegisterWriters choice.delimiter (length choice.dates.now) count writers.registers.items

@@ -1,5 +1,5 @@
 -- The names in a sheet that are not known, and how many of its dates were not read.
-use Rattle.std.specs.Prelude.{◌≡◌, ◌≤◌, ◌<◌, ◌==◌, ◌&&◌, ℕ, Bool, not, nat_lt, List, [], ◌∷◌}
+use Rattle.std.specs.Prelude.{◌≡◌, ◌≤◌, ◌<◌, ◌==◌, ◌&&◌, ℕ, Bool, true, false, not, nat_lt, List, [], ◌∷◌}
 use Rattle.std.specs.Prelude.{Option, None, Some, codes, count_by, filter, get_or, length, map, option_to_list, take}
 use Rattle.std.specs.Fmt.{decimal}
 use Rattle.std.specs.List.{AllZip, flat_map, list_any}
@@ -9,7 +9,10 @@ use Rattle.date_texts.specs.declared.calendar.Calendar.{Calendar}
 use Rattle.register_records.specs.Entries.{Fields, record_limit}
 use Rattle.written_dates.specs.Calendars.{place}
 use Rattle.written_dates.specs.Words.{same_word}
-use Rattle.register_sheets.specs.Choices.{date_text}
+use Rattle.date_spans.specs.declared.sayings.Kind.{Kind}
+use Rattle.date_spans.specs.declared.sayings.Kind.TheVariants as kinds
+use Rattle.date_spans.specs.declared.spans.Marks.{Marks}
+use Rattle.register_sheets.specs.DateEnds.{AreEnds}
 use Rattle.register_sheets.specs.Converted.{below}
 use Rattle.register_sheets.specs.DateStops.{DateStop, IsStopOf, NameStop, SheetDate, count_of, is_for, name_in}
 use Rattle.register_sheets.specs.Sheets.{records_text}
@@ -64,15 +67,31 @@ pub record AreNames (most : ℕ) (stops : List NameStop) (names : List NameCount
 abbrev pub is_emptied : List ℕ → List ℕ → Bool
 is_emptied field date = nat_lt 0 (length field) && (length date == 0)
 
-abbrev pub is_short : SheetChoice → SheetDate → Bool
-is_short choice date = is_emptied (get_or date.1 date.0.date []) (date_text choice date.0 date.1)
+-- a first or a last day is open by what the words say: those before a date may be before each that a calendar has
+abbrev pub is_beside : Kind → Bool
+is_beside kinds.Before = true
+is_beside kinds.After = true
+is_beside kind = false
+
+-- both ends of a field are left empty, as its year is short
+abbrev pub is_short_by : List ℕ → List ℕ → List ℕ → Marks → Bool
+is_short_by field first last marks = is_emptied field first && is_emptied field last && not (is_beside marks.kind)
+
+pub record IsShort (choice : SheetChoice) (date : SheetDate) (short : Bool) : Type 0 where
+  pub first : List ℕ
+  pub last : List ℕ
+  pub marks : Marks
+  pub ends : AreEnds choice date.0 date.1 first last marks
+  pub is : short ≡ is_short_by (get_or date.1 date.0.date []) first last marks
 
 -- of these dates, which these stopped, so many were stopped by a name, so many are left empty for their short year, and so
 -- many stay for each reason
 pub record AreCounts (choice : SheetChoice) (dates : List SheetDate) (stops : List (Option DateStop))
     (unread : UnreadDates) : Type 0 where
   pub stopped_are : unread.stopped ≡ length (names_in stops)
-  pub short_are : unread.short ≡ count_by (is_short choice) dates
+  pub shorts : List Bool
+  pub are_short : AllZip (IsShort choice) dates shorts
+  pub short_are : unread.short ≡ count_by (λ short. short) shorts
   pub reasons_are : (reason : Reason) → count_of unread.reasons reason ≡ count_by (is_for reason) stops
 
 -- so many of these dates were not read

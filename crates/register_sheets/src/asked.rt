@@ -6,7 +6,7 @@ ghost use Rattle.date_texts.specs.declared.target.Target.{Target};
 ghost use Rattle.register_records.specs.Columns.{Column, kind_columns, tail_order};
 ghost use Rattle.register_records.specs.Outcomes.{TableRow};
 ghost use Rattle.register_records.specs.Views.{row_seen};
-ghost use Rattle.register_sheets.specs.Converted.{asked_fields, asked_text, cells_taken, shown_in};
+ghost use Rattle.register_sheets.specs.Converted.{asked_cells, asked_fields, asked_text, cells_taken, shown_in};
 ghost use Rattle.register_sheets.specs.Choices.{column_limit};
 ghost use Rattle.register_sheets.specs.ChurchNames.{church_shown, row_calendar};
 ghost use Rattle.register_sheets.specs.AskedViews.{day_columns, has_cells};
@@ -72,7 +72,7 @@ fn push_church(lines: &mut SheetLines, row: &Row) -> Result<(), AllocError>
 }
 
 /// Appends the number of a row's refusal, or nothing where it has none.
-fn push_refusal(lines: &mut SheetLines, row: &Row) -> Result<(), AllocError>
+pub(crate) fn push_refusal(lines: &mut SheetLines, row: &Row) -> Result<(), AllocError>
     ensures { OnOk result (GainsFields (shown_in (codes "refusal") (row_seen row.now) ∷ []) lines.old lines.new) }
 {
     match row.outcome() {
@@ -126,16 +126,29 @@ fn push_column(
     }
 }
 
-/// Appends what stands in the columns asked of a row, and behind them the refusal, one by one.
-fn push_each(lines: &mut SheetLines, columns: &[AskedColumn], row: &Row) -> Result<(), AllocError>
+/// Appends what stands in the columns asked of a row, one by one.
+pub(crate) fn push_cells(
+    lines: &mut SheetLines,
+    columns: &[AskedColumn],
+    row: &Row,
+) -> Result<(), AllocError>
     requires { length columns.now ≤ column_limit }
-    ensures { OnOk result (GainsFields (asked_fields columns.now (row_seen row.now)) lines.old lines.new) }
+    ensures { OnOk result (GainsFields (asked_cells columns.now (row_seen row.now)) lines.old lines.new) }
 {
     let cells = row.cells();
     let mut taken = 0;
     'columns: for column in columns {
         taken += push_column(lines, *column, row, cells.as_slice(), taken)?;
     }
+    Ok(())
+}
+
+/// Appends what stands in the columns asked of a row, and behind them the refusal, one by one.
+fn push_each(lines: &mut SheetLines, columns: &[AskedColumn], row: &Row) -> Result<(), AllocError>
+    requires { length columns.now ≤ column_limit }
+    ensures { OnOk result (GainsFields (asked_fields columns.now (row_seen row.now)) lines.old lines.new) }
+{
+    push_cells(lines, columns, row)?;
     push_refusal(lines, row)
 }
 

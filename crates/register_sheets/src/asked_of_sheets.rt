@@ -6,7 +6,7 @@ ghost use Rattle.register_sheets.specs.Headings.{items_of};
 ghost use Rattle.register_sheets.specs.declared.choices.SheetChoice.{SheetChoice as SheetChoiceValue};
 ghost use Rattle.written_dates.specs.Fields.{bare_name, entries};
 
-use crate::choices::{AskedColumn, ChoiceFault, DateColumn, IdField, SheetChoice, SheetSetup};
+use crate::choices::{AskedColumn, ChoiceFault, DateColumn, IdField, SheetChoice, SheetSetup, Spans};
 use crate::new_headings::headings;
 use std::alloc::{AllocError, Global};
 use written_dates::{CalendarName, CalendarNames, Choice, Name, Names};
@@ -18,23 +18,21 @@ pub struct AskedOfSheet {
     pub above: u32,
     pub id: IdField,
     pub reading: Choice,
+    pub spans: Spans,
     pub dates: Vec<DateColumn>,
     pub columns: Vec<AskedColumn>,
 }
 
 impl AskedOfSheet {
-    /// What heads the columns asked of this sheet, as [`headings`] has it.
+    /// What heads the columns that come behind this sheet: for each column of dates, the names of the columns asked and
+    /// `refusal`; with spans, those names behind `first`, and again behind `last`, then `edtf` where it is asked, `mark`
+    /// and `refusal`; of several columns of dates, each with the name of its own, and a space, before it. A name that
+    /// stands in the sheet, or among the new ones before, gets a space and the least number from 2 behind it that makes it
+    /// another.
     pub fn headings(&self, alloc: Global, sheet: &[u8]) -> Result<Vec<Vec<u8>>, AllocError>
         ensures { IfOk result (λ made. HasHeadings (asked_in self.now) sheet.now (items_of made.items)) }
     {
-        headings(
-            alloc,
-            sheet,
-            self.delimiter,
-            self.above,
-            self.dates.as_slice(),
-            self.columns.as_slice(),
-        )
+        headings(alloc, sheet, self)
     }
 }
 
@@ -96,6 +94,7 @@ impl<'a> AskedByNames<'a> {
             id: self.asked.id,
             dates: self.asked.dates.as_slice(),
             columns: self.asked.columns.as_slice(),
+            spans: self.asked.spans,
             headings: self.headings.as_slice(),
             reading: self.asked.reading,
             names: &self.names,

@@ -5,7 +5,8 @@ ghost use Rattle.std.specs.Prelude.{option_to_list, take};
 ghost use Rattle.std.specs.Prelude.{Err, IfErr, IfOk};
 ghost use Rattle.register_records.specs.SetupRules.{NamesTwice, is_delimiter};
 ghost use Rattle.register_records.specs.Views.{targets_of};
-ghost use Rattle.register_sheets.specs.Choices.{AsksOnce, HasDates, added, asked_targets, asks_twice, column_limit};
+ghost use Rattle.register_sheets.specs.Choices.{AsksOnce, HasDates, added, added_each as added_spec, asked_targets};
+ghost use Rattle.register_sheets.specs.Choices.{asks_twice, column_limit};
 ghost use Rattle.register_sheets.specs.Choices.{date_limit, is_church, is_day_number, is_weekday, target_in};
 ghost use Rattle.register_sheets.specs.ChoiceViews.{HasFault};
 
@@ -60,6 +61,26 @@ pub enum AskedColumn {
     Cells(Target),
 }
 
+/// What becomes of dates that say no single day, as a month, a year or a range.
+#[derive(Clone, Copy, PartialEq, Eq)]
+pub enum Spans {
+    /// They are not read.
+    Unread,
+    /// For each date its first and its last day come back, and a mark.
+    Ends,
+    /// And the text of EDTF.
+    EndsAndEdtf,
+}
+
+/// One end of a date.
+#[derive(Clone, Copy, PartialEq, Eq)]
+pub enum End {
+    /// The first day that it can mean.
+    First,
+    /// The last one.
+    Last,
+}
+
 /// What is chosen of a sheet.
 #[derive(Clone, Copy)]
 pub struct SheetChoice<'a> {
@@ -73,8 +94,10 @@ pub struct SheetChoice<'a> {
     pub dates: &'a [DateColumn],
     /// The columns asked for each of them, in order, none twice; behind them always comes the refusal.
     pub columns: &'a [AskedColumn],
+    /// What becomes of dates that say no single day.
+    pub spans: Spans,
     /// What heads the columns that come behind the sheet: for each column of dates, the names of those asked and of the
-    /// refusal.
+    /// refusal; with spans, as [`AskedOfSheet::headings`](crate::AskedOfSheet::headings) has them.
     pub headings: &'a [&'a [u8]],
     /// How dates are read.
     pub reading: Choice,
@@ -196,6 +219,18 @@ fn asked_targets(columns: &[AskedColumn]) -> ([Target; MAX_COLUMNS], usize)
     (targets, count)
 }
 
+/// How many columns come behind a sheet for a column of dates, where so many are asked.
+fn added_each(spans: Spans, asked: usize) -> usize
+    requires { asked ≤ MAX_COLUMNS }
+    ensures { result ≡ added_spec spans asked }
+{
+    match spans {
+        Spans::Unread => asked + 1,
+        Spans::Ends => asked + asked + 2,
+        Spans::EndsAndEdtf => asked + asked + 3,
+    }
+}
+
 /// The setup of the targets asked, or the first fault that applies.
 fn setup_of(choice: &SheetChoice) -> Result<Setup, ChoiceFault>
     ensures good { IfOk result (λ setup. HasDates choice.now × AsksOnce choice.now
@@ -218,7 +253,8 @@ fn setup_of(choice: &SheetChoice) -> Result<Setup, ChoiceFault>
         Err(SetupFault::TargetTwice) => return Err(ChoiceFault::ColumnTwice),
         Err(_) => return Err(ChoiceFault::Delimiter),
     };
-    if choice.headings.len() != choice.dates.len() * (choice.columns.len() + 1) {
+    let each = added_each(choice.spans, choice.columns.len());
+    if choice.headings.len() != choice.dates.len() * each {
         return Err(ChoiceFault::Headings);
     }
     Ok(setup)

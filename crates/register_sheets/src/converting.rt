@@ -99,7 +99,8 @@ fn new_writers(
     let Some(width) = width_of(alloc, sheet, choice.delimiter, choice.above)? else {
         return Err(SheetCause::NoNames);
     };
-    let registers = register_writers(alloc, choice.delimiter, count)?;
+    let columns = choice.dates.len();
+    let registers = register_writers(alloc, choice.delimiter, columns, count)?;
     Ok(SheetWriters {
         notes: SheetNotes::none(alloc, 0),
         sheet: LineWriter::new(alloc, BodyLine { width }, choice.delimiter),
@@ -138,8 +139,12 @@ fn convert_wide<W: Output>(
 /// column's register. That register has for each record the id, the calendar and the date that the choice gives. The
 /// width of the sheet is the most fields of the names and of the records below. Lines are sent in blocks.
 ///
-/// To each of the other outputs it writes the register of the column of dates at its place, from the same reading. An
-/// output that fails ends alone, and the others go on.
+/// With spans each column has two registers, of the first and of the last day that a date can mean, and what comes behind
+/// a record is what the columns asked have in the first one's row, then in the last one's, the text of EDTF where it is
+/// asked, the mark, and the refusal of the first of both that is refused and not open.
+///
+/// To each of the other outputs it writes the register at its place, of the columns of dates in order, and behind these
+/// those of the last days, from the same reading. An output that fails ends alone, and the others go on.
 pub fn convert_outputs<W: Output>(
     alloc: Global,
     sheet: &[u8],

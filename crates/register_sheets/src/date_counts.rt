@@ -3,12 +3,12 @@
 ghost use Rattle.std.specs.Prelude.{◌≡◌, ◌∷◌, [], ◌≤◌, List, length, map};
 ghost use Rattle.csv.specs.Records.{fields_of};
 ghost use Rattle.register_records.specs.Entries.{record_limit};
-ghost use Rattle.register_records.specs.Views.{row_seen};
+ghost use Rattle.register_records.specs.Seen.{outcome_seen};
 ghost use Rattle.register_sheets.specs.CountViews.{AreUpTo, CountsDates, CountsRecord, IsUpTo};
 ghost use Rattle.register_sheets.specs.DateCounts.{AreDateCounts, AreSheetCounts};
 ghost use Rattle.register_sheets.specs.DateCounts.{is_blank as blank_spec, is_blank_record as record_spec};
-ghost use Rattle.register_sheets.specs.DateCounts.{is_of_empty as of_empty_spec};
-ghost use Rattle.register_sheets.specs.SheetRecords.{row_in};
+ghost use Rattle.register_sheets.specs.DateCounts.{is_of_empty as of_empty_spec, is_one_day as one_spec};
+ghost use Rattle.register_sheets.specs.SheetRecords.{dated_seen};
 ghost use Rattle.register_sheets.specs.declared.choices.DateColumn.{DateColumn as DateColumnValue};
 
 use crate::choices::{DateColumn, MAX_DATES};
@@ -16,7 +16,8 @@ use crate::reading::field_at;
 use crate::sheet_records::ColumnDates;
 use csv::ByteRecord;
 use date_texts::Refusal;
-use register_records::{RefusalCounts, Row};
+use day_numbers::Day;
+use register_records::RefusalCounts;
 use written_dates::without_blanks;
 
 /// How many dates of a column were refused, and how many are empty.
@@ -29,6 +30,8 @@ pub struct DateCounts {
     pub refused_with: RefusalCounts,
     /// How many are empty: nothing but blanks stands in the field, and the record was refused for that alone.
     pub empty: usize,
+    /// How many were accepted and say no single day.
+    pub spans: usize,
 }
 
 /// How many dates of a sheet were refused, and how many are empty. A record is blank where nothing but blanks stands in
@@ -68,6 +71,16 @@ fn is_of_empty(refusal: Refusal) -> bool
     matches!(refusal, Refusal::UnknownCalendar | Refusal::DateText)
 }
 
+/// Whether two outcomes are one day.
+fn is_one_day(first: Result<Day, Refusal>, last: Result<Day, Refusal>) -> bool
+    ensures { result ≡ one_spec (outcome_seen first) (outcome_seen last) }
+{
+    match (first, last) {
+        (Ok(first), Ok(last)) => first.number() == last.number(),
+        _ => false,
+    }
+}
+
 impl DateCounts {
     /// None yet.
     pub fn none() -> DateCounts
@@ -77,16 +90,18 @@ impl DateCounts {
             refused: 0,
             refused_with: RefusalCounts::none(),
             empty: 0,
+            spans: 0,
         }
     }
 
-    /// Counts a date, in whose field this stands, and whose record has this row.
-    fn add(&mut self, field: &[u8], row: &Row)
+    /// Counts a date, in whose field this stands.
+    fn add(&mut self, field: &[u8], dates: &ColumnDates)
         requires { IsUpTo record_limit self.old }
-        ensures { CountsDates ((field.now, row_seen row.now) ∷ []) self.old self.new }
+        ensures { CountsDates ((field.now, dated_seen dates.now) ∷ []) self.old self.new }
     {
-        match row.outcome() {
-            Ok(_) => {}
+        match dates.told().row.outcome() {
+            Ok(_) if is_one_day(dates.first.row.outcome(), dates.last().row.outcome()) => {}
+            Ok(_) => self.spans += 1,
             Err(refusal) if is_blank(field) && is_of_empty(refusal) => self.empty += 1,
             Err(refusal) => {
                 self.refused += 1;
@@ -112,7 +127,7 @@ impl SheetCounts {
         requires dates { length dates.now ≡ length columns.now }
         requires few { length columns.now ≤ MAX_DATES }
         requires room { AreUpTo record_limit columns.now self.old }
-        ensures { CountsRecord columns.now (fields_of record.now) (map row_in dates.now) self.old self.new }
+        ensures { CountsRecord columns.now (fields_of record.now) (map dated_seen dates.now) self.old self.new }
     {
         if is_blank_record(record) {
             self.blank += 1;
@@ -120,7 +135,7 @@ impl SheetCounts {
         }
         'columns: for place in 0..columns.len() {
             let field = field_at(record, columns[place].date as usize);
-            self.dates[place].add(field, &dates[place].first.row);
+            self.dates[place].add(field, &dates[place]);
         }
     }
 }

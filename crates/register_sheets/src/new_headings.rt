@@ -1,13 +1,16 @@
 //! What heads the columns that come behind a sheet.
 
-ghost use Rattle.std.specs.Prelude.{◌≡◌, ◌++◌, ◌∷◌, [], List, ℕ, IfOk, OnOk, get_or, map, true};
+ghost use Rattle.std.specs.Prelude.{◌≡◌, ◌++◌, ◌∷◌, [], List, ℕ, IfOk, OnOk, codes, get_or, map, true};
 ghost use Rattle.csv.specs.Records.{fields_of};
 ghost use Rattle.register_records.specs.Entries.{text_records};
-ghost use Rattle.register_sheets.specs.Headings.{AreHeadings, IsHeading, asked_name as name_spec, asked_names, is_taken};
+ghost use Rattle.register_sheets.specs.AskedOfSheets.{HasHeadings, asked_in};
+ghost use Rattle.register_sheets.specs.Headings.{IsHeading, asked_behind, asked_name as name_spec, behind};
+ghost use Rattle.register_sheets.specs.Headings.{column_names, is_taken, mark_names};
 ghost use Rattle.register_sheets.specs.Headings.{items_of, wanted_for, wanted_heading, wanted_headings};
-ghost use Rattle.register_sheets.specs.HeadingViews.{NamesMore, taken_by};
+ghost use Rattle.register_sheets.specs.HeadingViews.{NamesMore, taken_by, wanted_all};
 
-use crate::choices::{AskedColumn, DateColumn};
+use crate::asked_of_sheets::AskedOfSheet;
+use crate::choices::{AskedColumn, DateColumn, Spans};
 use crate::reading::{field_at, head_record};
 use csv::ByteRecord;
 use itoa::Buffer;
@@ -42,7 +45,7 @@ pub(crate) fn record_below(
 
 /// Makes a text of two others with a space between them.
 fn join(text: &mut Vec<u8>, first: &[u8], second: &[u8]) -> Result<(), AllocError>
-    ensures { OnOk result (text.new.items ≡ first.now ++ 32 ∷ second.now) }
+    ensures { OnOk result (text.new.items ≡ behind first.now second.now) }
 {
     text.clear();
     text.extend_from_slice(first)?;
@@ -140,11 +143,98 @@ impl NewNames {
 
     /// Names a column of a column of dates.
     fn push_for(&mut self, date: &DateColumn, several: bool, name: &[u8]) -> Result<(), AllocError>
-        ensures { OnOk result (NamesMore
-            (wanted_heading several (get_or (fields_of self.old.own) date.now.date []) name.now ∷ []) self.old self.new) }
+        ensures { OnOk result (NamesMore (wanted_all several date.now (name.now ∷ []) (fields_of self.old.own)) self.old
+            self.new) }
     {
         let wanted = self.wanted(date, several, name)?;
         self.push(wanted.as_slice())
+    }
+
+    /// Names the columns asked of one end of a column of dates: this stands before the name of each.
+    fn push_end(
+        &mut self,
+        date: &DateColumn,
+        several: bool,
+        columns: &[AskedColumn],
+        end: &[u8],
+    ) -> Result<(), AllocError>
+        ensures { OnOk result (NamesMore (wanted_all several date.now (map (asked_behind end.now) columns.now)
+            (fields_of self.old.own)) self.old self.new) }
+    {
+        'columns: for column in columns {
+            let mut name = Vec::new(self.alloc);
+            join(&mut name, end, asked_name(*column))?;
+            self.push_for(date, several, name.as_slice())?;
+        }
+        Ok(())
+    }
+
+    /// Names the columns asked of a column of dates.
+    fn push_columns(
+        &mut self,
+        date: &DateColumn,
+        several: bool,
+        columns: &[AskedColumn],
+    ) -> Result<(), AllocError>
+        ensures { OnOk result (NamesMore (wanted_all several date.now (map name_spec columns.now)
+            (fields_of self.old.own)) self.old self.new) }
+    {
+        'columns: for column in columns {
+            self.push_for(date, several, asked_name(*column))?;
+        }
+        Ok(())
+    }
+
+    /// Names the columns asked of both ends of a column of dates.
+    fn push_ends(
+        &mut self,
+        date: &DateColumn,
+        several: bool,
+        columns: &[AskedColumn],
+    ) -> Result<(), AllocError>
+        ensures { OnOk result (NamesMore (wanted_all several date.now (map (asked_behind (codes "first")) columns.now
+            ++ map (asked_behind (codes "last")) columns.now) (fields_of self.old.own)) self.old self.new) }
+    {
+        self.push_end(date, several, columns, b"first")?;
+        self.push_end(date, several, columns, b"last")
+    }
+
+    /// Names the columns asked of a column of dates.
+    fn push_asked(
+        &mut self,
+        date: &DateColumn,
+        several: bool,
+        spans: Spans,
+        columns: &[AskedColumn],
+    ) -> Result<(), AllocError>
+        ensures { OnOk result (NamesMore (wanted_all several date.now (column_names spans columns.now)
+            (fields_of self.old.own)) self.old self.new) }
+    {
+        match spans {
+            Spans::Unread => self.push_columns(date, several, columns),
+            Spans::Ends => self.push_ends(date, several, columns),
+            Spans::EndsAndEdtf => self.push_ends(date, several, columns),
+        }
+    }
+
+    /// Names the columns of the text of EDTF and of the mark of a column of dates.
+    fn push_marks(
+        &mut self,
+        date: &DateColumn,
+        several: bool,
+        spans: Spans,
+    ) -> Result<(), AllocError>
+        ensures { OnOk result (NamesMore (wanted_all several date.now (mark_names spans) (fields_of self.old.own))
+            self.old self.new) }
+    {
+        match spans {
+            Spans::Unread => Ok(()),
+            Spans::Ends => self.push_for(date, several, b"mark"),
+            Spans::EndsAndEdtf => {
+                self.push_for(date, several, b"edtf")?;
+                self.push_for(date, several, b"mark")
+            }
+        }
     }
 
     /// Names the columns of a column of dates.
@@ -152,14 +242,14 @@ impl NewNames {
         &mut self,
         date: &DateColumn,
         several: bool,
+        spans: Spans,
         columns: &[AskedColumn],
     ) -> Result<(), AllocError>
         ensures { OnOk result
-            (NamesMore (wanted_for several (fields_of self.old.own) columns.now date.now) self.old self.new) }
+            (NamesMore (wanted_for several (fields_of self.old.own) spans columns.now date.now) self.old self.new) }
     {
-        'columns: for column in columns {
-            self.push_for(date, several, asked_name(*column))?;
-        }
+        self.push_asked(date, several, spans, columns)?;
+        self.push_marks(date, several, spans)?;
         self.push_for(date, several, b"refusal")
     }
 
@@ -167,39 +257,33 @@ impl NewNames {
     fn push_dates(
         &mut self,
         dates: &[DateColumn],
+        spans: Spans,
         columns: &[AskedColumn],
     ) -> Result<(), AllocError>
         ensures { OnOk result
-            (NamesMore (wanted_headings dates.now columns.now (fields_of self.old.own)) self.old self.new) }
+            (NamesMore (wanted_headings dates.now spans columns.now (fields_of self.old.own)) self.old self.new) }
     {
         let several = dates.len() > 1;
         'dates: for date in dates {
-            self.push_all(date, several, columns)?;
+            self.push_all(date, several, spans, columns)?;
         }
         Ok(())
     }
 }
 
-/// What heads the columns that come behind a sheet: for each column of dates, the names of the columns asked and
-/// `refusal`; of several columns of dates, each with the name of its own, and a space, before it. A name that stands in
-/// the sheet, or among the new ones before, gets a space and the least number from 2 behind it that makes it another.
-pub fn headings(
+/// What heads the columns that come behind a sheet, as [`AskedOfSheet::headings`] has it.
+pub(crate) fn headings(
     alloc: Global,
     sheet: &[u8],
-    delimiter: u8,
-    above: u32,
-    dates: &[DateColumn],
-    columns: &[AskedColumn],
+    asked: &AskedOfSheet,
 ) -> Result<Vec<Vec<u8>>, AllocError>
-    ensures { IfOk result (λ headings. AreHeadings (get_or (text_records delimiter sheet.now) above [])
-        (wanted_headings dates.now columns.now (get_or (text_records delimiter sheet.now) above []))
-        (items_of headings.items)) }
+    ensures { IfOk result (λ headings. HasHeadings (asked_in asked.now) sheet.now (items_of headings.items)) }
 {
     let mut names = NewNames {
         alloc,
-        own: record_below(alloc, sheet, delimiter, above)?,
+        own: record_below(alloc, sheet, asked.delimiter, asked.above)?,
         made: Vec::new(alloc),
     };
-    names.push_dates(dates, columns)?;
+    names.push_dates(asked.dates.as_slice(), asked.spans, asked.columns.as_slice())?;
     Ok(names.made)
 }

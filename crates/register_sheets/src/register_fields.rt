@@ -1,19 +1,17 @@
 //! The records that the register of a column of dates has.
 
-ghost use Rattle.std.specs.Prelude.{◌≡◌, ◌∷◌, [], ℕ, OnOk};
+ghost use Rattle.std.specs.Prelude.{◌≡◌, ℕ};
 ghost use Rattle.csv.specs.Records.{fields_of};
 ghost use Rattle.written_dates.specs.Fields.{entries, written_calendar};
-ghost use Rattle.register_records.specs.Entries.{Fields};
-ghost use Rattle.register_sheets.specs.Choices.{calendar_called as called_spec, calendar_text, date_text, id_text};
+ghost use Rattle.register_sheets.specs.Choices.{calendar_called as called_spec, calendar_text, id_text};
 ghost use Rattle.std.specs.Fmt.{decimal};
 
-use crate::choices::{CalendarField, DateColumn, IdField, SheetChoice};
+use crate::choices::{CalendarField, IdField};
 use crate::reading::field_at;
 use csv::ByteRecord;
 use date_texts::{Calendar, calendar_named};
-use std::alloc::AllocError;
 use std::str;
-use written_dates::{CalendarNames, write_date};
+use written_dates::CalendarNames;
 
 /// The calendar that a text of a register names.
 pub(crate) fn calendar_called(text: &[u8]) -> Option<Calendar>
@@ -59,21 +57,4 @@ pub(crate) fn id_of<'a>(place: IdField, number: &'a [u8], record: &'a ByteRecord
         IdField::Number => number,
         IdField::Column(place) => field_at(record, place as usize),
     }
-}
-
-/// Writes the date of a record as its register has it, in the calendar that its calendar's text names, over what `out`
-/// held.
-pub(crate) fn put_date(
-    out: &mut Vec<u8>,
-    choice: &SheetChoice,
-    column: &DateColumn,
-    called: Option<Calendar>,
-    record: &ByteRecord,
-) -> Result<(), AllocError>
-    requires { called ≡ called_spec (calendar_text choice.now.calendars.now column.now.calendar (fields_of record.now)) }
-    ensures { OnOk result (out.new.items ≡ date_text choice.now column.now (fields_of record.now)) }
-{
-    out.clear();
-    let field = field_at(record, column.date as usize);
-    write_date(out, field, called, choice.names, &choice.reading)
 }

@@ -2,10 +2,10 @@
 
 ghost use Rattle.std.specs.Prelude.{◌≡◌, ◌≤◌, ◌++◌, ◌∷◌, [], ℕ, List, false, length, option_to_list};
 ghost use Rattle.csv.specs.Records.{fields_of};
-ghost use Rattle.register_sheets.specs.Choices.{date_limit, date_text};
-ghost use Rattle.register_sheets.specs.DateStops.{IsStopOf, NameStop as SeenName, SheetDate, name_in};
+ghost use Rattle.register_sheets.specs.Choices.{date_limit};
+ghost use Rattle.register_sheets.specs.DateStops.{NameStop as SeenName, SheetDate, name_in};
 ghost use Rattle.register_sheets.specs.SheetNotes.{HasFound, HasNotes, HasSpace, HasSpaceFor};
-ghost use Rattle.register_sheets.specs.SheetRecords.{IsRecordRead, RecordRead, date_seen, record_read};
+ghost use Rattle.register_sheets.specs.SheetRecords.{IsDateRead, IsRecordRead, RecordRead, date_seen, record_read};
 ghost use Rattle.register_sheets.specs.UnknownNames.{dates_of};
 ghost use Rattle.register_sheets.specs.UnknownViews.{HasNames, HasRoom, if_stop};
 ghost use Rattle.register_sheets.specs.declared.choices.SheetChoice.{SheetChoice as SheetChoiceValue};
@@ -13,10 +13,10 @@ ghost use Rattle.register_sheets.specs.declared.choices.SheetChoice.{SheetChoice
 use crate::choices::{DateColumn, SheetChoice};
 use crate::date_counts::SheetCounts;
 use crate::reading::field_at;
-use crate::sheet_records::{ReadDate, SheetRecord};
+use crate::sheet_records::{ColumnDates, SheetRecord};
 use crate::stopped_names::StoppedNames;
 use crate::stops::DateStop;
-use crate::unread_dates::{UnreadDates, is_emptied};
+use crate::unread_dates::{UnreadDates, is_short};
 use csv::ByteRecord;
 use std::alloc::Global;
 
@@ -81,18 +81,20 @@ impl Found {
         choice: &SheetChoice,
         column: &DateColumn,
         fields: &ByteRecord,
-        date: &ReadDate,
+        dates: &ColumnDates,
     )
         requires space { HasSpace choice.now 1 self.old }
-        requires stop { IsStopOf choice.now (column.now, fields_of fields.now) (date_seen date.now).stop }
-        requires text { (date_seen date.now).text ≡ date_text choice.now column.now (fields_of fields.now) }
+        requires read { (number : ℕ)
+            × IsDateRead choice.now number (fields_of fields.now) column.now (date_seen dates.now) }
         ensures { (dates : List SheetDate) (most : ℕ) → HasFound choice.now dates most self.old
             → HasFound choice.now (dates ++ (column.now, fields_of fields.now) ∷ []) most self.new }
     {
-        let stop = date.stop.stop();
+        let stop = dates.stop.stop();
         let field = field_at(fields, column.date as usize);
-        self.unread
-            .add(stop, is_emptied(field, date.text.as_slice()));
+        let first = dates.first.text.as_slice();
+        let last = dates.last().text.as_slice();
+        let is_short = is_short(field, first, last, dates.marks);
+        self.unread.add(stop, is_short);
         self.add_name(stop);
     }
 
@@ -105,8 +107,7 @@ impl Found {
     {
         let dates = choice.dates;
         'dates: for place in 0..dates.len() {
-            let date = &of_sheet.columns[place].first;
-            self.add_date(choice, &dates[place], &of_sheet.fields, date);
+            self.add_date(choice, &dates[place], &of_sheet.fields, &of_sheet.columns[place]);
         }
     }
 }

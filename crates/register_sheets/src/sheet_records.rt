@@ -1,20 +1,42 @@
 //! What is read of a record of a sheet: its number, its own fields, and its dates.
 
-ghost use Rattle.std.specs.Prelude.{◌≡◌, ◌≤◌, IfOk, OnOk, length};
+ghost use Rattle.std.specs.Prelude.{◌≡◌, ◌≤◌, IfOk, OnOk, length, option_map};
 ghost use Rattle.csv.specs.Records.{fields_of};
 ghost use Rattle.register_records.specs.Entries.{record_limit};
-ghost use Rattle.register_sheets.specs.SheetRecords.{IsDateRead, IsRecordRead, date_seen, record_read, stop_read};
+ghost use Rattle.register_records.specs.Outcomes.{IsRowOf};
+ghost use Rattle.register_records.specs.Seen.{outcome_seen};
+ghost use Rattle.register_records.specs.Views.{row_seen};
+ghost use Rattle.register_sheets.specs.Choices.{asked_targets};
+ghost use Rattle.register_sheets.specs.DateEnds.{AreEndsBy, IsEdtfOf, asks_edtf as asks_spec, end_text};
+ghost use Rattle.register_sheets.specs.DateEnds.{has_edtf as has_spec, is_failed, is_open};
+ghost use Rattle.register_sheets.specs.DateEnds.{sense_of as sense_spec, telling as telling_spec, told};
+ghost use Rattle.register_sheets.specs.DateViews.{HasRows, entry_of};
+ghost use Rattle.register_sheets.specs.SheetRecords.{IsDateRead, IsRecordRead, date_seen, dated_seen, end_seen};
+ghost use Rattle.register_sheets.specs.SheetRecords.{record_read, stop_read};
+ghost use Rattle.std.specs.Result.{result_ok};
 ghost use Rattle.register_sheets.specs.UnknownViews.{if_stop};
 
-use crate::choices::{DateColumn, SheetSetup};
+use crate::choices::{DateColumn, End, SheetChoice, SheetSetup, Spans};
+use crate::reading::field_at;
 use crate::reasons::Reason;
-use crate::register_fields::{calendar_of, id_of, put_date};
+use crate::register_fields::{calendar_of, id_of};
 use crate::stops::{DateStop, NameStop, stop_by};
 use csv::ByteRecord;
-use date_texts::Calendar;
+use date_spans::{Kind, Marks, write_span};
+use date_texts::{Calendar, Refusal};
+use day_numbers::Day;
+use edtf_texts::{Sense, write_edtf};
 use itoa::Buffer;
 use register_records::{Entry, Row};
 use std::alloc::{AllocError, Global};
+use written_dates::write_date;
+
+/// The marks of a date.
+const DAY_MARKS: Marks = Marks {
+    kind: Kind::One,
+    about: false,
+    uncertain: false,
+};
 
 /// What kind of thing stopped a date.
 #[derive(Clone, Copy)]
@@ -32,19 +54,24 @@ pub(crate) struct ReadStop {
     name: Vec<u8>,
 }
 
-/// A date of a record: the calendar and the text that a register has of it, what stopped it, and its row.
+/// The first or the last day of a date: its text, and its row.
 #[derive(Drop)]
-pub(crate) struct ReadDate {
-    pub calendar: Vec<u8>,
+pub(crate) struct ReadEnd {
     pub text: Vec<u8>,
-    pub stop: ReadStop,
     pub row: Row,
 }
 
-/// The dates that a column has of a record.
+/// The date of a record in a column: the calendar that a register has of it, what stopped it, and its first and last day.
 #[derive(Drop)]
 pub(crate) struct ColumnDates {
-    pub first: ReadDate,
+    pub calendar: Vec<u8>,
+    pub stop: ReadStop,
+    pub first: ReadEnd,
+    // The last day, where its text is another than that of the first.
+    pub last: ReadEnd,
+    pub has_last: bool,
+    pub marks: Marks,
+    pub edtf: Vec<u8>,
 }
 
 /// A record of a sheet, in memory that serves again.
@@ -102,14 +129,199 @@ impl ReadStop {
     }
 }
 
-impl ReadDate {
-    /// A date before any was read.
-    fn blank(alloc: Global) -> ReadDate {
-        ReadDate {
-            calendar: Vec::new(alloc),
+impl ReadEnd {
+    /// An end before any was read.
+    fn blank(alloc: Global) -> ReadEnd {
+        ReadEnd {
             text: Vec::new(alloc),
-            stop: ReadStop::none(alloc),
             row: Row::blank(),
+        }
+    }
+
+    /// Makes the row that of the entry with this text.
+    fn convert(&mut self, setup: &SheetSetup, number: u32, id: &[u8], calendar: &[u8])
+        requires from_one { 1 ≤ number }
+        requires limited { number ≤ record_limit }
+        ensures text { self.new.text ≡ self.old.text }
+        ensures row { IsRowOf (asked_targets setup.now.choice.columns.now)
+            (entry_of number id.now calendar.now self.old.text.items) (row_seen self.new.row) }
+    {
+        let Some(entry) = Entry::of_fields(number, id, calendar, self.text.as_slice()) else {
+            unreachable!()
+        };
+        self.row.renew(&entry, setup.setup());
+    }
+
+    /// Whether no date is written there.
+    fn is_open(&self) -> bool
+        ensures { result ≡ is_open (end_seen self.now) }
+    {
+        self.text.is_empty()
+    }
+
+    /// Whether a date is written there, and was refused.
+    fn is_failed(&self) -> bool
+        ensures { result ≡ is_failed (end_seen self.now) }
+    {
+        self.row.outcome().is_err() && !self.is_open()
+    }
+}
+
+/// The end that tells whether a date was refused.
+fn telling<'a>(first: &'a ReadEnd, last: &'a ReadEnd) -> &'a ReadEnd
+    ensures { end_seen result.now ≡ telling_spec (end_seen first.now) (end_seen last.now) }
+{
+    if first.is_failed() {
+        first
+    } else if last.is_failed() {
+        last
+    } else if first.is_open() {
+        last
+    } else {
+        first
+    }
+}
+
+/// The day of an outcome.
+fn day_of(outcome: Result<Day, Refusal>) -> Option<Day>
+    ensures { option_map (λ day. day.number) result ≡ result_ok (outcome_seen outcome) }
+{
+    match outcome {
+        Ok(day) => Some(day),
+        Err(_) => None,
+    }
+}
+
+/// Whether the text of EDTF is asked.
+fn asks_edtf(spans: Spans) -> bool
+    ensures { result ≡ asks_spec spans }
+{
+    matches!(spans, Spans::EndsAndEdtf)
+}
+
+/// How EDTF has what marks say.
+fn sense_of(marks: Marks) -> Sense
+    ensures { result ≡ sense_spec marks }
+{
+    Sense {
+        one_of: !matches!(marks.kind, Kind::Range),
+        about: marks.about,
+        uncertain: marks.uncertain,
+    }
+}
+
+impl ColumnDates {
+    /// What a column has before any date was read.
+    fn blank(alloc: Global) -> ColumnDates {
+        ColumnDates {
+            calendar: Vec::new(alloc),
+            stop: ReadStop::none(alloc),
+            first: ReadEnd::blank(alloc),
+            last: ReadEnd::blank(alloc),
+            has_last: false,
+            marks: DAY_MARKS,
+            edtf: Vec::new(alloc),
+        }
+    }
+
+    /// The last day.
+    pub fn last(&self) -> &ReadEnd
+        ensures { end_seen result.now ≡ (dated_seen self.now).last }
+    {
+        if self.has_last {
+            &self.last
+        } else {
+            &self.first
+        }
+    }
+
+    /// One of both.
+    pub fn end(&self, end: End) -> &ReadEnd
+        ensures { (end_seen result.now).text
+            ≡ end_text end (dated_seen self.now).first.text (dated_seen self.now).last.text }
+    {
+        match end {
+            End::First => &self.first,
+            End::Last => self.last(),
+        }
+    }
+
+    /// The end that tells whether the date was refused.
+    pub fn told(&self) -> &ReadEnd
+        ensures { (end_seen result.now).row ≡ told (dated_seen self.now) }
+    {
+        telling(&self.first, self.last())
+    }
+
+    /// Writes the first and the last day that a field can mean, as date texts of registers.
+    fn put_ends(
+        &mut self,
+        choice: &SheetChoice,
+        called: Option<Calendar>,
+        field: &[u8],
+    ) -> Result<(), AllocError>
+        ensures ends { OnOk result (AreEndsBy choice.now.spans choice.now.reading called choice.now.names.now.listed.now
+            field.now (dated_seen self.new).first.text (dated_seen self.new).last.text self.new.marks) }
+        ensures calendar { self.new.calendar ≡ self.old.calendar }
+    {
+        match choice.spans {
+            Spans::Unread => {
+                self.has_last = false;
+                self.marks = DAY_MARKS;
+                self.first.text.clear();
+                write_date(&mut self.first.text, field, called, choice.names, &choice.reading)
+            }
+            _ => {
+                self.marks = write_span(
+                    &mut self.first.text,
+                    &mut self.last.text,
+                    field,
+                    called,
+                    choice.names,
+                    &choice.reading,
+                )?;
+                self.has_last = self.first.text.as_slice() != self.last.text.as_slice();
+                Ok(())
+            }
+        }
+    }
+
+    /// Whether the text of EDTF is asked, and no date was refused.
+    fn has_edtf(&self, spans: Spans) -> bool
+        ensures { result ≡ has_spec spans (dated_seen self.now).first (dated_seen self.now).last }
+    {
+        asks_edtf(spans) && !self.first.is_failed() && !self.last().is_failed()
+    }
+
+    /// Writes the text of EDTF, where it is asked and no date was refused.
+    fn put_edtf(&mut self, spans: Spans) -> Result<(), AllocError>
+        ensures edtf { OnOk result (IsEdtfOf spans (dated_seen self.new)) }
+        ensures calendar { self.new.calendar ≡ self.old.calendar }
+        ensures stop { self.new.stop ≡ self.old.stop }
+        ensures first { (dated_seen self.new).first ≡ (dated_seen self.old).first }
+        ensures last { (dated_seen self.new).last ≡ (dated_seen self.old).last }
+        ensures marks { self.new.marks ≡ self.old.marks }
+    {
+        let has_edtf = self.has_edtf(spans);
+        self.edtf.clear();
+        if !has_edtf {
+            return Ok(());
+        }
+        let first = day_of(self.first.row.outcome());
+        let last = day_of(self.last().row.outcome());
+        write_edtf(&mut self.edtf, first, last, sense_of(self.marks))
+    }
+
+    /// Makes the rows those of the entries with these texts.
+    fn convert(&mut self, setup: &SheetSetup, number: u32, id: &[u8])
+        requires from_one { 1 ≤ number }
+        requires limited { number ≤ record_limit }
+        ensures rows { HasRows setup.now.choice number id.now self.old self.new }
+    {
+        let calendar = self.calendar.as_slice();
+        self.first.convert(setup, number, id, calendar);
+        if self.has_last {
+            self.last.convert(setup, number, id, calendar);
         }
     }
 
@@ -124,21 +336,19 @@ impl ReadDate {
         requires from_one { 1 ≤ number }
         requires limited { number ≤ record_limit }
         ensures { OnOk result
-            (IsDateRead setup.now.choice column.now number (fields_of fields.now) (date_seen self.new)) }
+            (IsDateRead setup.now.choice number (fields_of fields.now) column.now (date_seen self.new)) }
     {
         let choice = &setup.choice;
-        let mut buffer = Buffer::new();
-        let id = id_of(choice.id, buffer.format(number).as_bytes(), fields);
         let (calendar, called) = calendar_of(choice.calendars, column.calendar, fields);
         copy_text(&mut self.calendar, calendar)?;
-        put_date(&mut self.text, choice, column, called, fields)?;
-        let stop = stop_by(choice, column, called, fields, self.text.as_slice());
+        let field = field_at(fields, column.date as usize);
+        self.put_ends(choice, called, field)?;
+        let stop = stop_by(choice, column, called, fields, self.first.text.as_slice());
         self.stop.renew(stop)?;
-        let Some(entry) = Entry::of_fields(number, id, calendar, self.text.as_slice()) else {
-            unreachable!()
-        };
-        self.row.renew(&entry, setup.setup());
-        Ok(())
+        let mut buffer = Buffer::new();
+        let id = id_of(choice.id, buffer.format(number).as_bytes(), fields);
+        self.convert(setup, number, id);
+        self.put_edtf(choice.spans)
     }
 }
 
@@ -149,9 +359,7 @@ impl SheetRecord {
     {
         let mut columns = Vec::new(alloc);
         'columns: for _ in 0..count {
-            columns.push(ColumnDates {
-                first: ReadDate::blank(alloc),
-            })?;
+            columns.push(ColumnDates::blank(alloc))?;
         }
         Ok(SheetRecord {
             number: 0,
@@ -173,9 +381,7 @@ impl SheetRecord {
         self.number = number;
         let dates = setup.choice.dates;
         'dates: for place in 0..dates.len() {
-            self.columns[place]
-                .first
-                .renew(setup, &dates[place], number, &self.fields)?;
+            self.columns[place].renew(setup, &dates[place], number, &self.fields)?;
         }
         Ok(())
     }

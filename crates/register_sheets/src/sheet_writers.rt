@@ -4,11 +4,11 @@ ghost use Rattle.std.specs.Prelude.{◌≡◌, ◌∷◌, [], IfOk, length};
 ghost use Rattle.register_sheets.specs.LineWriters.{Waits};
 ghost use Rattle.register_sheets.specs.Registers.{register_head};
 ghost use Rattle.register_sheets.specs.SheetNotes.{HasNotes, HasSpaceFor};
-ghost use Rattle.register_sheets.specs.SheetReadings.{AreRegisterWriters, Takes};
+ghost use Rattle.register_sheets.specs.SheetReadings.{AreRegisterWriters, Takes, entry_maker as maker_spec};
 ghost use Rattle.register_sheets.specs.SheetRecords.{IsRecordRead, record_read};
 ghost use Rattle.register_sheets.specs.declared.choices.SheetChoice.{SheetChoice as SheetChoiceValue};
 
-use crate::choices::SheetSetup;
+use crate::choices::{End, SheetSetup};
 use crate::line_writers::{LineWriter, take_each};
 use crate::record_lines::{EntryLine, RecordLine};
 use crate::sheet_notes::SheetNotes;
@@ -24,45 +24,58 @@ pub(crate) struct SheetWriters<M> {
     pub registers: Vec<LineWriter<EntryLine>>,
 }
 
-/// A writer of the register of the column of dates at a place, whose header waits in it.
-fn register_writer(alloc: Global, delimiter: u8, place: usize) -> LineWriter<EntryLine>
-    ensures place { result.maker.place ≡ place }
+/// A writer of a register of a column of dates, whose header waits in it.
+fn register_writer(alloc: Global, delimiter: u8, maker: EntryLine) -> LineWriter<EntryLine>
+    ensures maker { result.maker ≡ maker }
     ensures waits { Waits delimiter (register_head ∷ []) result }
 {
-    LineWriter::headed(
-        alloc,
-        EntryLine { place },
-        delimiter,
-        &[b"id", b"calendar", b"date"],
-    )
+    LineWriter::headed(alloc, maker, delimiter, &[b"id", b"calendar", b"date"])
 }
 
-/// Writers of the registers of the first columns of dates, so many.
+/// What the writer of the register at a place makes, of a sheet with so many columns of dates.
+fn entry_maker(columns: usize, place: usize) -> EntryLine
+    ensures { result ≡ maker_spec columns place }
+{
+    if place < columns {
+        EntryLine {
+            place,
+            end: End::First,
+        }
+    } else {
+        EntryLine {
+            place: place - columns,
+            end: End::Last,
+        }
+    }
+}
+
+/// Writers of the first registers, so many, of a sheet with so many columns of dates.
 pub(crate) fn register_writers(
     alloc: Global,
     delimiter: u8,
+    columns: usize,
     count: usize,
 ) -> Result<Vec<LineWriter<EntryLine>>, AllocError>
-    ensures { IfOk result (λ writers. AreRegisterWriters delimiter count writers.items) }
+    ensures { IfOk result (λ writers. AreRegisterWriters delimiter columns count writers.items) }
 {
     let mut writers = Vec::new(alloc);
     'columns: for place in 0..count {
-        writers.push(register_writer(alloc, delimiter, place))?;
+        writers.push(register_writer(alloc, delimiter, entry_maker(columns, place)))?;
     }
     Ok(writers)
 }
 
 impl SheetWriters<EntryLine> {
-    /// A writer of the register of the column of dates at a place, and no other.
-    pub fn of_register(alloc: Global, place: usize, delimiter: u8) -> SheetWriters<EntryLine>
+    /// A writer of a register of a column of dates, and no other.
+    pub fn of_register(alloc: Global, maker: EntryLine, delimiter: u8) -> SheetWriters<EntryLine>
         ensures notes { (choice : SheetChoiceValue) → HasNotes choice [] 0 result.notes }
-        ensures place { result.sheet.maker.place ≡ place }
+        ensures maker { result.sheet.maker ≡ maker }
         ensures waits { Waits delimiter (register_head ∷ []) result.sheet }
         ensures none { result.registers.items ≡ [] }
     {
         SheetWriters {
             notes: SheetNotes::none(alloc, 0),
-            sheet: register_writer(alloc, delimiter, place),
+            sheet: register_writer(alloc, delimiter, maker),
             registers: Vec::new(alloc),
         }
     }
@@ -74,7 +87,7 @@ impl SheetWriters<EntryLine> {
     {
         SheetWriters {
             notes: SheetNotes::none(alloc, most),
-            sheet: LineWriter::stopped(alloc, EntryLine { place: 0 }),
+            sheet: LineWriter::stopped(alloc, entry_maker(1, 0)),
             registers: Vec::new(alloc),
         }
     }

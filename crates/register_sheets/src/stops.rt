@@ -3,8 +3,7 @@
 ghost use Rattle.std.specs.Prelude.{◌≡◌, ◌≢◌, ◌↔◌, [], true};
 ghost use Rattle.csv.specs.Records.{fields_of};
 ghost use Rattle.written_dates.specs.Fields.{without_blanks as without_spec};
-ghost use Rattle.register_sheets.specs.Choices.{date_text};
-ghost use Rattle.register_sheets.specs.DateStops.{IsNoDate, IsStopBy, IsStopIn, StaysWritten, called_for, calendar_field};
+ghost use Rattle.register_sheets.specs.DateStops.{IsNoDate, IsStopBy, IsStopIn, StaysWritten, calendar_field};
 ghost use Rattle.register_sheets.specs.DateStops.{calendar_stop as calendar_spec, text_stop as text_spec};
 ghost use Rattle.register_sheets.specs.UnknownNames.{is_alike, is_same};
 ghost use Rattle.register_sheets.specs.UnknownViews.{if_stop, name_seen, stop_seen};
@@ -130,7 +129,8 @@ fn calendar_stop(column: CalendarField, record: &ByteRecord) -> DateStop<'_>
     })
 }
 
-/// What stops the date of a record in a column: its calendar is the one called, and this is written for it.
+/// What stops the date of a record in a column: its calendar is the one called, and this is written for it, or for its
+/// first day.
 pub(crate) fn stop_by<'a>(
     choice: &SheetChoice,
     column: &DateColumn,
@@ -138,9 +138,7 @@ pub(crate) fn stop_by<'a>(
     record: &'a ByteRecord,
     date: &[u8],
 ) -> Option<DateStop<'a>>
-    requires called { called ≡ called_for choice.now column.now (fields_of record.now) }
-    requires date { date.now ≡ date_text choice.now column.now (fields_of record.now) }
-    ensures { IsStopBy choice.now column.now (fields_of record.now) called (if_stop result) }
+    ensures { IsStopBy choice.now column.now (fields_of record.now) date.now called (if_stop result) }
 {
     let field = field_at(record, column.date as usize);
     match called {

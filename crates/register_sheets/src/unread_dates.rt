@@ -1,10 +1,11 @@
 //! The dates of a sheet that were not read.
 
 ghost use Rattle.std.specs.Prelude.{◌≡◌, if◌then◌else◌};
-ghost use Rattle.register_sheets.specs.UnknownNames.{is_emptied};
+ghost use Rattle.register_sheets.specs.UnknownNames.{is_beside as beside_spec, is_emptied, is_short_by};
 
 use crate::reasons::ReasonCounts;
 use crate::stops::DateStop;
+use date_spans::{Kind, Marks};
 
 /// How many dates of a sheet were not read.
 #[repr(C)]
@@ -19,10 +20,24 @@ pub struct UnreadDates {
 }
 
 /// Whether nothing is written for a field that is not empty.
-pub(crate) fn is_emptied(field: &[u8], date: &[u8]) -> bool
+fn is_emptied(field: &[u8], date: &[u8]) -> bool
     ensures { result ≡ is_emptied field.now date.now }
 {
     !field.is_empty() && date.is_empty()
+}
+
+/// Whether the words say that the day lies before a date, or after it.
+fn is_beside(kind: Kind) -> bool
+    ensures { result ≡ beside_spec kind }
+{
+    matches!(kind, Kind::Before | Kind::After)
+}
+
+/// Whether both ends of a field are left empty, as its year is short.
+pub(crate) fn is_short(field: &[u8], first: &[u8], last: &[u8], marks: Marks) -> bool
+    ensures { result ≡ is_short_by field.now first.now last.now marks }
+{
+    is_emptied(field, first) && is_emptied(field, last) && !is_beside(marks.kind)
 }
 
 impl UnreadDates {

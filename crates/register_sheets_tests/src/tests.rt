@@ -4,13 +4,14 @@
 mod counts;
 mod dates;
 mod meanings;
+mod spans;
 mod table;
 
 use date_texts::{Calendar, Target};
 use register_records::PlainOutput;
 use register_sheets::{
     AskedColumn, CalendarField, DateColumn, IdField, ReasonCounts, SheetCause, SheetChoice,
-    SheetEnd, SheetSetup, Unknown, UnreadDates, convert_sheet, unknown_names,
+    SheetEnd, SheetSetup, Spans, Unknown, UnreadDates, convert_sheet, unknown_names,
 };
 use std::alloc::Global;
 use std::test::Fail;
@@ -74,6 +75,7 @@ fn converted_by(
         id: IdField::Number,
         dates: &ONE_DATE,
         columns: &COLUMNS,
+        spans: Spans::Unread,
         headings: &HEADINGS,
         reading: READING,
         names: &known.names,
@@ -132,6 +134,7 @@ fn unknown_by(
         id: IdField::Number,
         dates: &ONE_DATE,
         columns: &COLUMNS,
+        spans: Spans::Unread,
         headings: &HEADINGS,
         reading: READING,
         names: &known.names,

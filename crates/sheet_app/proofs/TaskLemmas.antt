@@ -26,12 +26,15 @@ use Rattle.register_records.specs.Entries.{Fields, text_records}
 use Rattle.register_records.specs.SetupRules.{NamesTwice, is_delimiter}
 use Rattle.register_sheets.specs.AskedOfSheets.{HasHeadings, IsChoice, IsChoiceOf, SheetAsked}
 use Rattle.register_sheets.specs.Choices.{AsksOnce, asked_targets, asks_twice, column_limit, date_limit}
-use Rattle.register_sheets.specs.Choices.{is_day_number, is_weekday}
-use Rattle.register_sheets.specs.Headings.{AreHeadings, asked_name, asked_names, wanted_for, wanted_heading}
+use Rattle.register_sheets.specs.Choices.{added_each, is_day_number, is_weekday}
+use Rattle.register_sheets.specs.Headings.{AreHeadings, asked_behind, asked_name, asked_names, column_names}
+use Rattle.register_sheets.specs.Headings.{wanted_for, wanted_heading}
 use Rattle.register_sheets.specs.declared.choices.AskedColumn.{AskedColumn}
 use Rattle.register_sheets.specs.declared.choices.AskedColumn.TheVariants.{Cells, DayNumber, Weekday}
 use Rattle.register_sheets.specs.declared.choices.DateColumn.{DateColumn}
 use Rattle.register_sheets.specs.declared.choices.SheetChoice.{SheetChoice}
+use Rattle.register_sheets.specs.declared.choices.Spans.{Spans}
+use Rattle.register_sheets.specs.declared.choices.Spans.TheVariants as spans
 use Rattle.sheet_arguments.specs.CommandLine.{Values}
 use Rattle.sheet_arguments.specs.Faults.{Fault, column_twice, unknown_column}
 use Rattle.sheet_arguments.specs.Requests.{Ask, Task}
@@ -230,15 +233,34 @@ headings_long taken (name ∷ wanted) [] are = absurd are
 headings_long taken (name ∷ wanted) (heading ∷ headings) are =
     ap suc (headings_long (taken ++ heading ∷ []) wanted headings are.1)
 
-wanted_long : (several : Bool) (own : Fields) (columns : List AskedColumn) (dates : List DateColumn)
-    → length (flat_map (wanted_for several own columns) dates) ≡ length dates * (length columns + 1)
-wanted_long several own columns [] = omega arith
-wanted_long several own columns (date ∷ dates) =
-    let rest = wanted_long several own columns dates in
-    let here : length (wanted_for several own columns date) ≡ length columns + 1
-    = length-map (asked_names columns) (wanted_heading several (get_or own date.date []))
-    ∙ length-append (map asked_name columns) (codes "refusal" ∷ []) ∙ ap (λ n. n + 1) (length-map columns asked_name) in
-    length-append (wanted_for several own columns date) (flat_map (wanted_for several own columns) dates)
+both_ends : (columns : List AskedColumn)
+    → length (map (asked_behind (codes "first")) columns ++ map (asked_behind (codes "last")) columns)
+    ≡ length columns + length columns
+both_ends columns =
+    length-append (map (asked_behind (codes "first")) columns) (map (asked_behind (codes "last")) columns)
+    ∙ ap (λ n. n + length (map (asked_behind (codes "last")) columns)) (length-map columns (asked_behind (codes "first")))
+    ∙ ap (λ n. length columns + n) (length-map columns (asked_behind (codes "last")))
+
+names_long : (kind : Spans) (columns : List AskedColumn)
+    → length (asked_names kind columns) ≡ added_each kind (length columns)
+names_long spans.Unread columns =
+    length-append (map asked_name columns) (codes "refusal" ∷ []) ∙ ap (λ n. n + 1) (length-map columns asked_name)
+names_long spans.Ends columns =
+    length-append (column_names spans.Ends columns) (codes "mark" ∷ codes "refusal" ∷ [])
+    ∙ ap (λ n. n + 2) (both_ends columns)
+names_long spans.EndsAndEdtf columns =
+    length-append (column_names spans.EndsAndEdtf columns) (codes "edtf" ∷ codes "mark" ∷ codes "refusal" ∷ [])
+    ∙ ap (λ n. n + 3) (both_ends columns)
+
+wanted_long : (several : Bool) (own : Fields) (kind : Spans) (columns : List AskedColumn) (dates : List DateColumn)
+    → length (flat_map (wanted_for several own kind columns) dates) ≡ length dates * added_each kind (length columns)
+wanted_long several own kind columns [] = omega arith
+wanted_long several own kind columns (date ∷ dates) =
+    let rest = wanted_long several own kind columns dates in
+    let here : length (wanted_for several own kind columns date) ≡ added_each kind (length columns)
+    = length-map (asked_names kind columns) (wanted_heading several (get_or own date.date []))
+    ∙ names_long kind columns in
+    length-append (wanted_for several own kind columns date) (flat_map (wanted_for several own kind columns) dates)
     ∙ grind (arith, here, rest)
 
 pub is_choice : (task : Task) (names headings : Fields) (asked : SheetAsked) (sheet : List ℕ) (in_dates : List Name)
@@ -250,7 +272,7 @@ is_choice task names headings asked sheet in_dates of_calendars choice task_is i
     let made : length choice.headings.now ≡ length headings
     = sym (length-map choice.headings.now (λ (heading : Bor (List ℕ)). heading.now)) ∙ ap length of.headings_are in
     let long = headings_long own _ headings headed in
-    let wanted = wanted_long (nat_lt 1 (length asked.dates)) own asked.columns asked.dates in
+    let wanted = wanted_long (nat_lt 1 (length asked.dates)) own asked.spans asked.columns asked.dates in
     let some : (length task.dates == 0) ≡ false = task_is.some_dates in
     let few : nat_lt date_limit (length task.dates) ≡ false = task_is.few_dates in
     record {
@@ -258,7 +280,8 @@ is_choice task names headings asked sheet in_dates of_calendars choice task_is i
       once = once task_is.list task.columns choice task_is.columns (of.columns ∙ is.columns);
       delimited = rw (of.delimiter ∙ is.delimiter) task_is.delimited;
       headed = made ∙ long ∙ wanted
-          ∙ ap₂ (λ (m n : ℕ). m * (n + 1)) (sym (ap length of.dates)) (sym (ap length of.columns));
+          ∙ ap₂ (λ (m n : ℕ). m * added_each asked.spans n) (sym (ap length of.dates)) (sym (ap length of.columns))
+          ∙ ap (λ (kind : Spans). length choice.dates.now * added_each kind (length choice.columns.now)) (sym of.spans);
     }
 
 delimiter_is : (value : Option Text) (byte : ℕ) → IsValueOf delimiter_option value byte → is_delimiter byte ≡ true

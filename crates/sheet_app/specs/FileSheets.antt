@@ -8,6 +8,8 @@ use Rattle.register_files.specs.Openings.{IsNewlyMade}
 use Rattle.register_files.specs.OutputNames.{AreTwoOutputs, IsApartFrom}
 use Rattle.register_files.specs.Places.{place_name}
 use Rattle.register_records.specs.declared.outputs.Output as outputs
+use Rattle.register_sheets.specs.declared.choices.Spans.{Spans}
+use Rattle.register_sheets.specs.declared.choices.Spans.TheVariants as spans
 use Rattle.sheet_arguments.specs.Requests.{Task}
 use Rattle.sheet_app.specs.declared.file_sheets.FileSheet.{FileSheet}
 use Rattle.sheet_app.specs.declared.file_sheets.OpenedFile.{OpenedFile}
@@ -16,15 +18,26 @@ use Rattle.sheet_app.specs.declared.file_sheets.OpenedFile.{OpenedFile}
 abbrev pub ending_of : Task → List ℕ
 ending_of task = if task.unknown then codes ".unknown.csv" else codes ".dates.csv"
 
--- and that of the register of a column of dates, where there are several
-abbrev pub register_ending : ℕ → List ℕ
-register_ending number = codes ".register." ++ (decimal number ++ codes ".csv")
+-- and that of the register of a column of dates, where there are several; a part says which of its registers it is
+abbrev pub register_ending : List ℕ → ℕ → List ℕ
+register_ending part number = part ++ (codes ".register." ++ (decimal number ++ codes ".csv"))
+
+-- those of a part of the registers of so many columns of dates
+abbrev pub part_endings : List ℕ → ℕ → List (List ℕ)
+part_endings part columns =
+    if columns == 1 then (part ++ codes ".register.csv") ∷ []
+    else map (register_ending part) (range_with_len 1 columns)
+
+-- the registers of all columns: with spans, those of the first days, and then those of the last days
+abbrev pub endings_by : Spans → ℕ → List (List ℕ)
+endings_by spans.Unread columns = part_endings [] columns
+endings_by spans.Ends columns = part_endings (codes ".first") columns ++ part_endings (codes ".last") columns
+endings_by spans.EndsAndEdtf columns = part_endings (codes ".first") columns ++ part_endings (codes ".last") columns
 
 -- the registers of a sheet: none unless they are asked for, and with a list of names that are not known none
 abbrev pub register_endings : Task → List (List ℕ)
 register_endings task =
-    if task.register && not task.unknown then (if length task.dates == 1 then codes ".register.csv" ∷ []
-    else map register_ending (range_with_len 1 (length task.dates))) else []
+    if task.register && not task.unknown then endings_by task.spans (length task.dates) else []
 
 -- the names of a sheet's outputs, which end so: its own, and those of its registers
 abbrev pub names_ending : {X : Type 0} → List ℕ → (X → List ℕ) → List X → Text → List Text

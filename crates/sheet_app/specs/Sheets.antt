@@ -54,6 +54,7 @@ pub record IsAskedOf (task : Task) (names : Fields) (asked : SheetAsked) : Type 
   pub above : asked.above ≡ task.skip
   pub id : IsIdField names task.id asked.id
   pub reading : asked.reading ≡ task.reading
+  pub spans : asked.spans ≡ task.spans
   pub dates : AreDateColumns names task asked.dates
   pub columns : asked.columns ≡ task.columns
 

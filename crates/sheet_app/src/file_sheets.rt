@@ -1,20 +1,22 @@
 //! The sheets of a command line: opens the files, and makes the outputs of each.
 
 ghost use Rattle.std.specs.Prelude.{◌≡◌, ◌++◌, ◌∷◌, [], All, AllPairs, IfErr, IfOk, IfSome, OnOk, false, flat_map, map};
-ghost use Rattle.std.specs.Prelude.{option_map};
+ghost use Rattle.std.specs.Prelude.{codes, option_map};
 ghost use Rattle.std.specs.List.{AllZip, range_with_len};
 ghost use Rattle.std.specs.String.{string_bytes};
 ghost use Rattle.register_files.specs.OutputNames.{AreTwoOutputs, IsApartFrom};
 ghost use Rattle.register_files.specs.Places.{place_name};
 ghost use Rattle.sheet_arguments.specs.Requests.{task_of};
 ghost use Rattle.sheet_app.specs.FileSheets.{AreApartOutputs, IsMadeFor, IsNewSheet, IsNoInput, ending_of, names_ending};
-ghost use Rattle.sheet_app.specs.FileSheets.{register_ending, register_endings, sheet_name, source_name};
+ghost use Rattle.sheet_app.specs.FileSheets.{endings_by as endings_spec, part_endings, register_ending};
+ghost use Rattle.sheet_app.specs.FileSheets.{register_endings, sheet_name, source_name};
 ghost use Rattle.sheet_app.specs.ProgramFaults.{IsFaultOfFiles};
 ghost use Rattle.sheet_app.specs.SheetViews.{IsOfInputs, IsOfOutputs};
 
 use itoa::Buffer;
 use register_files::{FileStore, Place, is_of_output, share_file};
 use register_records::Output;
+use register_sheets::Spans;
 use sheet_arguments::Job;
 use std::alloc::{AllocError, Global};
 
@@ -74,24 +76,69 @@ fn ending(job: &Job) -> &'static str
 }
 
 /// What the name of the register of a column of dates ends with, where there are several.
-fn numbered_ending(alloc: Global, number: usize) -> Result<String, AllocError>
-    ensures { IfOk result (λ ending. string_bytes ending ≡ register_ending number) }
+fn numbered_ending(alloc: Global, part: &str, number: usize) -> Result<String, AllocError>
+    ensures { IfOk result (λ ending. string_bytes ending ≡ register_ending part.now number) }
 {
-    let mut ending = String::from_str(alloc, ".register.")?;
+    let mut ending = String::from_str(alloc, part)?;
+    ending.push_str(".register.")?;
     ending.push_str(Buffer::new().format(number))?;
     ending.push_str(".csv")?;
     Ok(ending)
 }
 
+/// What the name of the only register of a part ends with.
+fn lone_ending(alloc: Global, part: &str) -> Result<String, AllocError>
+    ensures { IfOk result (λ ending. string_bytes ending ≡ part.now ++ codes ".register.csv") }
+{
+    let mut ending = String::from_str(alloc, part)?;
+    ending.push_str(".register.csv")?;
+    Ok(ending)
+}
+
+/// Adds what the names of the registers of so many columns of dates end with.
+fn push_numbered(
+    alloc: Global,
+    endings: &mut Vec<String>,
+    part: &str,
+    columns: usize,
+) -> Result<(), AllocError>
+    ensures { OnOk result (map string_bytes endings.new.items ≡ map string_bytes endings.old.items
+        ++ map (register_ending part.now) (range_with_len 1 columns)) }
+{
+    'columns: for index in 0..columns {
+        endings.push(numbered_ending(alloc, part, index + 1)?)?;
+    }
+    Ok(())
+}
+
+/// Adds what the names of a part of the registers of so many columns of dates end with.
+fn push_endings(
+    alloc: Global,
+    endings: &mut Vec<String>,
+    part: &str,
+    columns: usize,
+) -> Result<(), AllocError>
+    ensures { OnOk result (map string_bytes endings.new.items ≡ map string_bytes endings.old.items
+        ++ part_endings part.now columns) }
+{
+    if columns != 1 {
+        return push_numbered(alloc, endings, part, columns);
+    }
+    endings.push(lone_ending(alloc, part)?)?;
+    Ok(())
+}
+
 /// What the names of the registers of so many columns of dates end with.
-fn numbered_endings(alloc: Global, columns: usize) -> Result<Vec<String>, AllocError>
-    ensures { IfOk result (λ endings. map string_bytes endings.items
-        ≡ map register_ending (range_with_len 1 columns)) }
+fn endings_by(alloc: Global, spans: Spans, columns: usize) -> Result<Vec<String>, AllocError>
+    ensures { IfOk result (λ endings. map string_bytes endings.items ≡ endings_spec spans columns) }
 {
     let mut endings = Vec::new(alloc);
-    'columns: for index in 0..columns {
-        endings.push(numbered_ending(alloc, index + 1)?)?;
+    if matches!(spans, Spans::Unread) {
+        push_endings(alloc, &mut endings, "", columns)?;
+        return Ok(endings);
     }
+    push_endings(alloc, &mut endings, ".first", columns)?;
+    push_endings(alloc, &mut endings, ".last", columns)?;
     Ok(endings)
 }
 
@@ -102,12 +149,7 @@ fn register_endings(alloc: Global, job: &Job) -> Result<Vec<String>, AllocError>
     if !(job.register && !job.unknown) {
         return Ok(Vec::new(alloc));
     }
-    if job.dates.len() == 1 {
-        let mut endings = Vec::new(alloc);
-        endings.push(String::from_str(alloc, ".register.csv")?)?;
-        return Ok(endings);
-    }
-    numbered_endings(alloc, job.dates.len())
+    endings_by(alloc, job.spans, job.dates.len())
 }
 
 /// Opens each file.

@@ -80,6 +80,7 @@ fn asked_by_names<'a>(
         above: job.skip,
         id,
         reading: job.reading,
+        spans: job.spans,
         dates,
         columns: job.columns.as_slice().to_vec(alloc)?,
     })

@@ -48,10 +48,10 @@ same_reading : (a b : Choice) → a.order ≡ b.order → a.short_years ≡ b.sh
     → a.short_hebrew_years ≡ b.short_hebrew_years → a.charters ≡ b.charters → a ≡ b
 same_reading a b order years hebrew charters = search rules
 
-same_task : (a b : Task) → a.dates ≡ b.dates → a.calendars ≡ b.calendars → a.id ≡ b.id → a.columns ≡ b.columns
+same_task : (a b : Task) → a.dates ≡ b.dates → a.calendars ≡ b.calendars → a.id ≡ b.id → a.columns ≡ b.columns → a.spans ≡ b.spans
     → a.reading ≡ b.reading → a.names ≡ b.names → a.skip ≡ b.skip → a.delimiter ≡ b.delimiter
     → a.register ≡ b.register → a.unknown ≡ b.unknown → a.summary ≡ b.summary → a.files ≡ b.files → a ≡ b
-same_task a b dates calendars id columns reading names skip delimiter register unknown summary files = search rules
+same_task a b dates calendars id columns spans reading names skip delimiter register unknown summary files = search rules
 
 -- values ask for one task at most
 one_task : (values : Values) (a b : Task) → Ask values a → Ask values b → a ≡ b
@@ -72,12 +72,13 @@ one_task values a b asked same =
     let delimiter : a.delimiter ≡ b.delimiter
     = one_asked delimiter_option one_byte values.delimiter _ _ asked.delimiter same.delimiter in
     let columns : a.columns ≡ b.columns = same_value (columns_asked values.to) _ _ asked.columns same.columns in
+    let spans : a.spans ≡ b.spans = asked.spans ∙ sym same.spans in
     let names : a.names ≡ b.names = asked.names ∙ sym same.names in
     let register : a.register ≡ b.register = asked.register ∙ sym same.register in
     let unknown : a.unknown ≡ b.unknown = asked.unknown ∙ sym same.unknown in
     let summary : a.summary ≡ b.summary = asked.summary ∙ sym same.summary in
     let files : a.files ≡ b.files = asked.files ∙ sym same.files in
-    same_task a b dates calendars id columns (same_reading a.reading b.reading order years hebrew charters) names skip
+    same_task a b dates calendars id columns spans (same_reading a.reading b.reading order years hebrew charters) names skip
     delimiter register unknown summary files
 
 -- so arguments mean one thing

@@ -3,14 +3,14 @@ use Rattle.std.specs.Prelude.{List, [], ◌∷◌, Bool, codes, fold, Option, un
 use Rattle.clap.specs.Words.{App, Row, Rule, Text, all_of, first_of, one_of, with_rule}
 use Rattle.command_lines.specs.Rules.{bare_command, files_rule, flag_rule, is_set, option_rule, repeated_rule}
 
--- the rules of the arguments: three options as often as wanted, eight with a value each, four flags, and files
+-- the rules of the arguments: three options as often as wanted, eight with a value each, six flags, and files
 abbrev pub argument_rules : List Rule
 argument_rules =
     repeated_rule (codes "date") ∷ repeated_rule (codes "calendar") ∷ repeated_rule (codes "all")
     ∷ option_rule (codes "id") ∷ option_rule (codes "order") ∷ option_rule (codes "names")
     ∷ option_rule (codes "short-years") ∷ option_rule (codes "short-hebrew-years") ∷ flag_rule (codes "charter-years")
     ∷ option_rule (codes "skip") ∷ option_rule (codes "delimiter") ∷ option_rule (codes "to")
-    ∷ flag_rule (codes "register") ∷ flag_rule (codes "unknown") ∷ flag_rule (codes "summary")
+    ∷ flag_rule (codes "spans") ∷ flag_rule (codes "edtf") ∷ flag_rule (codes "register") ∷ flag_rule (codes "unknown") ∷ flag_rule (codes "summary")
     ∷ files_rule (codes "file") ∷ []
 
 -- the command line: the command with all arguments
@@ -31,6 +31,8 @@ pub record Values : Type 0 where
   pub skip : Option Text
   pub delimiter : Option Text
   pub to : Option Text
+  pub spans : Bool
+  pub edtf : Bool
   pub register : Bool
   pub unknown : Bool
   pub summary : Bool
@@ -51,6 +53,8 @@ values_of found = record {
   skip = first_of (codes "skip") found;
   delimiter = first_of (codes "delimiter") found;
   to = first_of (codes "to") found;
+  spans = is_set (one_of (codes "spans") found);
+  edtf = is_set (one_of (codes "edtf") found);
   register = is_set (one_of (codes "register") found);
   unknown = is_set (one_of (codes "unknown") found);
   summary = is_set (one_of (codes "summary") found);

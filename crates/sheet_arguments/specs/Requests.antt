@@ -9,6 +9,8 @@ use Rattle.command_lines.specs.Meanings.{Check, CommandLine, Meaning, file_check
 use Rattle.command_lines.specs.Values.{IsValueOf, delimiter_option}
 use Rattle.register_sheets.specs.Choices.{date_limit}
 use Rattle.register_sheets.specs.declared.choices.AskedColumn.{AskedColumn}
+use Rattle.register_sheets.specs.declared.choices.Spans.{Spans}
+use Rattle.register_sheets.specs.declared.choices.Spans.TheVariants as spans_of
 use Rattle.written_dates.specs.declared.written.Choice.{Choice}
 use Rattle.sheet_arguments.specs.CommandLine.{Values, command_line, values_of}
 use Rattle.sheet_arguments.specs.Faults.{Fault, bad_short_hebrew_years, bad_short_years, bad_skip, calendar_count}
@@ -38,6 +40,7 @@ pub record Task : Type 0 where
   pub calendars : CalendarsWanted
   pub id : Option Text
   pub columns : List AskedColumn
+  pub spans : Spans
   pub reading : Choice
   pub names : Option Text
   pub skip : ℕ
@@ -69,6 +72,12 @@ calendars_wanted (word ∷ words) all = Ok (in_columns (word ∷ words))
 abbrev pub asks_for_registers_of_input : Values → Bool
 asks_for_registers_of_input values = values.register && (length values.files == 0)
 
+-- what becomes of dates that say no single day, by the flags for spans and for EDTF
+abbrev pub spans_asked : Bool → Bool → Spans
+spans_asked spans true = spans_of.EndsAndEdtf
+spans_asked true false = spans_of.Ends
+spans_asked false false = spans_of.Unread
+
 -- the values ask for this task
 pub record Ask (values : Values) (task : Task) : Type 0 where
   pub dates : task.dates ≡ values.dates
@@ -85,6 +94,7 @@ pub record Ask (values : Values) (task : Task) : Type 0 where
   pub skip : IsValueOf skip_option values.skip task.skip
   pub delimiter : IsValueOf delimiter_option values.delimiter task.delimiter
   pub columns : columns_asked values.to ≡ Ok task.columns
+  pub spans : task.spans ≡ spans_asked values.spans values.edtf
   pub names : task.names ≡ values.names
   pub register : task.register ≡ values.register
   pub for_files : asks_for_registers_of_input values ≡ false
@@ -149,6 +159,7 @@ task_of job = record {
   calendars = wanted_by job.calendars;
   id = option_map (λ id. id.now) job.id;
   columns = job.columns.items;
+  spans = job.spans;
   reading = job.reading;
   names = option_map (λ file. file.now) job.names;
   skip = job.skip;
@@ -180,6 +191,8 @@ values_by options = record {
   skip = option_map (λ v. v.now) options.words.skip;
   delimiter = option_map (λ v. v.now) options.words.delimiter;
   to = option_map (λ v. v.now) options.to;
+  spans = options.spans;
+  edtf = options.edtf;
   register = options.register;
   unknown = options.unknown;
   summary = options.summary;

@@ -44,9 +44,18 @@ Options:
                       calendars, haab, tzolkin. Without it:
                       weekday,gregorian. church is the Sunday or feast, in
                       Latin, that a Gregorian or Julian day is.
+    --spans           read months, years, ranges and the like too: for each
+                      date the columns come for its first day and for its
+                      last, and behind them mark, which says what else a
+                      date is: between, before, after, from, to, about,
+                      uncertain. An end that is open is empty.
+    --edtf            the same, and before mark a column edtf, with the date
+                      in the Extended Date/Time Format of ISO 8601-2.
     --register        write the register of each column of dates too, which
                       the program register takes: FILE.register.csv, and of
-                      several FILE.register.1.csv, FILE.register.2.csv ..
+                      several FILE.register.1.csv, FILE.register.2.csv ..;
+                      with --spans those of the first and of the last days,
+                      FILE.first.register.csv and FILE.last.register.csv.
     --unknown         write only a list of the names that are not known, up to
                       1000: FILE.unknown.csv. Fill it in, and give it back by
                       --names.

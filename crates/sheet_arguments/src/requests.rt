@@ -16,7 +16,7 @@ ghost use Rattle.sheet_arguments.specs.OptionValues.{short_option, skip_option};
 ghost use Rattle.sheet_arguments.specs.Requests.{Ask, MeanJust, are_misfits as misfits_spec, calendars_wanted};
 ghost use Rattle.sheet_arguments.specs.Requests.{is_misfit as misfit_spec, meaning_of, sheet_line, task_of};
 ghost use Rattle.sheet_arguments.specs.Requests.{AreSaidBy, FewDates, WordsAre, output_checks, value_checks, values_by};
-ghost use Rattle.sheet_arguments.specs.Requests.{wanted_by, word_checks};
+ghost use Rattle.sheet_arguments.specs.Requests.{spans_asked as spans_spec, wanted_by, word_checks};
 
 use crate::column_lists::chosen_columns;
 use crate::named_calendars::named_calendars;
@@ -28,7 +28,7 @@ use clap::error::ErrorKind;
 use clap::{ArgMatches, Command};
 use command_lines::{Argument, check_files, command_with, is_given, value_given, values_given};
 use date_texts::Calendar;
-use register_sheets::{AskedColumn, MAX_DATES};
+use register_sheets::{AskedColumn, MAX_DATES, Spans};
 use std::alloc::{AllocError, Global};
 use written_dates::{Choice, Order, Short};
 
@@ -36,7 +36,7 @@ use written_dates::{Choice, Order, Short};
 pub const VERSION: &str = "1.2.0";
 
 /// The options and flags, and the files.
-const ARGUMENTS: [Argument<'static>; 16] = [
+const ARGUMENTS: [Argument<'static>; 18] = [
     Argument::Repeated("date", "COLUMN"),
     Argument::Repeated("calendar", "COLUMN"),
     Argument::Repeated("all", "CALENDAR"),
@@ -49,6 +49,8 @@ const ARGUMENTS: [Argument<'static>; 16] = [
     Argument::Valued("skip", "N"),
     Argument::Valued("delimiter", "comma|semicolon|tab"),
     Argument::Valued("to", "LIST"),
+    Argument::Flag("spans"),
+    Argument::Flag("edtf"),
     Argument::Flag("register"),
     Argument::Flag("unknown"),
     Argument::Flag("summary"),
@@ -75,6 +77,8 @@ pub struct Job<'a> {
     pub id: Option<&'a str>,
     /// The columns asked for each column of dates, in order.
     pub columns: Vec<AskedColumn>,
+    /// What becomes of dates that say no single day.
+    pub spans: Spans,
     /// How dates are read.
     pub reading: Choice,
     /// The file of a list of names.
@@ -125,6 +129,8 @@ struct Options<'a> {
     words: Words<'a>,
     charter_years: bool,
     to: Option<&'a str>,
+    spans: bool,
+    edtf: bool,
     register: bool,
     unknown: bool,
     summary: bool,
@@ -172,6 +178,8 @@ fn options_found<'a>(alloc: Global, matches: &ArgMatches<'a>) -> Result<Options<
         words: words_found(matches),
         charter_years: is_given(matches, "charter-years"),
         to: value_given(matches, "to"),
+        spans: is_given(matches, "spans"),
+        edtf: is_given(matches, "edtf"),
         register: is_given(matches, "register"),
         unknown: is_given(matches, "unknown"),
         summary: is_given(matches, "summary"),
@@ -301,6 +309,17 @@ fn chosen_reading<'a>(words: &Words<'a>) -> Result<Reading, RequestFault<'a>>
     })
 }
 
+/// What becomes of dates that say no single day, by the flags for spans and for EDTF.
+fn spans_asked(spans: bool, edtf: bool) -> Spans
+    ensures { result ≡ spans_spec spans edtf }
+{
+    match (spans, edtf) {
+        (_, true) => Spans::EndsAndEdtf,
+        (true, false) => Spans::Ends,
+        (false, false) => Spans::Unread,
+    }
+}
+
 /// Finds what is wrong with the files where registers are asked for, or are not.
 ///
 /// # Errors
@@ -342,6 +361,7 @@ fn chosen_job<'a>(alloc: Global, options: Options<'a>) -> Result<Job<'a>, Reques
         calendars,
         id: options.id,
         columns,
+        spans: spans_asked(options.spans, options.edtf),
         reading: Choice {
             order: reading.order,
             short_years: reading.short_years,

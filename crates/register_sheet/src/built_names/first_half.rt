@@ -506,7 +506,43 @@ ndvierzig,43,\ndreyundvierzig,43,\ndrei und vierzig,43,\ndrey und vierzig,43,\nv
 \nfünfundvierzig,45,\nfünf und vierzig,45,\nsechsundvierzig,46,\nsechs und vierzig,46,\nsiebenundvierzig,47,\nsieben \
 und vierzig,47,\nachtundvierzig,48,\nacht und vierzig,48,\nneunundvierzig,49,\nneun und vierzig,49,\nfünfzig,50,\neinu\
 ndfünfzig,51,\nein und fünfzig,51,\nzweiundfünfzig,52,\nzweyundfünfzig,52,\nzwei und fünfzig,52,\nzwey und fünfzi\
-g,52,\n\
+g,52,\ndreiundfünfzig,53,\ndreyundfünfzig,53,\ndrei und fünfzig,53,\ndrey und fünfzig,53,\nvierundfünfzig,54,\nvie\
+r und fünfzig,54,\nfünfundfünfzig,55,\nfünf und fünfzig,55,\nsechsundfünfzig,56,\nsechs und fünfzig,56,\nsiebenu\
+ndfünfzig,57,\nsieben und fünfzig,57,\nachtundfünfzig,58,\nacht und fünfzig,58,\nneunundfünfzig,59,\nneun und fün\
+fzig,59,\nsechzig,60,\neinundsechzig,61,\nein und sechzig,61,\nzweiundsechzig,62,\nzweyundsechzig,62,\nzwei und sechzig\
+,62,\nzwey und sechzig,62,\ndreiundsechzig,63,\ndreyundsechzig,63,\ndrei und sechzig,63,\ndrey und sechzig,63,\nvierund\
+sechzig,64,\nvier und sechzig,64,\nfünfundsechzig,65,\nfünf und sechzig,65,\nsechsundsechzig,66,\nsechs und sechzig,6\
+6,\nsiebenundsechzig,67,\nsieben und sechzig,67,\nachtundsechzig,68,\nacht und sechzig,68,\nneunundsechzig,69,\nneun un\
+d sechzig,69,\nsiebzig,70,\neinundsiebzig,71,\nein und siebzig,71,\nzweiundsiebzig,72,\nzweyundsiebzig,72,\nzwei und si\
+ebzig,72,\nzwey und siebzig,72,\ndreiundsiebzig,73,\ndreyundsiebzig,73,\ndrei und siebzig,73,\ndrey und siebzig,73,\nvi\
+erundsiebzig,74,\nvier und siebzig,74,\nfünfundsiebzig,75,\nfünf und siebzig,75,\nsechsundsiebzig,76,\nsechs und sieb\
+zig,76,\nsiebenundsiebzig,77,\nsieben und siebzig,77,\nachtundsiebzig,78,\nacht und siebzig,78,\nneunundsiebzig,79,\nne\
+un und siebzig,79,\nachtzig,80,\neinundachtzig,81,\nein und achtzig,81,\nzweiundachtzig,82,\nzweyundachtzig,82,\nzwei u\
+nd achtzig,82,\nzwey und achtzig,82,\ndreiundachtzig,83,\ndreyundachtzig,83,\ndrei und achtzig,83,\ndrey und achtzig,83\
+,\nvierundachtzig,84,\nvier und achtzig,84,\nfünfundachtzig,85,\nfünf und achtzig,85,\nsechsundachtzig,86,\nsechs un\
+d achtzig,86,\nsiebenundachtzig,87,\nsieben und achtzig,87,\nachtundachtzig,88,\nacht und achtzig,88,\nneunundachtzig,8\
+9,\nneun und achtzig,89,\nneunzig,90,\neinundneunzig,91,\nein und neunzig,91,\nzweiundneunzig,92,\nzweyundneunzig,92,\n\
+zwei und neunzig,92,\nzwey und neunzig,92,\ndreiundneunzig,93,\ndreyundneunzig,93,\ndrei und neunzig,93,\ndrey und neun\
+zig,93,\nvierundneunzig,94,\nvier und neunzig,94,\nfünfundneunzig,95,\nfünf und neunzig,95,\nsechsundneunzig,96,\nsec\
+hs und neunzig,96,\nsiebenundneunzig,97,\nsieben und neunzig,97,\nachtundneunzig,98,\nacht und neunzig,98,\nneunundneun\
+zig,99,\nneun und neunzig,99,\nzwo,2,\neilf,11,\nerste,1,\nersten,1,\nerster,1,\nzweite,2,\nzweiten,2,\nzweiter,2,\nzwe\
+yte,2,\nzweyten,2,\nzweyter,2,\nzwote,2,\nzwoten,2,\nzwoter,2,\ndritte,3,\ndritten,3,\ndritter,3,\nvierte,4,\nvierten,4\
+,\nvierter,4,\nfünfte,5,\nfünften,5,\nfünfter,5,\nsechste,6,\nsechsten,6,\nsechster,6,\nsiebente,7,\nsiebenten,7,\ns\
+iebenter,7,\nsiebte,7,\nsiebten,7,\nsiebter,7,\nachte,8,\nachten,8,\nachter,8,\nneunte,9,\nneunten,9,\nneunter,9,\nzehn\
+te,10,\nzehnten,10,\nzehnter,10,\nelfte,11,\nelften,11,\nelfter,11,\neilfte,11,\neilften,11,\neilfter,11,\nzwölfte,12,\
+\nzwölften,12,\nzwölfter,12,\ndreizehnte,13,\ndreizehnten,13,\ndreizehnter,13,\ndreyzehnte,13,\ndreyzehnten,13,\ndrey\
+zehnter,13,\nvierzehnte,14,\nvierzehnten,14,\nvierzehnter,14,\nfünfzehnte,15,\nfünfzehnten,15,\nfünfzehnter,15,\nsec\
+hzehnte,16,\nsechzehnten,16,\nsechzehnter,16,\nsiebzehnte,17,\nsiebzehnten,17,\nsiebzehnter,17,\nachtzehnte,18,\nachtze\
+hnten,18,\nachtzehnter,18,\nneunzehnte,19,\nneunzehnten,19,\nneunzehnter,19,\nzwanzigste,20,\nzwanzigsten,20,\nzwanzigs\
+ter,20,\neinundzwanzigste,21,\neinundzwanzigsten,21,\neinundzwanzigster,21,\nein und zwanzigste,21,\nein und zwanzigste\
+n,21,\nein und zwanzigster,21,\nzweiundzwanzigste,22,\nzweiundzwanzigsten,22,\nzweiundzwanzigster,22,\nzweyundzwanzigst\
+e,22,\nzweyundzwanzigsten,22,\nzweyundzwanzigster,22,\nzwei und zwanzigste,22,\nzwei und zwanzigsten,22,\nzwei und zwan\
+zigster,22,\nzwey und zwanzigste,22,\nzwey und zwanzigsten,22,\nzwey und zwanzigster,22,\ndreiundzwanzigste,23,\ndreiun\
+dzwanzigsten,23,\ndreiundzwanzigster,23,\ndreyundzwanzigste,23,\ndreyundzwanzigsten,23,\ndreyundzwanzigster,23,\ndrei u\
+nd zwanzigste,23,\ndrei und zwanzigsten,23,\ndrei und zwanzigster,23,\ndrey und zwanzigste,23,\ndrey und zwanzigsten,23\
+,\ndrey und zwanzigster,23,\nvierundzwanzigste,24,\nvierundzwanzigsten,24,\nvierundzwanzigster,24,\nvier und zwanzigste\
+,24,\nvier und zwanzigsten,24,\nvier und zwanzigster,24,\nfünfundzwanzigste,25,\nfünfundzwanzigsten,25,\nfünfundzwan\
+zigster,25,\nfünf und zwanzigste,25,\n\
 ", $rest)
     };
 }

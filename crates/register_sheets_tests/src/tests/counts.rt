@@ -2,7 +2,7 @@
 
 use super::table::{Case, DATE_0_IN_1, DAY_FIRST, NO_COLUMNS, converted};
 use date_texts::Refusal;
-use register_sheets::{DateCounts, SheetCounts, SheetEnd};
+use register_sheets::{DateCounts, SheetCounts, SheetEnd, Spans};
 use std::test::Fail;
 
 /// One date is converted. Those of the second record, and of the fifth, whose calendar is not known, are empty; the third
@@ -13,6 +13,7 @@ const COUNTED: Case = Case {
     above: 0,
     dates: &DATE_0_IN_1,
     columns: &NO_COLUMNS,
+    spans: Spans::Unread,
     reading: DAY_FIRST,
     sheet: "D;C\n1. Mai 1701;julian\n;julian\n ;\t\n;\n;mondisch\n1. Mai 1701;mondisch\n29. Februar 1701;julian\n\
         Mai;julian\n                                        ;julian\n",

@@ -4,8 +4,8 @@
 use date_texts::{Calendar, Target};
 use register_records::PlainOutput;
 use register_sheets::{
-    AskedColumn, CalendarField, DateColumn, IdField, NameList, SheetChoice, SheetCounts, SheetEnd,
-    SheetSetup, convert_sheet, headings,
+    AskedColumn, AskedOfSheet, CalendarField, DateColumn, IdField, NameList, SheetChoice,
+    SheetCounts, SheetEnd, SheetSetup, Spans, convert_sheet,
 };
 use std::alloc::Global;
 use std::test::Fail;
@@ -33,6 +33,12 @@ an,,
 grégorien,gregorian,
 n. St.,gregorian,
 a. St.,julian,
+vor,before,
+nach,after,
+ca.,about,
+bis,to,
+zw.,between,
+u.,and,
 ";
 
 /// A sheet, what is chosen of it, and what comes back: the sheet, how many records it has, and how many dates of each column
@@ -43,6 +49,7 @@ pub(super) struct Case {
     pub above: u32,
     pub dates: &'static [DateColumn],
     pub columns: &'static [AskedColumn],
+    pub spans: Spans,
     pub reading: Choice,
     pub sheet: &'static str,
     pub wanted: &'static str,
@@ -166,6 +173,7 @@ const CASES: [Case; 23] = [
         above: 0,
         dates: &DATE_0_IN_1,
         columns: &WEEKDAY_AND_JULIAN_AND_DAY,
+        spans: Spans::Unread,
         reading: DAY_FIRST,
         sheet: "D;C\n1. Januar 2000;gregorian\n",
         wanted: "D;C;weekday;julian;rd;refusal\n1. Januar 2000;gregorian;Saturday;1999-12-19;730120;\n",
@@ -177,6 +185,7 @@ const CASES: [Case; 23] = [
         above: 0,
         dates: &DATE_0_IN_1,
         columns: &WEEKDAY_AND_GREGORIAN_AND_JULIAN,
+        spans: Spans::Unread,
         reading: DAY_FIRST,
         sheet: "D;C\n29. Februar 1900;julian\n",
         wanted: "D;C;weekday;gregorian;julian;refusal\n29. Februar 1900;julian;Tuesday;1900-03-13;1900-02-29;\n",
@@ -188,6 +197,7 @@ const CASES: [Case; 23] = [
         above: 0,
         dates: &DATE_0_IN_1,
         columns: &JULIAN_AND_GREGORIAN,
+        spans: Spans::Unread,
         reading: DAY_FIRST,
         sheet: "D;C\n5 Mai 1600;julian\n",
         wanted: "D;C;julian;gregorian;refusal\n5 Mai 1600;julian;1600-05-05;1600-05-15;\n",
@@ -199,6 +209,7 @@ const CASES: [Case; 23] = [
         above: 0,
         dates: &DATE_0_IN_1,
         columns: &NO_COLUMNS,
+        spans: Spans::Unread,
         reading: DAY_FIRST,
         sheet: "D;C\n14 Juli 1789;gregorian\n",
         wanted: "D;C;refusal\n14 Juli 1789;gregorian;\n",
@@ -210,6 +221,7 @@ const CASES: [Case; 23] = [
         above: 0,
         dates: &DATE_1_IN_2,
         columns: &DAY_AND_GREGORIAN,
+        spans: Spans::Unread,
         reading: DAY_FIRST,
         sheet: "N;D;C;X\nAnna;12. Mai 1806;gregorian\n\"Bo \"\"B\"\"\";3 Mai 1700;A. ST.;\"a;b\"\nCy\n\"D\nE\";;julian;\n",
         wanted: "N;D;C;X;rd;gregorian;refusal\nAnna;12. Mai 1806;gregorian;;659394;1806-05-12;\n\
@@ -222,6 +234,7 @@ const CASES: [Case; 23] = [
         above: 1,
         dates: &DATE_1_IN_2,
         columns: &DAY_AND_GREGORIAN,
+        spans: Spans::Unread,
         reading: DAY_FIRST,
         sheet: "Parish of Lund;;\nN;D;C\nx;1 Mai 1701;julian\n",
         wanted: "Parish of Lund;;\nN;D;C;rd;gregorian;refusal\nx;1 Mai 1701;julian;621044;1701-05-12;\n",
@@ -233,6 +246,7 @@ const CASES: [Case; 23] = [
         above: 2,
         dates: &DATE_0_IN_1,
         columns: &WEEKDAY,
+        spans: Spans::Unread,
         reading: DAY_FIRST,
         sheet: "\"a;\"\"b\"\"\"\nc;d;e;f\nD;C\n2 Mai 1701;julian\n",
         wanted: "\"a;\"\"b\"\"\"\nc;d;e;f\nD;C;weekday;refusal\n2 Mai 1701;julian;Friday;\n",
@@ -244,6 +258,7 @@ const CASES: [Case; 23] = [
         above: 0,
         dates: &DATE_0_IN_1,
         columns: &DAY,
+        spans: Spans::Unread,
         reading: DAY_FIRST,
         sheet: "D;C\n1 Mai 1701;julian;longer;than\n2 Mai 1701;julian\n",
         wanted: "D;C;;;rd;refusal\n1 Mai 1701;julian;longer;than;621044;\n2 Mai 1701;julian;;;621045;\n",
@@ -271,6 +286,7 @@ const CASES: [Case; 23] = [
         above: 0,
         dates: &DATE_0_IN_1,
         columns: &DAY_AND_GREGORIAN,
+        spans: Spans::Unread,
         reading: DAY_FIRST,
         sheet: "D\tC\n1. Mai 1701\tjulian\n",
         wanted: "D\tC\trd\tgregorian\trefusal\n1. Mai 1701\tjulian\t621044\t1701-05-12\t\n",
@@ -282,6 +298,7 @@ const CASES: [Case; 23] = [
         above: 0,
         dates: &DATE_0_IN_1,
         columns: &DAY_AND_GREGORIAN,
+        spans: Spans::Unread,
         reading: DAY_FIRST,
         sheet: "D,C\n\"May 1, 1701\",julian\n1;5;1701,julian\n",
         wanted: "D,C,rd,gregorian,refusal\n\"May 1, 1701\",julian,621044,1701-05-12,\n1;5;1701,julian,,,5\n",
@@ -293,6 +310,7 @@ const CASES: [Case; 23] = [
         above: 0,
         dates: &DATE_0_GREGORIAN,
         columns: &DAY_AND_GREGORIAN,
+        spans: Spans::Unread,
         reading: DAY_FIRST,
         sheet: "D\n1. Mai 1701\n2. Mai 1701\n",
         wanted: "D;rd;gregorian;refusal\n1. Mai 1701;621033;1701-05-01;\n2. Mai 1701;621034;1701-05-02;\n",
@@ -304,6 +322,7 @@ const CASES: [Case; 23] = [
         above: 0,
         dates: &DATE_1_JULIAN_AND_2_GREGORIAN,
         columns: &GREGORIAN,
+        spans: Spans::Unread,
         reading: DAY_FIRST,
         sheet: "N;Birth;Death\nA;1. Mai 1701;2. Mai 1750\nB;;3. Mai 1750\nC;x;y\n",
         wanted: "N;Birth;Death;Birth gregorian;Birth refusal;Death gregorian;Death refusal\n\
@@ -316,6 +335,7 @@ const CASES: [Case; 23] = [
         above: 0,
         dates: &DATE_0_JULIAN_AND_0_GREGORIAN_AND_1_JULIAN,
         columns: &DAY,
+        spans: Spans::Unread,
         reading: DAY_FIRST,
         sheet: "D;E\n1. Mai 1701;1. Mai 1702\n",
         wanted: "D;E;D rd;D refusal;D rd 2;D refusal 2;E rd;E refusal\n1. Mai 1701;1. Mai 1702;621044;;621033;;621409;\n",
@@ -327,6 +347,7 @@ const CASES: [Case; 23] = [
         above: 0,
         dates: &DATE_0_GREGORIAN,
         columns: &DAY_AND_GREGORIAN,
+        spans: Spans::Unread,
         reading: DAY_FIRST,
         sheet: "D;rd;refusal;rd 2\n1. Mai 1701;a;b;c\n",
         wanted: "D;rd;refusal;rd 2;rd 3;gregorian;refusal 2\n1. Mai 1701;a;b;c;621033;1701-05-01;\n",
@@ -338,6 +359,7 @@ const CASES: [Case; 23] = [
         above: 0,
         dates: &DATE_0_GREGORIAN_AND_1_GREGORIAN,
         columns: &DAY,
+        spans: Spans::Unread,
         reading: DAY_FIRST,
         sheet: ";;D rd\n1. Mai 1701;2. Mai 1701;\n",
         wanted: ";;D rd; rd; refusal; rd 2; refusal 2\n1. Mai 1701;2. Mai 1701;;621033;;621034;\n",
@@ -349,6 +371,7 @@ const CASES: [Case; 23] = [
         above: 0,
         dates: &DATE_0_IN_1,
         columns: &DAY_AND_WEEKDAY_AND_GREGORIAN_AND_JULIAN,
+        spans: Spans::Unread,
         reading: DAY_FIRST,
         sheet: "D;C\n1. Mai 1701;julian\nx;julian\n1. Mai 1701;\n2. Mai 1701;julian\n",
         wanted: "D;C;rd;weekday;gregorian;julian;refusal\n\
@@ -362,6 +385,7 @@ const CASES: [Case; 23] = [
         above: 0,
         dates: &DATE_0_IN_1,
         columns: &DAY_AND_WEEKDAY_AND_GREGORIAN_AND_JULIAN,
+        spans: Spans::Unread,
         reading: DAY_FIRST,
         sheet: "D\tC\n1. Mai 1701\tjulian\n\"a\tb\"\tjulian\n",
         wanted: "D\tC\trd\tweekday\tgregorian\tjulian\trefusal\n\
@@ -374,6 +398,7 @@ const CASES: [Case; 23] = [
         above: 0,
         dates: &DATE_0_IN_1,
         columns: &DAY_AND_WEEKDAY,
+        spans: Spans::Unread,
         reading: DAY_FIRST,
         sheet: "D;C\n1. Mai 1701;julian\nx;julian\n",
         wanted: "D;C;rd;weekday;refusal\n1. Mai 1701;julian;621044;Thursday;\nx;julian;;;5\n",
@@ -385,6 +410,7 @@ const CASES: [Case; 23] = [
         above: 0,
         dates: &DATE_0_IN_1,
         columns: &JULIAN_AND_GREGORIAN,
+        spans: Spans::Unread,
         reading: DAY_FIRST,
         sheet: "D;C\nx;julian\n1. Mai 1701;gregorian\n",
         wanted: "D;C;julian;gregorian;refusal\nx;julian;;;5\n1. Mai 1701;gregorian;1701-04-20;1701-05-01;\n",
@@ -396,6 +422,7 @@ const CASES: [Case; 23] = [
         above: 0,
         dates: &DATE_0_IN_1,
         columns: &DAY_AND_GREGORIAN_AND_WEEKDAY,
+        spans: Spans::Unread,
         reading: DAY_FIRST,
         sheet: "D;C\n1. Mai 1701;julian\nx;julian\n",
         wanted: "D;C;rd;gregorian;weekday;refusal\n1. Mai 1701;julian;621044;1701-05-12;Thursday;\nx;julian;;;;5\n",
@@ -407,6 +434,7 @@ const CASES: [Case; 23] = [
         above: 0,
         dates: &DATE_1_JULIAN_AND_2_GREGORIAN,
         columns: &WEEKDAY_AND_GREGORIAN_AND_JULIAN,
+        spans: Spans::Unread,
         reading: DAY_FIRST,
         sheet: "N,Birth,Death\n\"A \"\"B\"\"\",1. Mai 1701,\"May 2, 1750\"\nC,,3. Mai 1750\n",
         wanted: "N,Birth,Death,Birth weekday,Birth gregorian,Birth julian,Birth refusal,\
@@ -421,6 +449,7 @@ const CASES: [Case; 23] = [
         above: 2,
         dates: &DATE_0_GREGORIAN,
         columns: &WEEKDAY_AND_GREGORIAN_AND_JULIAN,
+        spans: Spans::Unread,
         reading: DAY_FIRST,
         sheet: "\"\"\n\"\"\nD\n1. Mai 1701\n\"\"\n",
         wanted: "\"\"\n\"\"\nD;weekday;gregorian;julian;refusal\n\
@@ -469,6 +498,7 @@ fn converted_by(alloc: Global, case: &Case, known: &Known) -> Result<(Vec<u8>, S
         id: IdField::Number,
         dates: case.dates,
         columns: case.columns,
+        spans: case.spans,
         headings: known.headings.as_slice(),
         reading: case.reading,
         names: &known.names,
@@ -484,14 +514,16 @@ pub(super) fn converted(alloc: Global, case: &Case) -> Result<(Vec<u8>, SheetEnd
     let list = NameList::read(alloc, NAMES.as_bytes())?;
     let names = list.names(alloc)?;
     let calendars = list.calendar_names(alloc)?;
-    let headings = headings(
-        alloc,
-        case.sheet.as_bytes(),
-        case.delimiter,
-        case.above,
-        case.dates,
-        case.columns,
-    )?;
+    let asked = AskedOfSheet {
+        delimiter: case.delimiter,
+        above: case.above,
+        id: IdField::Number,
+        reading: case.reading,
+        spans: case.spans,
+        dates: case.dates.to_vec(alloc)?,
+        columns: case.columns.to_vec(alloc)?,
+    };
+    let headings = asked.headings(alloc, case.sheet.as_bytes())?;
     let known = known_by(
         alloc,
         names.as_slice(),

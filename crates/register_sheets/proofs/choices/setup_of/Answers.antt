@@ -49,8 +49,8 @@ not_false : (b : Bool) → (b ≡ false → ⊥) → b ≡ true
 not_false true other = refl
 not_false false other = absurd (other refl)
 
-pub returns-then-choice-clause-fault : goal.returns-then-choice-clause-fault
-returns-then-choice-clause-fault c =
+pub returns-then-choice-each-clause-fault : goal.returns-then-choice-each-clause-fault
+returns-then-choice-each-clause-fault c =
     let made = c.in-Ok.ensures in
     let once : ¬ (NamesTwice (take c.asked_targets-count.result.1 c.asked_targets-count.result.0))
     = λ twice. no_fault _ _ (made.twice.1 twice) in (
@@ -58,7 +58,7 @@ returns-then-choice-clause-fault c =
       asks_once c.args.choice.now _ _ c.if-choice-gt-MAX_COLUMNS.false c.asks_twice.ensures c.if-asks_twice.false
           c.asked_targets-count.ensures.value once,
       not_false _ (λ off. no_fault _ _ (made.delimiter.1 (once, refl, off))),
-      c.if-choice.true,
+      rw c.added_each-each.ensures at c.if-choice-each.true,
     )
 
 pub returns-clause-good : goal.returns-clause-good
@@ -70,7 +70,7 @@ returns-clause-good c =
       asks_once c.args.choice.now _ _ c.if-choice-gt-MAX_COLUMNS.false c.asks_twice.ensures c.if-asks_twice.false
           c.asked_targets-count.ensures.value once,
       not_false _ (λ off. no_fault _ _ (made.delimiter.1 (once, refl, off))),
-      c.if-choice.false,
+      rw c.added_each-each.ensures at c.if-choice-each.false,
       made.value.0 ∙ c.asked_targets-count.ensures.value,
     )
 

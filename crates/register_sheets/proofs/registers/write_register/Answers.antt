@@ -1,15 +1,16 @@
-use Rattle.std.proofs.Common.{List, subst}
+use Rattle.std.proofs.Common.{◌≡◌, ◌∙◌, List, Some, ap, subst, sym}
+use Rattle.std.specs.Prelude.{slice_get}
 use Rattle.register_records.specs.Entries.{Fields, text_records}
 use Rattle.register_sheets.specs.SheetReadings.{HasReadSheet}
+use Rattle.register_sheets.specs.declared.record_lines.EntryLine.{EntryLine}
 use Rattle.register_sheets.proofs.OutputLemmas.{register_none, register_produced}
 use Rattle.register_sheets.proofs.registers.write_register.Goals as goal
 
 pub returns-in-Err : goal.returns-in-Err
 returns-in-Err g c column there =
     let choice = c.args.setup.now.choice in
-    register_none g.W.Output choice (text_records choice.delimiter c.args.sheet.now) c.args.output.now column
-    c.in-Err.cause
-    c.in-Err.ensures.fault
+    register_none g.W.Output choice (text_records choice.delimiter c.args.sheet.now) c.args.output.now
+    (column, c.args.end) c.in-Err.cause c.in-Err.ensures.fault
 
 pub returns : goal.returns
 returns g c column there =
@@ -17,14 +18,16 @@ returns g c column there =
     let records = text_records choice.delimiter c.args.sheet.now in
     let all = c.read_below-read.ensures in
     let start = c.of_register-writers.ensures in
+    let made : EntryLine = record { place = c.args.place; end = c.args.end } in
     register_produced g.W.Output choice records c.read_below-read.result c.finish.result
     c.of_register-writers.result.sheet
-    c.read_below-read.new.writers.sheet c.args.place column c.args.output.now c.read_below-read.new.output
+    c.read_below-read.new.writers.sheet (column, c.args.end) c.args.output.now c.read_below-read.new.output
     c.finish.new.output
     all.reads c.in-Ok.ensures.named
     (subst (λ (xs : List Fields). HasReadSheet choice xs all.reads c.read_below-read.result) c.in-Ok.ensures.left
     all.read)
-    start.place start.waits there all.takes.sheet
+    (ap (λ (maker : EntryLine). slice_get choice.dates.now maker.place) start.maker ∙ there)
+    (ap (λ (maker : EntryLine). maker.end) start.maker) start.waits all.takes.sheet
     (λ given made h. (c.finish.ensures.produced given made h, c.finish.ensures.agrees given made h))
 
 pub read_below-read-requires-clause-none_noted : goal.read_below-read-requires-clause-none_noted

@@ -2,4 +2,4 @@ use Rattle.register_sheets.specs.SheetReadings.{AreRegisterWriters}
 use Rattle.register_sheets.proofs.sheet_writers.register_writers.Given as goal
 
 abbrev pub invariant-columns : goal.invariant-columns
-invariant-columns l = AreRegisterWriters l.delimiter l.place l.writers.items
+invariant-columns l = AreRegisterWriters l.delimiter l.columns l.place l.writers.items

@@ -13,6 +13,7 @@ returns-clause-none c =
       columns = search rules;
       headings_are = search rules;
       reading = search rules;
+      spans = search rules;
       names_are = search rules;
       calendars_are = search rules;
     })
@@ -27,6 +28,7 @@ returns-clause-choice c =
       columns = search rules;
       headings_are = search rules;
       reading = search rules;
+      spans = search rules;
       names_are = search rules;
       calendars_are = search rules;
     })

@@ -1,6 +1,9 @@
-use Rattle.std.proofs.Common.{◌<◌, arith, get_or, length, map, rules, sym}
+use Rattle.std.proofs.Common.{◌<◌, ◌∷◌, [], arith, get_or, length, map, rules, subst, sym}
+use Rattle.register_sheets.specs.CountViews.{CountsDates}
+use Rattle.register_sheets.specs.DateCounts.{no_counts}
+use Rattle.register_sheets.specs.declared.sheet_records.ColumnDates.{ColumnDates}
 use Rattle.csv.specs.Records.{fields_of}
-use Rattle.register_sheets.specs.SheetRecords.{row_in}
+use Rattle.register_sheets.specs.SheetRecords.{dated_seen}
 use Rattle.register_sheets.specs.declared.choices.CalendarField.TheVariants.{Column}
 use Rattle.register_sheets.specs.declared.choices.DateColumn.{DateColumn}
 use Rattle.register_sheets.proofs.CountLemmas.{place_counted, place_left, seen_slot, slot_of}
@@ -17,12 +20,15 @@ columns-preserved c =
     let columns = c.args.columns.now in
     let dates = c.args.dates.now in
     let room : place < length c.columns.self.dates = search rules in
-    let counts = rw c.field_at-field.ensures at c.add.ensures in
+    let field = get_or (fields_of c.args.record.now) (get_or columns place none).date [] in
+    let counts = subst (λ (found : ColumnDates). CountsDates ((field, dated_seen found) ∷ [])
+    (get_or c.columns.self.dates place no_counts) c.add.new.self) c.index-dates-place.ensures
+    (rw c.field_at-field.ensures at c.add.ensures) in
     record {
-      counted = place_counted columns (fields_of c.args.record.now) (map row_in dates) place (get_or columns place none)
-          (row_in (get_or dates place c.index-dates-place.result)) c.args.self.now.dates c.columns.self.dates _ room
+      counted = place_counted columns (fields_of c.args.record.now) (map dated_seen dates) place (get_or columns place none)
+          (dated_seen (get_or dates place c.index-dates-place.result)) c.args.self.now.dates c.columns.self.dates _ room
           (slot_of columns place none low)
-          (seen_slot row_in dates place c.index-dates-place.result (omega (arith, low, c.requires.dates))) (sym
+          (seen_slot dated_seen dates place c.index-dates-place.result (omega (arith, low, c.requires.dates))) (sym
           c.if-is_blank_record.ensures) counts inv.left inv.counted;
       left = place_left place c.args.self.now.dates c.columns.self.dates _ inv.left;
       blank = inv.blank;

@@ -1,6 +1,6 @@
 use Rattle.std.proofs.Common.{◌≡◌, ◌≤◌, ◌<◌, ℕ, get_or, map}
 use Rattle.csv.specs.Records.{fields_of}
-use Rattle.register_sheets.specs.SheetRecords.{row_in}
+use Rattle.register_sheets.specs.SheetRecords.{dated_seen}
 use Rattle.register_sheets.specs.CountViews.{CountsDates}
 use Rattle.register_sheets.specs.DateCounts.{date_at, no_counts}
 use Rattle.register_sheets.proofs.date_counts.SheetCounts.add.Given as goal
@@ -10,7 +10,7 @@ abbrev pub invariant-columns : goal.invariant-columns
 invariant-columns l =
     record {
       counted : (place : ℕ) → place < l.place
-          → CountsDates (date_at l.columns place (fields_of l.record) (map row_in l.dates))
+          → CountsDates (date_at l.columns place (fields_of l.record) (map dated_seen l.dates))
           (get_or l.fn.self.dates place no_counts) (get_or l.self.dates place no_counts);
       left : (place : ℕ) → l.place ≤ place → get_or l.self.dates place no_counts ≡ get_or l.fn.self.dates place
           no_counts;

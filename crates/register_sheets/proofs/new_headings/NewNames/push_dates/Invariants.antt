@@ -7,5 +7,5 @@ use Rattle.register_sheets.proofs.new_headings.NewNames.push_dates.Given as goal
 
 abbrev pub invariant-dates : goal.invariant-dates
 invariant-dates l =
-    NamesMore (flat_map (wanted_for l.several (fields_of l.fn.self.own) l.columns) (take l.date-index l.dates)) l.fn.self
+    NamesMore (flat_map (wanted_for l.several (fields_of l.fn.self.own) l.spans l.columns) (take l.date-index l.dates)) l.fn.self
     l.self

@@ -77,6 +77,5 @@ add_date-requires c =
           c.dates-test.true,
         );
       };
-      stop = is.stop;
-      text = is.text;
+      read = (of_sheet.number, is);
     }

@@ -1,7 +1,7 @@
 use Rattle.std.proofs.Common.{◌<◌, ◌∙◌, ◌+◌, List, arith, length, length-set, subst, sym, take}
 use Rattle.std.specs.List.{AllZip}
 use Rattle.csv.specs.Records.{fields_of}
-use Rattle.register_sheets.specs.SheetRecords.{AreDatesRead, DateRead, dates_seen}
+use Rattle.register_sheets.specs.SheetRecords.{DateRead, IsDateRead, date_seen}
 use Rattle.register_sheets.specs.declared.choices.CalendarField.TheVariants.{Column}
 use Rattle.register_sheets.specs.declared.choices.DateColumn.{DateColumn}
 use Rattle.register_sheets.specs.declared.sheet_records.ColumnDates.{ColumnDates}
@@ -18,9 +18,8 @@ dates-preserved c =
     let place = c.dates.place in
     let choice = c.args.setup.now.choice in
     let dates = choice.dates.now in
-    let R : DateColumn → List DateRead → Type 0 = AreDatesRead choice c.args.number (fields_of c.args.self.now.fields)
-    in
-    let column : ColumnDates = record { first = c.renew.new.self } in
+    let R : DateColumn → DateRead → Type 0 = IsDateRead choice c.args.number (fields_of c.args.self.now.fields) in
+    let column : ColumnDates = c.renew.new.self in
     let low : place < length c.dates.self.columns.items = omega (
       arith,
       inv.count,
@@ -32,8 +31,8 @@ dates-preserved c =
       count = length-set c.dates.self.columns.items place column ∙ inv.count;
       fields = inv.fields;
       number = inv.number;
-      dates = subst (λ (ys : List (List DateRead)). AllZip R (take (place + 1) dates) ys)
-          (sym (set_more dates_seen c.dates.self.columns.items place column low))
-          (zip_at R dates _ place none (dates_seen column) c.dates-test.true inv.dates (rw inv.fields at
+      dates = subst (λ (ys : List DateRead). AllZip R (take (place + 1) dates) ys)
+          (sym (set_more date_seen c.dates.self.columns.items place column low))
+          (zip_at R dates _ place none (date_seen column) c.dates-test.true inv.dates (rw inv.fields at
           c.in_ok-renew.ensures));
     }

@@ -1,7 +1,7 @@
 use Rattle.std.proofs.Common.{◌≡◌, length, map, take}
 use Rattle.std.specs.List.{AllZip}
 use Rattle.csv.specs.Records.{fields_of}
-use Rattle.register_sheets.specs.SheetRecords.{AreDatesRead, dates_seen}
+use Rattle.register_sheets.specs.SheetRecords.{IsDateRead, date_seen}
 use Rattle.register_sheets.proofs.sheet_records.SheetRecord.renew.Given as goal
 
 abbrev pub invariant-dates : goal.invariant-dates
@@ -10,6 +10,6 @@ invariant-dates l =
       count : length l.self.columns.items ≡ length l.fn.self.columns.items;
       fields : l.self.fields ≡ l.fn.self.fields;
       number : l.self.number ≡ l.number;
-      dates : AllZip (AreDatesRead l.setup.choice l.number (fields_of l.fn.self.fields)) (take l.place l.dates)
-          (take l.place (map dates_seen l.self.columns.items));
+      dates : AllZip (IsDateRead l.setup.choice l.number (fields_of l.fn.self.fields)) (take l.place l.dates)
+          (take l.place (map date_seen l.self.columns.items));
     }

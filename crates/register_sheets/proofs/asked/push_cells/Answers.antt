@@ -1,10 +1,12 @@
-use Rattle.std.proofs.Common.{[], arith, get_or, refl}
+use Rattle.std.proofs.Common.{◌∙◌, [], List, append-nil, arith, get_or, refl, subst, sym, ℕ}
+use Rattle.register_records.specs.Entries.{Fields}
+use Rattle.register_sheets.specs.LineViews.{GainsFields}
 use Rattle.std.proofs.lemmas.List.{drop_all}
 use Rattle.register_records.specs.Views.{row_seen}
 use Rattle.register_sheets.specs.declared.choices.AskedColumn.TheVariants.{DayNumber}
 use Rattle.register_sheets.proofs.AskedLemmas.{asked_step, few_taken}
 use Rattle.register_sheets.proofs.LineLemmas.{both_gained, gained_at_last, none_gained}
-use Rattle.register_sheets.proofs.asked.push_each.Goals as goal
+use Rattle.register_sheets.proofs.asked.push_cells.Goals as goal
 
 pub columns-init : goal.columns-init
 columns-init c = record { few = omega arith; line = ([], none_gained c.args.lines.now, refl) }
@@ -29,5 +31,5 @@ returns c =
     let (made, gains, whole) = c.columns.invariant.line in
     let columns = c.args.columns.now in
     let last = drop_all c.columns.column-index columns (omega (arith, c.columns-test.false)) in
-    gained_at_last c.push_refusal.result made _ _ c.args.lines.now c.columns.lines c.push_refusal.new.lines gains
-    c.push_refusal.ensures (rw last at whole)
+    subst (λ (fields : Fields). GainsFields fields c.args.lines.now c.columns.lines)
+    (sym (append-nil made) ∙ rw last at whole) gains

@@ -1,0 +1,42 @@
+-- What a clause sees of the rows of a date. No public contract cites this file.
+use Rattle.std.specs.Prelude.{◌≡◌, ◌++◌, ℕ, Bool, true, false, List, [], ◌∷◌, codes}
+use Rattle.register_records.specs.Entries.{Fields, Numbered, body_of}
+use Rattle.register_records.specs.Outcomes.{IsRowOf}
+use Rattle.register_records.specs.declared.setups.Form.TheVariants.{Plain}
+use Rattle.register_sheets.specs.Choices.{asked_targets}
+use Rattle.register_sheets.specs.Converted.{asked_cells, shown_in}
+use Rattle.register_sheets.specs.DateEnds.{Dated, mark_text, told}
+use Rattle.register_sheets.specs.SheetRecords.{dated_seen}
+use Rattle.register_sheets.specs.declared.choices.AskedColumn.{AskedColumn}
+use Rattle.register_sheets.specs.declared.choices.SheetChoice.{SheetChoice}
+use Rattle.register_sheets.specs.declared.sheet_records.ColumnDates.{ColumnDates}
+
+-- the entry with this number and these texts
+abbrev pub entry_of : ℕ → List ℕ → List ℕ → List ℕ → Numbered
+entry_of number id calendar date =
+    record { number = number; body = body_of Plain (id ∷ calendar ∷ date ∷ []) }
+
+-- the rows are those of the entries with the texts, and all else stays
+pub record HasRows (choice : SheetChoice) (number : ℕ) (id : List ℕ) (old new : ColumnDates) : Type 0 where
+  pub calendar : new.calendar ≡ old.calendar
+  pub stop : new.stop ≡ old.stop
+  pub marks : new.marks ≡ old.marks
+  pub first_text : (dated_seen new).first.text ≡ (dated_seen old).first.text
+  pub last_text : (dated_seen new).last.text ≡ (dated_seen old).last.text
+  pub first : IsRowOf (asked_targets choice.columns.now)
+      (entry_of number id old.calendar.items (dated_seen new).first.text) (dated_seen new).first.row
+  pub last : IsRowOf (asked_targets choice.columns.now)
+      (entry_of number id old.calendar.items (dated_seen new).last.text) (dated_seen new).last.row
+
+-- what comes behind a record for a date with a first and a last day
+abbrev pub edtf_field : Bool → Dated → Fields
+edtf_field true dated = dated.edtf ∷ []
+edtf_field false dated = []
+
+abbrev pub fields_behind : Bool → Dated → Fields
+fields_behind true dated = dated.edtf ∷ mark_text dated.marks ∷ shown_in (codes "refusal") (told dated) ∷ []
+fields_behind false dated = mark_text dated.marks ∷ shown_in (codes "refusal") (told dated) ∷ []
+
+abbrev pub ends_fields : List AskedColumn → Dated → Bool → Fields
+ends_fields columns dated with_edtf =
+    asked_cells columns dated.first.row ++ asked_cells columns dated.last.row ++ fields_behind with_edtf dated

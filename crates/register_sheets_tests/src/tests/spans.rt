@@ -1,0 +1,72 @@
+//! Sheets whose dates have a first and a last day. Days are those of Python's `datetime`; what is read of each date, its
+//! mark and its text of EDTF were worked out by hand.
+
+use super::table::{Case, DATE_0_IN_1, DAY_AND_GREGORIAN, DAY_FIRST, converted, is_whole};
+use register_sheets::{SheetEnd, Spans};
+use std::test::Fail;
+
+const ENDS: Case = Case {
+    delimiter: b';',
+    above: 0,
+    dates: &DATE_0_IN_1,
+    columns: &DAY_AND_GREGORIAN,
+    spans: Spans::Ends,
+    reading: DAY_FIRST,
+    sheet: "D;C\n12. Mai 1806;gregorian\nMai 1806;gregorian\nca. 1750;gregorian\nvor 12.5.1806;gregorian\n\
+        nach 1800;gregorian\nzw. 1750 u. 1755;gregorian\n31.4.1801 bis 5.5.1801;gregorian\n1755-1750;gregorian\n\
+        ;gregorian\nMai 1806;mondisch\n",
+    wanted: "D;C;first rd;first gregorian;last rd;last gregorian;mark;refusal\n\
+        12. Mai 1806;gregorian;659394;1806-05-12;659394;1806-05-12;;\n\
+        Mai 1806;gregorian;659383;1806-05-01;659413;1806-05-31;;\n\
+        ca. 1750;gregorian;638810;1750-01-01;639174;1750-12-31;about;\n\
+        vor 12.5.1806;gregorian;;;659393;1806-05-11;before;\n\
+        nach 1800;gregorian;657437;1801-01-01;;;after;\n\
+        zw. 1750 u. 1755;gregorian;638810;1750-01-01;641000;1755-12-31;between;\n\
+        31.4.1801 bis 5.5.1801;gregorian;;;657561;1801-05-05;;6\n\
+        1755-1750;gregorian;;;;;;5\n\
+        ;gregorian;;;;;;5\n\
+        Mai 1806;mondisch;;;;;;4\n",
+    rows: 10,
+    counts: &[(3, 1)],
+};
+
+const WITH_EDTF: Case = Case {
+    delimiter: b',',
+    above: 0,
+    dates: &DATE_0_IN_1,
+    columns: &[],
+    spans: Spans::EndsAndEdtf,
+    reading: DAY_FIRST,
+    sheet: "D,C\n12. Mai 1806,gregorian\nMai 1806?,gregorian\nca. 1750,gregorian\nvor 12.5.1806,gregorian\n\
+        1750 bis 1755,gregorian\nzw. 1750 u. 1755,gregorian\n31.4.1801 bis 5.5.1801,gregorian\n,gregorian\n",
+    wanted: "D,C,edtf,mark,refusal\n12. Mai 1806,gregorian,1806-05-12,,\nMai 1806?,gregorian,1806-05?,uncertain,\n\
+        ca. 1750,gregorian,1750~,about,\nvor 12.5.1806,gregorian,../1806-05-11,before,\n\
+        1750 bis 1755,gregorian,1750/1755,,\nzw. 1750 u. 1755,gregorian,[1750..1755],between,\n\
+        31.4.1801 bis 5.5.1801,gregorian,,,6\n,gregorian,,,5\n",
+    rows: 8,
+    counts: &[(1, 1)],
+};
+
+/// How many dates of the first column are no single day.
+fn spans_of(end: SheetEnd) -> usize {
+    match end {
+        SheetEnd::Whole { counts, .. } => counts.dates[0].spans,
+        SheetEnd::Broken { .. } => 0,
+    }
+}
+
+#[test]
+fn first_and_last_days(rt: HostRuntime) -> Result<(), Fail> {
+    let (text, end) = converted(rt.alloc(), &ENDS)?;
+    assert!(rt; text.as_slice() == ENDS.wanted.as_bytes());
+    assert!(rt; is_whole(end, &ENDS) && spans_of(end) == 5);
+    Ok(())
+}
+
+#[test]
+fn texts_of_edtf(rt: HostRuntime) -> Result<(), Fail> {
+    let (text, end) = converted(rt.alloc(), &WITH_EDTF)?;
+    assert!(rt; text.as_slice() == WITH_EDTF.wanted.as_bytes());
+    assert!(rt; is_whole(end, &WITH_EDTF) && spans_of(end) == 5);
+    Ok(())
+}

@@ -1,4 +1,4 @@
-use Rattle.std.proofs.Common.{◌≡◌, ◌∙◌, ◌++◌, ◌∷◌, [], ℕ, Bool, List, ap, append-nil, append_assoc, codes, false, subst}
+use Rattle.std.proofs.Common.{◌≡◌, ◌∙◌, ◌++◌, ◌∷◌, [], ℕ, Bool, List, ap, append-nil, append_assoc, codes, false, rules, subst}
 use Rattle.std.proofs.Common.{true}
 use Rattle.std.specs.Prelude.{OnOk}
 use Rattle.register_records.specs.Entries.{Fields}
@@ -33,8 +33,9 @@ returns c =
     = ap (λ (end : DatedEnd). end.row) c.last.ensures in
     let cells = subst (λ (row : TableRow). GainsFields (asked_cells columns row) c.push_cells.new.lines
     c.push_cells-2.new.lines) last c.in_ok-push_cells-2.ensures in
-    let mark = subst (λ (text : List ℕ). GainsFields (text ∷ []) c.push_edtf.new.lines c.push.new.self)
-    (c.as_bytes.ensures.value ∙ c.mark_text.ensures) c.in_ok-push.ensures in
+    let text : c.as_bytes.result.now ≡ mark_text dated.marks = search rules in
+    let mark = subst (λ (text : List ℕ). GainsFields (text ∷ []) c.push_edtf.new.lines c.push.new.self) text
+    c.in_ok-push.ensures in
     let refusal = subst (λ (row : TableRow). OnOk c.push_refusal.result (GainsFields (shown_in (codes "refusal") row ∷ [])
     c.push.new.self c.push_refusal.new.lines)) c.told.ensures c.push_refusal.ensures in
     gained_at_last c.push_refusal.result _ (shown_in (codes "refusal") (told dated) ∷ []) _ old c.push.new.self

@@ -302,9 +302,10 @@ at_append : {X : Type 0} (xs ys : List X) (place : ℕ) (x : X) → slice_get (x
 at_append [] ys place x e = let same : place - 0 ≡ place = omega arith in inr (omega arith, ap (slice_get ys) same ∙ e)
 at_append (z ∷ xs) ys zero x e = inl (omega arith, e)
 at_append (z ∷ xs) ys (suc place) x e =
+    let same : suc place - length (z ∷ xs) ≡ place - length xs = omega arith in
     elim (at_append xs ys place x e) [
       | inl found ↦ inl (omega (arith, found.0), found.1)
-      | inr found ↦ inr (omega (arith, found.0), found.1)
+      | inr found ↦ inr (omega (arith, found.0), ap (slice_get ys) same ∙ found.1)
     ]
 
 first_made : (columns place : ℕ) → place < columns
@@ -329,20 +330,20 @@ of_first : (columns : List DateColumn) (place : ℕ) (of : OfColumn)
     → slice_get (map (λ (column : DateColumn). (column, ends.First)) columns) place ≡ Some of
     → IsMakerOf columns (entry_maker (length columns) place) of
 of_first columns place of e =
+    let f : DateColumn → OfColumn = λ column. (column, ends.First) in
+    let low : place < length columns
+    = omega (arith, slice_get_within (map f columns) place of e, length-map columns f) in
     subst (λ (maker : EntryLine). IsMakerOf columns maker of)
-    (sym (first_made (length columns) place (omega (
-      arith,
-      slice_get_within (map (λ (column : DateColumn). (column, ends.First)) columns) place of e,
-      length-map columns (λ (column : DateColumn). (column, ends.First)),
-    )))) (of_column columns place ends.First of e)
+    (sym (first_made (length columns) place low)) (of_column columns place ends.First of e)
 
 of_both : (columns : List DateColumn) (place : ℕ) (of : OfColumn)
     → slice_get (map (λ (column : DateColumn). (column, ends.First)) columns
     ++ map (λ (column : DateColumn). (column, ends.Last)) columns) place ≡ Some of
     → IsMakerOf columns (entry_maker (length columns) place) of
 of_both columns place of e =
-    let firsts : List OfColumn = map (λ (column : DateColumn). (column, ends.First)) columns in
-    let many : length firsts ≡ length columns = length-map columns (λ (column : DateColumn). (column, ends.First)) in
+    let f : DateColumn → OfColumn = λ column. (column, ends.First) in
+    let firsts : List OfColumn = map f columns in
+    let many : length firsts ≡ length columns = length-map columns f in
     elim (at_append firsts (map (λ (column : DateColumn). (column, ends.Last)) columns) place of e) [
       | inl found ↦ of_first columns place of found.1
       | inr found ↦

@@ -22,7 +22,7 @@ columns-preserved c =
     let room : place < length c.columns.self.dates = search rules in
     let field = get_or (fields_of c.args.record.now) (get_or columns place none).date [] in
     let counts = subst (λ (found : ColumnDates). CountsDates ((field, dated_seen found) ∷ [])
-    (get_or c.columns.self.dates place no_counts) c.add.new.self) c.index-dates-place.ensures
+    (get_or c.columns.self.dates place no_counts) c.add.new.self) c.index-dates-place.is
     (rw c.field_at-field.ensures at c.add.ensures) in
     record {
       counted = place_counted columns (fields_of c.args.record.now) (map dated_seen dates) place (get_or columns place none)

@@ -99,6 +99,7 @@ returns-clause-asked c =
       skip = said.3;
       delimiter = said.4;
       columns = c.in_ok-columns.ensures.value;
+      spans = c.spans_asked.ensures;
       names = refl;
       register = refl;
       for_files = fit.0;

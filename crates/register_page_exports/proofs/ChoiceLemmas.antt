@@ -9,6 +9,7 @@ use Rattle.written_dates.specs.declared.written.Choice.{Choice}
 use Rattle.register_sheets.specs.declared.choices.AskedColumn.{AskedColumn}
 use Rattle.register_sheets.specs.declared.choices.AskedColumn.TheVariants.{Cells}
 use Rattle.register_sheets.specs.declared.choices.DateColumn.{DateColumn}
+use Rattle.register_sheets.specs.declared.choices.Spans.TheVariants as spans
 use Rattle.register_page_exports.specs.AskedViews.{all_before}
 use Rattle.register_page_exports.specs.SheetChoices.{asked_by, before, column_by, columns_by, date_by, dates_by, id_by}
 use Rattle.register_page_exports.specs.SheetChoices.{reading_by}
@@ -25,6 +26,7 @@ pub asked_made : (head dates columns : List ℕ) (delimiter : ℕ) (reading : Ch
       above = slice_index_or head 1 0;
       id = id_by (slice_index_or head 2 0);
       reading = reading;
+      spans = spans.Unread;
       dates = d;
       columns = c;
     }))

@@ -6,7 +6,9 @@ ghost use Rattle.register_sheets.specs.Headings.{items_of};
 ghost use Rattle.register_sheets.specs.declared.choices.SheetChoice.{SheetChoice as SheetChoiceValue};
 ghost use Rattle.written_dates.specs.Fields.{bare_name, entries};
 
-use crate::choices::{AskedColumn, ChoiceFault, DateColumn, IdField, SheetChoice, SheetSetup, Spans};
+use crate::choices::{
+    AskedColumn, ChoiceFault, DateColumn, IdField, SheetChoice, SheetSetup, Spans,
+};
 use crate::new_headings::headings;
 use std::alloc::{AllocError, Global};
 use written_dates::{CalendarName, CalendarNames, Choice, Name, Names};

@@ -284,6 +284,10 @@ pub(crate) fn headings(
         own: record_below(alloc, sheet, asked.delimiter, asked.above)?,
         made: Vec::new(alloc),
     };
-    names.push_dates(asked.dates.as_slice(), asked.spans, asked.columns.as_slice())?;
+    names.push_dates(
+        asked.dates.as_slice(),
+        asked.spans,
+        asked.columns.as_slice(),
+    )?;
     Ok(names.made)
 }

@@ -82,11 +82,7 @@ impl RecordLine for EntryLine {
 }
 
 /// Appends the text of EDTF, where it is asked.
-fn push_edtf(
-    lines: &mut SheetLines,
-    dates: &ColumnDates,
-    with_edtf: bool,
-) -> Result<(), AllocError>
+fn push_edtf(lines: &mut SheetLines, dates: &ColumnDates, with_edtf: bool) -> Result<(), AllocError>
     ensures { OnOk result (GainsFields (edtf_field with_edtf (dated_seen dates.now)) lines.old lines.new) }
 {
     if with_edtf {

@@ -107,7 +107,12 @@ impl Found {
     {
         let dates = choice.dates;
         'dates: for place in 0..dates.len() {
-            self.add_date(choice, &dates[place], &of_sheet.fields, &of_sheet.columns[place]);
+            self.add_date(
+                choice,
+                &dates[place],
+                &of_sheet.fields,
+                &of_sheet.columns[place],
+            );
         }
     }
 }

@@ -269,7 +269,13 @@ impl ColumnDates {
                 self.has_last = false;
                 self.marks = DAY_MARKS;
                 self.first.text.clear();
-                write_date(&mut self.first.text, field, called, choice.names, &choice.reading)
+                write_date(
+                    &mut self.first.text,
+                    field,
+                    called,
+                    choice.names,
+                    &choice.reading,
+                )
             }
             _ => {
                 self.marks = write_span(

@@ -19,5 +19,5 @@ columns-preserved c =
     ∙ map-append string_bytes c.columns.endings.items (c.in_ok-numbered_ending.field-0 ∷ [])
     ∙ ap (λ (xs : List (List ℕ)). xs ++ string_bytes c.in_ok-numbered_ending.field-0 ∷ []) c.columns.invariant
     ∙ append_assoc old (map f (range_with_len 1 i)) (string_bytes c.in_ok-numbered_ending.field-0 ∷ [])
-    ∙ ap (λ (text : List ℕ). old ++ map f (range_with_len 1 i) ++ text ∷ []) c.in_ok-numbered_ending.ensures
+    ∙ ap (λ (text : List ℕ). old ++ (map f (range_with_len 1 i) ++ text ∷ [])) c.in_ok-numbered_ending.ensures
     ∙ ap (λ (xs : List (List ℕ)). old ++ xs) (sym (map-range_with_len_more f 1 i (i + 1) (omega arith)))

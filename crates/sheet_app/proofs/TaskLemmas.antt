@@ -26,10 +26,10 @@ use Rattle.register_records.specs.Entries.{Fields, text_records}
 use Rattle.register_records.specs.SetupRules.{NamesTwice, is_delimiter}
 use Rattle.register_sheets.specs.AskedOfSheets.{HasHeadings, IsChoice, IsChoiceOf, SheetAsked}
 use Rattle.register_sheets.specs.Choices.{AsksOnce, asked_targets, asks_twice, column_limit, date_limit}
-use Rattle.register_sheets.specs.Choices.{is_day_number, is_weekday}
+use Rattle.register_sheets.specs.Choices.{is_church, is_day_number, is_weekday}
 use Rattle.register_sheets.specs.Headings.{AreHeadings, asked_name, asked_names, wanted_for, wanted_heading}
 use Rattle.register_sheets.specs.declared.choices.AskedColumn.{AskedColumn}
-use Rattle.register_sheets.specs.declared.choices.AskedColumn.TheVariants.{Cells, DayNumber, Weekday}
+use Rattle.register_sheets.specs.declared.choices.AskedColumn.TheVariants.{Cells, Church, DayNumber, Weekday}
 use Rattle.register_sheets.specs.declared.choices.DateColumn.{DateColumn}
 use Rattle.register_sheets.specs.declared.choices.SheetChoice.{SheetChoice}
 use Rattle.sheet_arguments.specs.CommandLine.{Values}
@@ -102,6 +102,7 @@ asked_distinct (Some list) all is = distinct [] (names_in list) all none_distinc
 member : (column : AskedColumn) → is_member alike all_columns column ≡ true
 member DayNumber = refl
 member Weekday = refl
+member Church = refl
 member (Cells (target.Date calendar.Gregorian)) = refl
 member (Cells (target.Date calendar.Iso)) = refl
 member (Cells (target.Date calendar.Julian)) = refl
@@ -120,7 +121,7 @@ member (Cells target.Tzolkin) = refl
 
 few : (all : List AskedColumn) → IsDistinct alike all → nat_lt column_limit (length all) ≡ false
 few all so =
-    let most : length all ≤ 17 = length-le_from_is_member alike_equiv all all_columns so (λ column is. member column) in
+    let most : length all ≤ 18 = length-le_from_is_member alike_equiv all all_columns so (λ column is. member column) in
     grind (arith, most)
 
 not_both : (b c : Bool) → c ≡ false → (b ≡ true → c ≡ true) → b ≡ false
@@ -169,21 +170,35 @@ at_most_one p (column ∷ columns) both so =
 both_days : (one other : AskedColumn) → is_day_number one ≡ true → is_day_number other ≡ true → alike one other ≡ true
 both_days DayNumber DayNumber a b = refl
 both_days DayNumber Weekday a b = absurd (cc)
+both_days DayNumber Church a b = absurd (cc)
 both_days DayNumber (Cells target) a b = absurd (cc)
 both_days Weekday other a b = absurd (cc)
+both_days Church other a b = absurd (cc)
 both_days (Cells target) other a b = absurd (cc)
 
 both_weekdays : (one other : AskedColumn) → is_weekday one ≡ true → is_weekday other ≡ true → alike one other ≡ true
 both_weekdays Weekday Weekday a b = refl
 both_weekdays Weekday DayNumber a b = absurd (cc)
+both_weekdays Weekday Church a b = absurd (cc)
 both_weekdays Weekday (Cells target) a b = absurd (cc)
 both_weekdays DayNumber other a b = absurd (cc)
+both_weekdays Church other a b = absurd (cc)
 both_weekdays (Cells target) other a b = absurd (cc)
+
+both_churches : (one other : AskedColumn) → is_church one ≡ true → is_church other ≡ true → alike one other ≡ true
+both_churches Church Church a b = refl
+both_churches Church DayNumber a b = absurd (cc)
+both_churches Church Weekday a b = absurd (cc)
+both_churches Church (Cells target) a b = absurd (cc)
+both_churches DayNumber other a b = absurd (cc)
+both_churches Weekday other a b = absurd (cc)
+both_churches (Cells target) other a b = absurd (cc)
 
 asked_once : (all : List AskedColumn) → IsDistinct alike all → asks_twice all ≡ false
 asked_once all so =
     let days = at_most_one is_day_number all both_days so in
-    let weekdays = at_most_one is_weekday all both_weekdays so in grind (arith, days, weekdays)
+    let weekdays = at_most_one is_weekday all both_weekdays so in
+    let churches = at_most_one is_church all both_churches so in grind (arith, days, weekdays, churches)
 
 -- targets stand apart as their columns do
 other_targets : (one : Target) (columns : List AskedColumn)
@@ -192,6 +207,7 @@ other_targets : (one : Target) (columns : List AskedColumn)
 other_targets one [] apart = tt
 other_targets one (DayNumber ∷ columns) (first, apart) = other_targets one columns apart
 other_targets one (Weekday ∷ columns) (first, apart) = other_targets one columns apart
+other_targets one (Church ∷ columns) (first, apart) = other_targets one columns apart
 other_targets one (Cells other ∷ columns) (first, apart) = (first, other_targets one columns apart)
 
 targets_distinct : (columns : List AskedColumn) → IsDistinct alike columns
@@ -200,6 +216,7 @@ unfolding IsDistinct
 targets_distinct [] so = tt
 targets_distinct (DayNumber ∷ columns) so = targets_distinct columns so.1
 targets_distinct (Weekday ∷ columns) so = targets_distinct columns so.1
+targets_distinct (Church ∷ columns) so = targets_distinct columns so.1
 targets_distinct (Cells one ∷ columns) so = (other_targets one columns so.0, targets_distinct columns so.1)
 
 none_twice : (targets : List Target) → IsDistinct target_alike targets → ¬ (NamesTwice targets)

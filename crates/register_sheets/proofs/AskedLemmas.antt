@@ -14,7 +14,7 @@ use Rattle.register_sheets.specs.AskedViews.{day_columns, has_cells}
 use Rattle.register_sheets.specs.Choices.{asked_targets, target_in}
 use Rattle.register_sheets.specs.Converted.{asked_fields, asked_text, asked_texts, cells_taken}
 use Rattle.register_sheets.specs.declared.choices.AskedColumn.{AskedColumn}
-use Rattle.register_sheets.specs.declared.choices.AskedColumn.TheVariants.{Cells, DayNumber, Weekday}
+use Rattle.register_sheets.specs.declared.choices.AskedColumn.TheVariants.{Cells, Church, DayNumber, Weekday}
 use Rattle.register_sheets.proofs.RowLemmas.{drop_both, same_head}
 
 pub asked_step : (columns : List AskedColumn) (i : ℕ) (d : AskedColumn) (row : TableRow) (cells : List (List ℕ))
@@ -80,6 +80,7 @@ cells_shown (column ∷ columns) [] row place all same = absurd (omega arith)
 cells_shown [] (u ∷ ts) row place all same = absurd (omega arith)
 cells_shown (DayNumber ∷ columns) (u ∷ ts) row place all same = absurd (cc)
 cells_shown (Weekday ∷ columns) (u ∷ ts) row place all same = absurd (cc)
+cells_shown (Church ∷ columns) (u ∷ ts) row place all same = absurd (cc)
 
 pub asked_of_tail : (columns others : List AskedColumn) (passed targets : ℕ) → passed ≤ 2
     → columns ≡ drop passed day_columns ++ others → length others ≡ targets → list_all has_cells others ≡ true

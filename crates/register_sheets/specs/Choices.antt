@@ -16,7 +16,7 @@ use Rattle.written_dates.specs.Fields.{entries, written_calendar}
 use Rattle.written_dates.specs.Written.{written}
 use Rattle.written_dates.specs.declared.fields.CalendarNames.{CalendarNames}
 use Rattle.register_sheets.specs.declared.choices.AskedColumn.{AskedColumn}
-use Rattle.register_sheets.specs.declared.choices.AskedColumn.TheVariants.{Cells, DayNumber, Weekday}
+use Rattle.register_sheets.specs.declared.choices.AskedColumn.TheVariants.{Cells, Church, DayNumber, Weekday}
 use Rattle.register_sheets.specs.declared.choices.CalendarField.{CalendarField}
 use Rattle.register_sheets.specs.declared.choices.CalendarField.TheVariants as calendar
 use Rattle.register_sheets.specs.declared.choices.DateColumn.{DateColumn}
@@ -29,7 +29,7 @@ abbrev pub date_limit : ℕ
 date_limit = 8
 
 abbrev pub column_limit : ℕ
-column_limit = MAX_TARGETS + 2
+column_limit = MAX_TARGETS + 3
 
 -- the targets among the columns asked, in order
 abbrev pub target_in : AskedColumn → List Target
@@ -47,9 +47,15 @@ abbrev pub is_weekday : AskedColumn → Bool
 is_weekday Weekday = true
 is_weekday column = false
 
--- the day or the weekday is asked twice
+abbrev pub is_church : AskedColumn → Bool
+is_church Church = true
+is_church column = false
+
+-- the day, the weekday or the name of the day is asked twice
 abbrev pub asks_twice : List AskedColumn → Bool
-asks_twice columns = nat_lt 1 (count_by is_day_number columns) || nat_lt 1 (count_by is_weekday columns)
+asks_twice columns =
+    nat_lt 1 (count_by is_day_number columns) || nat_lt 1 (count_by is_weekday columns)
+    || nat_lt 1 (count_by is_church columns)
 
 -- how many columns come behind a sheet: for each column of dates those asked, and the refusal
 abbrev pub added : SheetChoice → ℕ

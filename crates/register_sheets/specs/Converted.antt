@@ -8,10 +8,11 @@ use Rattle.register_records.specs.Columns.{Column, kind_columns, tail_order}
 use Rattle.register_records.specs.Entries.{Fields, record_limit}
 use Rattle.register_records.specs.Outcomes.{IsRowOf, TableRow}
 use Rattle.register_sheets.specs.Choices.{asked_targets, register_entry}
+use Rattle.register_sheets.specs.ChurchNames.{church_shown}
 use Rattle.register_sheets.specs.DateCounts.{AreSheetCounts}
 use Rattle.register_sheets.specs.Sheets.{filled, records_text, widest}
 use Rattle.register_sheets.specs.declared.choices.AskedColumn.{AskedColumn}
-use Rattle.register_sheets.specs.declared.choices.AskedColumn.TheVariants.{Cells, DayNumber, Weekday}
+use Rattle.register_sheets.specs.declared.choices.AskedColumn.TheVariants.{Cells, Church, DayNumber, Weekday}
 use Rattle.register_sheets.specs.declared.choices.SheetChoice.{SheetChoice}
 use Rattle.register_sheets.specs.declared.date_counts.SheetCounts.{SheetCounts}
 
@@ -25,6 +26,7 @@ shown_in name row =
 abbrev pub asked_text : AskedColumn → TableRow → List (List ℕ) → List ℕ
 asked_text DayNumber row cells = shown_in (codes "rd") row
 asked_text Weekday row cells = shown_in (codes "weekday") row
+asked_text Church row cells = church_shown row
 asked_text (Cells target) row cells = get_or cells 0 []
 
 abbrev pub cells_taken : AskedColumn → ℕ

@@ -8,13 +8,14 @@ use Rattle.std.specs.Str.{bytes_eq}
 use Rattle.date_texts.specs.Calendars.{target_name}
 use Rattle.register_records.specs.Entries.{Fields}
 use Rattle.register_sheets.specs.declared.choices.AskedColumn.{AskedColumn}
-use Rattle.register_sheets.specs.declared.choices.AskedColumn.TheVariants.{Cells, DayNumber, Weekday}
+use Rattle.register_sheets.specs.declared.choices.AskedColumn.TheVariants.{Cells, Church, DayNumber, Weekday}
 use Rattle.register_sheets.specs.declared.choices.DateColumn.{DateColumn}
 
 -- the name of a column asked
 abbrev pub asked_name : AskedColumn → List ℕ
 asked_name DayNumber = codes "rd"
 asked_name Weekday = codes "weekday"
+asked_name Church = codes "church"
 asked_name (Cells target) = target_name target
 
 -- the names of the columns asked, and behind them that of the refusal

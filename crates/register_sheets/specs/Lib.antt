@@ -4,6 +4,7 @@ pub mod LineViews
 pub mod NameMeanings
 pub mod NameLists
 pub mod Choices
+pub mod ChurchNames
 pub mod ChoiceViews
 pub mod AskedViews
 pub mod DateCounts

@@ -8,13 +8,17 @@ ghost use Rattle.register_records.specs.Outcomes.{TableRow};
 ghost use Rattle.register_records.specs.Views.{row_seen};
 ghost use Rattle.register_sheets.specs.Converted.{asked_fields, asked_text, cells_taken, shown_in};
 ghost use Rattle.register_sheets.specs.Choices.{column_limit};
+ghost use Rattle.register_sheets.specs.ChurchNames.{church_shown, row_calendar};
 ghost use Rattle.register_sheets.specs.AskedViews.{day_columns, has_cells};
 ghost use Rattle.register_sheets.specs.LineViews.{GainsFields};
 
 use crate::choices::AskedColumn;
 use crate::lines::SheetLines;
+use crate::register_fields::calendar_called;
+use church_day_texts::church_cell;
+use date_texts::Calendar;
 use itoa::Buffer;
-use register_records::Row;
+use register_records::{Body, Row};
 use std::alloc::AllocError;
 
 /// Appends the number of a row's day, or nothing where it was refused.
@@ -35,6 +39,36 @@ fn push_weekday(lines: &mut SheetLines, row: &Row) -> Result<(), AllocError>
         Ok(day) => lines.push(day.weekday().name().as_bytes()),
         Err(_) => lines.push(b""),
     }
+}
+
+/// The calendar that the texts of a row name.
+fn calendar_in(row: &Row) -> Option<Calendar>
+    ensures { result ≡ row_calendar (row_seen row.now) }
+{
+    match row.entry().body() {
+        Body::Fields { calendar, .. } => calendar_called(calendar.as_str().as_bytes()),
+        Body::Refused(_) => None,
+    }
+}
+
+/// The Sunday or feast that a row's day is, in the church year of its calendar.
+fn church_in(row: &Row) -> &'static str
+    ensures { result.now ≡ church_shown (row_seen row.now) }
+{
+    let Ok(day) = row.outcome() else {
+        return "";
+    };
+    match calendar_in(row) {
+        Some(calendar) => church_cell(calendar, day),
+        None => "",
+    }
+}
+
+/// Appends the Sunday or feast that a row's day is, or nothing where it is none or the row was refused.
+fn push_church(lines: &mut SheetLines, row: &Row) -> Result<(), AllocError>
+    ensures { OnOk result (GainsFields (church_shown (row_seen row.now) ∷ []) lines.old lines.new) }
+{
+    lines.push(church_in(row).as_bytes())
 }
 
 /// Appends the number of a row's refusal, or nothing where it has none.
@@ -79,6 +113,10 @@ fn push_column(
         }
         AskedColumn::Weekday => {
             push_weekday(lines, row)?;
+            Ok(0)
+        }
+        AskedColumn::Church => {
+            push_church(lines, row)?;
             Ok(0)
         }
         AskedColumn::Cells(_) => {

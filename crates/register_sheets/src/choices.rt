@@ -6,7 +6,7 @@ ghost use Rattle.std.specs.Prelude.{Err, IfErr, IfOk};
 ghost use Rattle.register_records.specs.SetupRules.{NamesTwice, is_delimiter};
 ghost use Rattle.register_records.specs.Views.{targets_of};
 ghost use Rattle.register_sheets.specs.Choices.{AsksOnce, HasDates, added, asked_targets, asks_twice, column_limit};
-ghost use Rattle.register_sheets.specs.Choices.{date_limit, is_day_number, is_weekday, target_in};
+ghost use Rattle.register_sheets.specs.Choices.{date_limit, is_church, is_day_number, is_weekday, target_in};
 ghost use Rattle.register_sheets.specs.ChoiceViews.{HasFault};
 
 use date_texts::{Calendar, MAX_TARGETS, Target};
@@ -18,7 +18,7 @@ use written_dates::{CalendarNames, Choice, Names};
 pub const MAX_DATES: usize = 8;
 
 /// The most columns that may be asked for each column of dates.
-pub const MAX_COLUMNS: usize = MAX_TARGETS + 2;
+pub const MAX_COLUMNS: usize = MAX_TARGETS + 3;
 
 /// Where the id of a record is. A place is that of a field, from 0; a record that has none there has an empty one.
 #[derive(Clone, Copy, PartialEq, Eq)]
@@ -54,6 +54,8 @@ pub enum AskedColumn {
     DayNumber,
     /// The weekday.
     Weekday,
+    /// The Sunday or feast that the day is, in the church year of its calendar.
+    Church,
     /// The date in a calendar, the haab or the tzolkin.
     Cells(Target),
 }
@@ -124,6 +126,12 @@ fn is_weekday(column: &AskedColumn) -> bool
     matches!(column, AskedColumn::Weekday)
 }
 
+fn is_church(column: &AskedColumn) -> bool
+    ensures { result ≡ is_church column.now }
+{
+    matches!(column, AskedColumn::Church)
+}
+
 /// How often the day is asked.
 fn days_asked(columns: &[AskedColumn]) -> usize
     ensures { result ≡ count_by is_day_number columns.now }
@@ -141,13 +149,21 @@ fn weekdays_asked(columns: &[AskedColumn]) -> usize
     columns.iter().filter(|column| is_weekday(column)).count()
 }
 
-/// Whether the day or the weekday is asked twice.
+/// How often the name of the day is asked.
+fn churches_asked(columns: &[AskedColumn]) -> usize
+    ensures { result ≡ count_by is_church columns.now }
+{
+    columns.iter().filter(|column| is_church(column)).count()
+}
+
+/// Whether the day, the weekday or the name of the day is asked twice.
 fn asks_twice(columns: &[AskedColumn]) -> bool
     ensures { result ≡ asks_twice columns.now }
 {
     let days = days_asked(columns) > 1;
     let weekdays = weekdays_asked(columns) > 1;
-    days || weekdays
+    let churches = churches_asked(columns) > 1;
+    days || weekdays || churches
 }
 
 /// The target that a column asks for.

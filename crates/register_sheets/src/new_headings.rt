@@ -20,6 +20,7 @@ fn asked_name(column: AskedColumn) -> &'static [u8]
     match column {
         AskedColumn::DayNumber => b"rd",
         AskedColumn::Weekday => b"weekday",
+        AskedColumn::Church => b"church",
         AskedColumn::Cells(target) => target.name().as_bytes(),
     }
 }

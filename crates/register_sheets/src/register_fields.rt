@@ -16,7 +16,7 @@ use std::str;
 use written_dates::{CalendarNames, write_date};
 
 /// The calendar that a text of a register names.
-fn calendar_called(text: &[u8]) -> Option<Calendar>
+pub(crate) fn calendar_called(text: &[u8]) -> Option<Calendar>
     ensures { result ≡ called_spec text.now }
 {
     match str::from_utf8(text) {

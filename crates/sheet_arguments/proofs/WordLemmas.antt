@@ -25,7 +25,7 @@ use Rattle.date_texts.specs.declared.target.Target.TheVariants.{Date, Haab, Tzol
 use Rattle.register_sheets.specs.Choices.{is_name}
 use Rattle.register_sheets.specs.Headings.{asked_name}
 use Rattle.register_sheets.specs.declared.choices.AskedColumn.{AskedColumn}
-use Rattle.register_sheets.specs.declared.choices.AskedColumn.TheVariants.{Cells, DayNumber, Weekday}
+use Rattle.register_sheets.specs.declared.choices.AskedColumn.TheVariants.{Cells, Church, DayNumber, Weekday}
 use Rattle.sheet_arguments.specs.Faults.{Fault, column_twice, unknown_calendar, unknown_column}
 use Rattle.sheet_arguments.specs.WordLists.{all_columns, calendar_named, column_named, is_among, is_column_name, names_in}
 use Rattle.sheet_arguments.specs.WordLists.{or_fault}
@@ -85,6 +85,7 @@ calendars_go_on (w ∷ before) words first calendars is =
 column_itself : (c : AskedColumn) → find (λ other. bytes_eq (asked_name c) (asked_name other)) all_columns ≡ Some c
 column_itself DayNumber = refl
 column_itself Weekday = refl
+column_itself Church = refl
 column_itself (Cells (Date Gregorian)) = refl
 column_itself (Cells (Date c)) = refl
 column_itself (Cells Haab) = refl
@@ -94,16 +95,17 @@ column_itself (Cells Tzolkin) = refl
 pub column_by_name : (text : List ℕ) (c : AskedColumn) → IsNamed text (asked_name c) → Some c ≡ column_named text
 column_by_name text c is = rw is (sym (column_itself c))
 
--- a text that is no target's name, nor one of the other two, names none
+-- a text that is no target's name, nor one of the other three, names none
 pub no_column : (text : List ℕ) → ((t : Target) → ¬ IsNamed text (target_name t)) → (¬ IsNamed text (asked_name DayNumber))
-    → (¬ IsNamed text (asked_name Weekday)) → None ≡ column_named text
-no_column text targets day week =
+    → (¬ IsNamed text (asked_name Weekday)) → (¬ IsNamed text (asked_name Church)) → None ≡ column_named text
+no_column text targets day week church =
     sym (none_found (is_column_name text) all_columns (λ c. not_true (is_column_name text c) (λ is.
     no_name c ((bytes_eq-Decides (str_to_ascii_lowercase (trimmed text)) (asked_name c)).0 is))))
   where
     no_name : (c : AskedColumn) → IsNamed text (asked_name c) → ⊥
     no_name DayNumber is = day is
     no_name Weekday is = week is
+    no_name Church is = church is
     no_name (Cells t) is = targets t is
 
 -- names before others, of which the columns are these

@@ -11,7 +11,7 @@ use Rattle.date_texts.specs.declared.calendar.Calendar.TheVariants.{Gregorian}
 use Rattle.register_sheets.specs.Choices.{is_name}
 use Rattle.register_sheets.specs.Headings.{asked_name}
 use Rattle.register_sheets.specs.declared.choices.AskedColumn.{AskedColumn}
-use Rattle.register_sheets.specs.declared.choices.AskedColumn.TheVariants.{Cells, DayNumber, Weekday}
+use Rattle.register_sheets.specs.declared.choices.AskedColumn.TheVariants.{Cells, Church, DayNumber, Weekday}
 use Rattle.sheet_arguments.specs.Faults.{Fault, column_twice, unknown_calendar, unknown_column}
 
 -- goes on with what there is, or ends with the fault where there is nothing
@@ -31,7 +31,7 @@ with_calendars calendars (word ∷ words) =
 
 -- the columns that there are
 abbrev pub all_columns : List AskedColumn
-all_columns = DayNumber ∷ Weekday ∷ map (λ target. Cells target) all_targets
+all_columns = DayNumber ∷ Weekday ∷ Church ∷ map (λ target. Cells target) all_targets
 
 -- the name is the column's: spaces and tabs at both ends taken off, ASCII letter case aside
 abbrev pub is_column_name : Text → AskedColumn → Bool

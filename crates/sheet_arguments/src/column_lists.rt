@@ -28,6 +28,9 @@ fn column_named(name: &str) -> Option<AskedColumn>
     if bare.eq_ignore_ascii_case(b"weekday") {
         return Some(AskedColumn::Weekday);
     }
+    if bare.eq_ignore_ascii_case(b"church") {
+        return Some(AskedColumn::Church);
+    }
     match target_named(name) {
         Some(target) => Some(AskedColumn::Cells(target)),
         None => None,

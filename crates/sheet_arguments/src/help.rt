@@ -40,8 +40,10 @@ Options:
     --delimiter WORD  what stands between two fields: comma, semicolon or
                       tab. Without it: comma.
     --to LIST         the columns for each column of dates, in the order
-                      wanted, separated by commas: rd, weekday, calendars,
-                      haab, tzolkin. Without it: weekday,gregorian.
+                      wanted, separated by commas: rd, weekday, church,
+                      calendars, haab, tzolkin. Without it:
+                      weekday,gregorian. church is the Sunday or feast, in
+                      Latin, that a Gregorian or Julian day is.
     --register        write the register of each column of dates too, which
                       the program register takes: FILE.register.csv, and of
                       several FILE.register.1.csv, FILE.register.2.csv ..

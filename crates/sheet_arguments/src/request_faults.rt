@@ -70,6 +70,7 @@ pub(crate) fn column_name(column: AskedColumn) -> &'static str
     match column {
         AskedColumn::DayNumber => "rd",
         AskedColumn::Weekday => "weekday",
+        AskedColumn::Church => "church",
         AskedColumn::Cells(target) => target.name(),
     }
 }

@@ -139,6 +139,12 @@ const JULIAN_AND_GREGORIAN: [AskedColumn; 2] = [
     AskedColumn::Cells(Target::Date(Calendar::Gregorian)),
 ];
 
+const WEEKDAY_AND_CHURCH_AND_GREGORIAN: [AskedColumn; 3] = [
+    AskedColumn::Weekday,
+    AskedColumn::Church,
+    AskedColumn::Cells(Target::Date(Calendar::Gregorian)),
+];
+
 pub(super) const NO_COLUMNS: [AskedColumn; 0] = [];
 
 const WEEKDAY: [AskedColumn; 1] = [AskedColumn::Weekday];
@@ -154,7 +160,7 @@ pub(super) const DAY_FIRST: Choice = Choice {
     charters: false,
 };
 
-const CASES: [Case; 22] = [
+const CASES: [Case; 23] = [
     Case {
         delimiter: b';',
         above: 0,
@@ -243,6 +249,22 @@ const CASES: [Case; 22] = [
         wanted: "D;C;;;rd;refusal\n1 Mai 1701;julian;longer;than;621044;\n2 Mai 1701;julian;;;621045;\n",
         rows: 2,
         counts: &[(0, 0)],
+    },
+    // Easter was on 9 April 1699, Julian, four weeks after Oculi, and on 27 March 1712, Gregorian, which is that Coptic day.
+    Case {
+        delimiter: b';',
+        above: 0,
+        dates: &DATE_0_IN_1,
+        columns: &WEEKDAY_AND_CHURCH_AND_GREGORIAN,
+        reading: DAY_FIRST,
+        sheet: "D;C\n12. März 1699;julian\n12. März 1699;gregorian\n27. März 1712;gregorian\n\
+            20.7.1428;coptic\nx;julian\n27. März 1712;\n",
+        wanted: "D;C;weekday;church;gregorian;refusal\n\
+            12. März 1699;julian;Sunday;Dominica Oculi;1699-03-22;\n\
+            12. März 1699;gregorian;Thursday;;1699-03-12;\n27. März 1712;gregorian;Sunday;Pascha;1712-03-27;\n\
+            20.7.1428;coptic;Sunday;;1712-03-27;\nx;julian;;;;5\n27. März 1712;;;;;4\n",
+        rows: 6,
+        counts: &[(2, 0)],
     },
     Case {
         delimiter: b'\t',

@@ -14,10 +14,10 @@ dated : (choice : SheetChoice) (none : Bool) → none ≡ (length choice.dates.n
     → length choice.dates.now ≤ 8 → HasDates choice
 dated choice none is some few = record { some = grind (arith, nat_tests); few = grind (arith, nat_tests) }
 
-few_columns : (n : ℕ) → n ≤ 17 → nat_lt column_limit n ≡ false
+few_columns : (n : ℕ) → n ≤ 18 → nat_lt column_limit n ≡ false
 few_columns n few = grind (arith, nat_tests)
 
-many_columns : (n : ℕ) → 17 < n → nat_lt column_limit n ≡ true
+many_columns : (n : ℕ) → 18 < n → nat_lt column_limit n ≡ true
 many_columns n many = grind (arith, nat_tests)
 
 pub returns-then-choice-gt-MAX_COLUMNS-clause-fault : goal.returns-then-choice-gt-MAX_COLUMNS-clause-fault
@@ -33,7 +33,7 @@ returns-then-asks_twice-clause-fault c = (
   λ once. true≢false (sym c.if-asks_twice.true ∙ c.asks_twice.ensures ∙ once.day),
 )
 
-asks_once : (choice : SheetChoice) (twice : Bool) (targets : List Target) → length choice.columns.now ≤ 17
+asks_once : (choice : SheetChoice) (twice : Bool) (targets : List Target) → length choice.columns.now ≤ 18
     → twice ≡ asks_twice choice.columns.now → twice ≡ false → targets ≡ asked_targets choice.columns.now
     → ¬ (NamesTwice targets) → AsksOnce choice
 asks_once choice twice targets few is off same other = record {

@@ -1,4 +1,4 @@
--- A name is looked for as that of the day, of the weekday, and of a target.
+-- A name is looked for as that of the day, of the weekday, of the name of the day, and of a target.
 use Rattle.std.proofs.Common.{◌∙◌, ap, codes}
 use Rattle.date_texts.specs.Trimmed.{trimmed}
 use Rattle.register_sheets.specs.declared.choices.AskedColumn.TheVariants.{Cells}
@@ -16,3 +16,5 @@ returns-in-None c =
     c.if-eq_ignore_ascii_case.false c.eq_ignore_ascii_case.ensures.test.1)
     (not_called c.trimmed-bare.result.now c.args.name.now (codes "weekday") c.eq_ignore_ascii_case-2.result bare
     c.if-eq_ignore_ascii_case-2.false c.eq_ignore_ascii_case-2.ensures.test.1)
+    (not_called c.trimmed-bare.result.now c.args.name.now (codes "church") c.eq_ignore_ascii_case-3.result bare
+    c.if-eq_ignore_ascii_case-3.false c.eq_ignore_ascii_case-3.ensures.test.1)

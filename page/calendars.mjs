@@ -10,5 +10,7 @@ export const DEFAULT_TARGETS = FACTS.targets.default;
 // What a table has beside them: what stands in a record, and what every row has.
 export const NO_TARGETS = FACTS.sealed.columns.filter((name) => !TARGETS.includes(name));
 const OF_RECORD = ['row', ...FACTS.sealed.header];
-// What can be put behind the columns of a sheet; the refusal always is.
-export const BESIDE = [...NO_TARGETS.filter((name) => !OF_RECORD.includes(name) && name !== 'refusal'), ...TARGETS];
+// What can be put behind the columns of a sheet, last the Sunday or feast of a day; the refusal always is.
+export const BESIDE = [
+  ...NO_TARGETS.filter((name) => !OF_RECORD.includes(name) && name !== 'refusal'), ...TARGETS, 'church',
+];

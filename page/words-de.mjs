@@ -539,7 +539,7 @@ export const WORDS = {
   allRead: 'Alle Datumsangaben sind lesbar',
   behind: 'Spalten hinter denen des Tabellenblatts',
   behindIs: 'Sie erscheinen in der Reihenfolge, in der Sie sie ankreuzen; dahinter die Ablehnung, die leer ist, wo das Datum ' +
-    'umgerechnet wurde.',
+    'umgerechnet wurde. church ist der Sonntag oder das Fest, auf Latein, eines gregorianischen oder julianischen Tages.',
   noneBehind: 'Keine Spalten außer der Ablehnung.',
   first: (n) => (n === 1 ? 'erster Eintrag' : `erste ${n} Einträge`),
   registerRows: (name, n) => ['Das Register, das aus ', name, ` wird, ${WORDS.first(n)}`],

@@ -512,7 +512,7 @@ export const WORDS = {
   allRead: 'All dates can be read',
   behind: 'Columns to be put behind those of the sheet',
   behindIs: 'They come in the order in which you tick them; behind them the refusal, which is empty where the date ' +
-    'was converted.',
+    'was converted. church is the Sunday or feast, in Latin, of a Gregorian or Julian day.',
   noneBehind: 'No columns but the refusal.',
   first: (n) => `first ${n === 1 ? 'record' : `${n} records`}`,
   registerRows: (name, n) => ['The register that is made of ', name, `, ${WORDS.first(n)}`],

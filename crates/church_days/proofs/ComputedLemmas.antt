@@ -1,6 +1,6 @@
 -- What a day is called as a function.
 use Rattle.std.proofs.Common.{◌≡◌, ◌↔◌, ◌⊎◌, ◌∙◌, ◌+◌, ◌-◌, ℕ, zero, suc, ◌<◌, ◌≤◌, ℤ, pos, ◌<ℤ◌, Bool, true, false, ◌&&◌, ◌==◌, refl, sym}
-use Rattle.std.proofs.Common.{ap, arith, cond, List, [], ◌∷◌, Option, Some, None, length, map, drop, get_or}
+use Rattle.std.proofs.Common.{ap, arith, List, Option, Some, None, length, map, drop, get_or}
 use Rattle.std.proofs.lemmas.Bool.Decides.{Decides-int_eq}
 use Rattle.std.proofs.lemmas.List.{at_drop_all, at_drop_more}
 use Rattle.std.specs.Ordering.{int_eq}
@@ -13,7 +13,7 @@ use Rattle.church_year.specs.Easter.{rules_of}
 use Rattle.church_year.specs.FeastDates.{date_in, feast_date_in}
 use Rattle.church_year.specs.Feasts.{IsFeastDate}
 use Rattle.church_year.proofs.FeastDateLemmas.{date_found, none_in_other}
-use Rattle.church_days.specs.Computed.{church_name, first_name, is_date, means, name_until, or_earlier}
+use Rattle.church_days.specs.Computed.{church_name, first_name, means, name_until, or_earlier}
 use Rattle.church_days.specs.DayNames.{DayName, day_names}
 use Rattle.church_days.specs.NameViews.{seen}
 use Rattle.church_days.proofs.NameLemmas.{Row, no_row}

@@ -1,3 +1,4 @@
 mod NameLemmas
 mod LawLemmas
 mod ComputedLemmas
+mod TestLemmas

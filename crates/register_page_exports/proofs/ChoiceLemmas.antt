@@ -1,13 +1,13 @@
 -- The numbers in front of those of the columns of dates, one by one.
-use Rattle.std.proofs.Common.{◌≡◌, ◌<◌, ◌+◌, ◌++◌, ◌∷◌, [], ℕ, suc, List, Option, Some, None, length, refl, ap, sym}
-use Rattle.std.proofs.Common.{append_assoc, arith, drop, lt-ltb, slice_get, slice_index_or, take, true}
+use Rattle.std.proofs.Common.{◌≡◌, ◌<◌, ◌+◌, ◌++◌, ◌∷◌, [], ℕ, zero, suc, List, Option, Some, None, length, refl, ap, sym}
+use Rattle.std.proofs.Common.{append_assoc, arith, drop, lt-ltb, map, slice_get, slice_index_or, take, true}
 use Rattle.std.specs.Prelude.{nat_lt}
 use Rattle.date_texts.specs.Calendars.{all_targets}
 use Rattle.date_texts.specs.declared.target.Target.{Target}
 use Rattle.written_dates.specs.Signs.{◌>>=◌}
 use Rattle.written_dates.specs.declared.written.Choice.{Choice}
 use Rattle.register_sheets.specs.declared.choices.AskedColumn.{AskedColumn}
-use Rattle.register_sheets.specs.declared.choices.AskedColumn.TheVariants.{Cells}
+use Rattle.register_sheets.specs.declared.choices.AskedColumn.TheVariants.{Cells, Church}
 use Rattle.register_sheets.specs.declared.choices.DateColumn.{DateColumn}
 use Rattle.register_sheets.specs.declared.choices.Spans.TheVariants as spans
 use Rattle.register_page_exports.specs.AskedViews.{all_before}
@@ -35,9 +35,27 @@ asked_made (a ∷ b ∷ c ∷ d ∷ e ∷ f ∷ g ∷ []) dates columns delimite
 asked_made head dates columns delimiter reading ds cs seven low read dated asked = absurd (omega (arith, seven))
 
 -- a column asked by a number from 2 on is that of a target
+target_in_front : (targets : List Target) (k : ℕ) (target : Target) → slice_get targets k ≡ Some target
+    → slice_get (map (λ target. Cells target) targets ++ Church ∷ []) k ≡ Some (Cells target)
+target_in_front [] k target e = absurd (cc)
+target_in_front (t ∷ targets) zero target e = let same : t ≡ target = cc in ap (λ (t : Target). Some (Cells t)) same
+target_in_front (t ∷ targets) (suc k) target e = target_in_front targets k target e
+
 pub column_at : (n k : ℕ) (target : Target) → n ≡ suc (suc k) → slice_get all_targets k ≡ Some target
     → Some (Cells target) ≡ column_by n
-column_at n k target e is = rw (e, is) refl
+column_at n k target e is = rw e (sym (target_in_front all_targets k target is))
+
+-- no column is asked by a number from 2 on that is that of no target, nor the next
+none_behind : (targets : List Target) (k : ℕ) → slice_get targets k ≡ None → (k ≡ length targets → ⊥)
+    → slice_get (map (λ target. Cells target) targets ++ Church ∷ []) k ≡ None
+none_behind [] zero e other = absurd (other refl)
+none_behind [] (suc k) e other = refl
+none_behind (t ∷ targets) zero e other = absurd (cc)
+none_behind (t ∷ targets) (suc k) e other = none_behind targets k e (λ same. other (ap suc same))
+
+pub no_column_at : (n k : ℕ) → n ≡ suc (suc k) → slice_get all_targets k ≡ None → (n ≡ 17 → ⊥) → None ≡ column_by n
+no_column_at n k e none other =
+    rw e (sym (none_behind all_targets k none (λ same. other (omega (arith, e, same)))))
 
 -- one more column of dates
 push_before : (items : List DateColumn) (d : DateColumn) (more : Option (List DateColumn))

@@ -1,10 +1,10 @@
 -- What numbers of a page ask of a sheet.
-use Rattle.std.specs.Prelude.{◌==◌, ◌%◌, ◌&&◌, ℕ, zero, suc, Bool, true, false, nat_le, nat_lt, if◌then◌else◌}
-use Rattle.std.specs.Prelude.{List, [], ◌∷◌, Option, None, Some, slice_get}
+use Rattle.std.specs.Prelude.{◌==◌, ◌%◌, ◌&&◌, ◌++◌, ℕ, Bool, true, false, nat_le, nat_lt, if◌then◌else◌}
+use Rattle.std.specs.Prelude.{List, [], ◌∷◌, map, Option, None, Some, slice_get}
 use Rattle.date_texts.specs.Calendars.{all_calendars, all_targets}
 use Rattle.register_sheets.specs.AskedOfSheets.{SheetAsked}
 use Rattle.register_sheets.specs.declared.choices.AskedColumn.{AskedColumn}
-use Rattle.register_sheets.specs.declared.choices.AskedColumn.TheVariants.{Cells, DayNumber, Weekday}
+use Rattle.register_sheets.specs.declared.choices.AskedColumn.TheVariants.{Cells, Church, DayNumber, Weekday}
 use Rattle.register_sheets.specs.declared.choices.CalendarField.{CalendarField}
 use Rattle.register_sheets.specs.declared.choices.CalendarField.TheVariants as calendar
 use Rattle.register_sheets.specs.declared.choices.DateColumn.{DateColumn}
@@ -73,11 +73,12 @@ dates_by (date ∷ []) = None
 dates_by (date ∷ place ∷ []) = None
 dates_by (date ∷ place ∷ number ∷ rest) = date_by date place number >>= λ d. before d (dates_by rest)
 
--- a column asked: the day, the weekday, or a target
+-- the columns that may be asked: the day, the weekday, the targets, and the name of the day
+abbrev pub page_columns : List AskedColumn
+page_columns = DayNumber ∷ Weekday ∷ (map (λ target. Cells target) all_targets ++ Church ∷ [])
+
 abbrev pub column_by : ℕ → Option AskedColumn
-column_by zero = Some DayNumber
-column_by (suc zero) = Some Weekday
-column_by (suc (suc n)) = slice_get all_targets n >>= λ target. Some (Cells target)
+column_by n = slice_get page_columns n
 
 abbrev pub columns_by : List ℕ → Option (List AskedColumn)
 columns_by [] = Some []

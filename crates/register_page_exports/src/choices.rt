@@ -6,7 +6,7 @@ ghost use Rattle.register_page_exports.specs.SheetChoices.{asked_by, calendar_by
 ghost use Rattle.register_page_exports.specs.SheetChoices.{flag_by, id_by, order_in, reading_by, short_by, short_hebrew_by};
 
 use date_texts::laws::{all_calendars, all_targets};
-use date_texts::{Calendar, Target};
+use date_texts::{Calendar, MAX_TARGETS, Target};
 use register_sheets::{AskedColumn, AskedOfSheet, CalendarField, DateColumn, IdField, Spans};
 use std::alloc::{AllocError, Global};
 use written_dates::{Choice, Order, Short};
@@ -20,6 +20,9 @@ const HEAD: usize = 7;
 
 /// How many numbers a column of dates has.
 const DATE: usize = 3;
+
+/// The number of the name of the day, behind those of the targets.
+const CHURCH: u8 = MAX_TARGETS as u8 + 2;
 
 fn id_of(place: u32) -> IdField
     ensures { result ≡ id_by place }
@@ -129,13 +132,14 @@ fn dates_of(alloc: Global, numbers: &[u32]) -> Result<Option<Vec<DateColumn>>, A
     Ok(None)
 }
 
-/// The column asked of a number: the day, the weekday, or a target.
+/// The column asked of a number: the day, the weekday, a target, or the name of the day.
 fn column_of(number: u8) -> Option<AskedColumn>
     ensures { result ≡ column_by number }
 {
     match number {
         0 => Some(AskedColumn::DayNumber),
         1 => Some(AskedColumn::Weekday),
+        CHURCH => Some(AskedColumn::Church),
         _ => {
             all_targets();
             let target = Target::ALL.get(number as usize - 2)?;

@@ -26,11 +26,11 @@ use Rattle.register_records.specs.Entries.{Fields, text_records}
 use Rattle.register_records.specs.SetupRules.{NamesTwice, is_delimiter}
 use Rattle.register_sheets.specs.AskedOfSheets.{HasHeadings, IsChoice, IsChoiceOf, SheetAsked}
 use Rattle.register_sheets.specs.Choices.{AsksOnce, asked_targets, asks_twice, column_limit, date_limit}
-use Rattle.register_sheets.specs.Choices.{added_each, is_day_number, is_weekday}
-use Rattle.register_sheets.specs.Headings.{AreHeadings, asked_behind, asked_name, asked_names, column_names}
+use Rattle.register_sheets.specs.Choices.{added_each, is_church, is_day_number, is_weekday}
+use Rattle.register_sheets.specs.Headings.{AreHeadings, asked_behind, asked_name, asked_names, column_names, mark_names}
 use Rattle.register_sheets.specs.Headings.{wanted_for, wanted_heading}
 use Rattle.register_sheets.specs.declared.choices.AskedColumn.{AskedColumn}
-use Rattle.register_sheets.specs.declared.choices.AskedColumn.TheVariants.{Cells, DayNumber, Weekday}
+use Rattle.register_sheets.specs.declared.choices.AskedColumn.TheVariants.{Cells, Church, DayNumber, Weekday}
 use Rattle.register_sheets.specs.declared.choices.DateColumn.{DateColumn}
 use Rattle.register_sheets.specs.declared.choices.SheetChoice.{SheetChoice}
 use Rattle.register_sheets.specs.declared.choices.Spans.{Spans}
@@ -105,6 +105,7 @@ asked_distinct (Some list) all is = distinct [] (names_in list) all none_distinc
 member : (column : AskedColumn) → is_member alike all_columns column ≡ true
 member DayNumber = refl
 member Weekday = refl
+member Church = refl
 member (Cells (target.Date calendar.Gregorian)) = refl
 member (Cells (target.Date calendar.Iso)) = refl
 member (Cells (target.Date calendar.Julian)) = refl
@@ -123,7 +124,7 @@ member (Cells target.Tzolkin) = refl
 
 few : (all : List AskedColumn) → IsDistinct alike all → nat_lt column_limit (length all) ≡ false
 few all so =
-    let most : length all ≤ 17 = length-le_from_is_member alike_equiv all all_columns so (λ column is. member column) in
+    let most : length all ≤ 18 = length-le_from_is_member alike_equiv all all_columns so (λ column is. member column) in
     grind (arith, most)
 
 not_both : (b c : Bool) → c ≡ false → (b ≡ true → c ≡ true) → b ≡ false
@@ -172,21 +173,35 @@ at_most_one p (column ∷ columns) both so =
 both_days : (one other : AskedColumn) → is_day_number one ≡ true → is_day_number other ≡ true → alike one other ≡ true
 both_days DayNumber DayNumber a b = refl
 both_days DayNumber Weekday a b = absurd (cc)
+both_days DayNumber Church a b = absurd (cc)
 both_days DayNumber (Cells target) a b = absurd (cc)
 both_days Weekday other a b = absurd (cc)
+both_days Church other a b = absurd (cc)
 both_days (Cells target) other a b = absurd (cc)
 
 both_weekdays : (one other : AskedColumn) → is_weekday one ≡ true → is_weekday other ≡ true → alike one other ≡ true
 both_weekdays Weekday Weekday a b = refl
 both_weekdays Weekday DayNumber a b = absurd (cc)
+both_weekdays Weekday Church a b = absurd (cc)
 both_weekdays Weekday (Cells target) a b = absurd (cc)
 both_weekdays DayNumber other a b = absurd (cc)
+both_weekdays Church other a b = absurd (cc)
 both_weekdays (Cells target) other a b = absurd (cc)
+
+both_churches : (one other : AskedColumn) → is_church one ≡ true → is_church other ≡ true → alike one other ≡ true
+both_churches Church Church a b = refl
+both_churches Church DayNumber a b = absurd (cc)
+both_churches Church Weekday a b = absurd (cc)
+both_churches Church (Cells target) a b = absurd (cc)
+both_churches DayNumber other a b = absurd (cc)
+both_churches Weekday other a b = absurd (cc)
+both_churches (Cells target) other a b = absurd (cc)
 
 asked_once : (all : List AskedColumn) → IsDistinct alike all → asks_twice all ≡ false
 asked_once all so =
     let days = at_most_one is_day_number all both_days so in
-    let weekdays = at_most_one is_weekday all both_weekdays so in grind (arith, days, weekdays)
+    let weekdays = at_most_one is_weekday all both_weekdays so in
+    let churches = at_most_one is_church all both_churches so in grind (arith, days, weekdays, churches)
 
 -- targets stand apart as their columns do
 other_targets : (one : Target) (columns : List AskedColumn)
@@ -195,6 +210,7 @@ other_targets : (one : Target) (columns : List AskedColumn)
 other_targets one [] apart = tt
 other_targets one (DayNumber ∷ columns) (first, apart) = other_targets one columns apart
 other_targets one (Weekday ∷ columns) (first, apart) = other_targets one columns apart
+other_targets one (Church ∷ columns) (first, apart) = other_targets one columns apart
 other_targets one (Cells other ∷ columns) (first, apart) = (first, other_targets one columns apart)
 
 targets_distinct : (columns : List AskedColumn) → IsDistinct alike columns
@@ -203,6 +219,7 @@ unfolding IsDistinct
 targets_distinct [] so = tt
 targets_distinct (DayNumber ∷ columns) so = targets_distinct columns so.1
 targets_distinct (Weekday ∷ columns) so = targets_distinct columns so.1
+targets_distinct (Church ∷ columns) so = targets_distinct columns so.1
 targets_distinct (Cells one ∷ columns) so = (other_targets one columns so.0, targets_distinct columns so.1)
 
 none_twice : (targets : List Target) → IsDistinct target_alike targets → ¬ (NamesTwice targets)
@@ -241,16 +258,17 @@ both_ends columns =
     ∙ ap (λ n. n + length (map (asked_behind (codes "last")) columns)) (length-map columns (asked_behind (codes "first")))
     ∙ ap (λ n. length columns + n) (length-map columns (asked_behind (codes "last")))
 
+columns_long : (kind : Spans) (columns : List AskedColumn)
+    → length (column_names kind columns) + length (mark_names kind) + 1 ≡ added_each kind (length columns)
+columns_long spans.Unread columns = let same = length-map columns asked_name in omega (arith, same)
+columns_long spans.Ends columns = let same = both_ends columns in omega (arith, same)
+columns_long spans.EndsAndEdtf columns = let same = both_ends columns in omega (arith, same)
+
 names_long : (kind : Spans) (columns : List AskedColumn)
     → length (asked_names kind columns) ≡ added_each kind (length columns)
-names_long spans.Unread columns =
-    length-append (map asked_name columns) (codes "refusal" ∷ []) ∙ ap (λ n. n + 1) (length-map columns asked_name)
-names_long spans.Ends columns =
-    length-append (column_names spans.Ends columns) (codes "mark" ∷ codes "refusal" ∷ [])
-    ∙ ap (λ n. n + 2) (both_ends columns)
-names_long spans.EndsAndEdtf columns =
-    length-append (column_names spans.EndsAndEdtf columns) (codes "edtf" ∷ codes "mark" ∷ codes "refusal" ∷ [])
-    ∙ ap (λ n. n + 3) (both_ends columns)
+names_long kind columns =
+    length-append (column_names kind columns ++ mark_names kind) (codes "refusal" ∷ [])
+    ∙ ap (λ n. n + 1) (length-append (column_names kind columns) (mark_names kind)) ∙ columns_long kind columns
 
 wanted_long : (several : Bool) (own : Fields) (kind : Spans) (columns : List AskedColumn) (dates : List DateColumn)
     → length (flat_map (wanted_for several own kind columns) dates) ≡ length dates * added_each kind (length columns)

@@ -86,11 +86,15 @@ place_found : (ms : List Month) (place m d : ℕ) → are_months ms ≡ true →
     → (has_number ms m ≡ true) × (1 ≤ d) × (d ≤ days_of_month ms m) × (days_before_month ms m + d ≡ place + 1)
 place_found [] place m d fit e = absurd (cc)
 place_found (x ∷ ms) place m d fit e =
-    elim (chosen (nat_lt place x.days) (Some (x.number, place + 1)) (month_and_day ms (place - x.days)) (Some (m, d)) e) [
+    elim (chosen (nat_lt place x.days) (Some (x.number, place + 1)) (month_and_day ms (place - x.days)) (Some (
+      m,
+      d,
+    )) e) [
       | inl (within, is) ↦
           let same = pair_in (x.number, place + 1) m d is in grind (arith, nat_tests, same.0, same.1, within, fit)
       | inr (behind, is) ↦
-          let fits = four_parts (not (has_number ms x.number)) (nat_le x.number 99) (nat_le x.days 99) (are_months ms) fit in
+          let fits = four_parts (not (has_number ms x.number)) (nat_le x.number 99) (nat_le x.days 99) (are_months
+          ms) fit in
           let found = place_found ms (place - x.days) m d fits.3 is in
           grind (arith, nat_tests, behind, fits.0, found.0, found.1, found.2, found.3)
     ]
@@ -109,7 +113,8 @@ date_is_found church year n date some own e =
     (Some (date.month, date.day)) e) [
       | inl (within, is) ↦
           let all =
-          four_parts (int_le first n) (int_lt n next) (int_le (neg_ℤ (pos 3_652_424)) n) (int_le n (pos 3_652_059)) within in
+          four_parts (int_le first n) (int_lt n next) (int_le (neg_ℤ (pos 3_652_424)) n) (int_le n (pos 3_652_059))
+          within in
           let low : first ≤ℤ n = omega (arith, signed_arith, all.0) in
           let range : IsDayNumber n = (omega (arith, signed_arith, all.2), omega (arith, signed_arith, all.3)) in
           let place = place_found (r.months (pos year)) (unsigned_abs (n -ℤ first)) date.month date.day
@@ -140,7 +145,8 @@ meant_falls : (church : Church) (year : ℕ) (name : DayName) (date : Ymd) → 1
     → IsFeastDate church year name.feast name.place date
 meant_falls church year name date some few own e =
     let day = placed name.place (feast_day church year name.feast) in
-    let within = in_years church year name.feast name.place (named_day church year name.feast name.place) some few refl in
+    let within = in_years church year name.feast name.place (named_day church year name.feast name.place) some few
+    refl in
     let found = feast_is_found (has_feast church year name.feast) day (date_in church year) (date.month, date.day)
     (ap (λ (o : Option (ℕ × ℕ)). is_date o (date.month, date.day)) (sym within) ∙ e) in
     record {
@@ -222,9 +228,12 @@ weekday_numbered zero weekday e = let same : weekdays.Sunday ≡ weekday = cc in
 weekday_numbered (suc zero) weekday e = let same : weekdays.Monday ≡ weekday = cc in ap number_of same
 weekday_numbered (suc (suc zero)) weekday e = let same : weekdays.Tuesday ≡ weekday = cc in ap number_of same
 weekday_numbered (suc (suc (suc zero))) weekday e = let same : weekdays.Wednesday ≡ weekday = cc in ap number_of same
-weekday_numbered (suc (suc (suc (suc zero)))) weekday e = let same : weekdays.Thursday ≡ weekday = cc in ap number_of same
-weekday_numbered (suc (suc (suc (suc (suc zero))))) weekday e = let same : weekdays.Friday ≡ weekday = cc in ap number_of same
-weekday_numbered (suc (suc (suc (suc (suc (suc zero)))))) weekday e = let same : weekdays.Saturday ≡ weekday = cc in ap number_of same
+weekday_numbered (suc (suc (suc (suc zero)))) weekday e = let same : weekdays.Thursday ≡ weekday = cc in ap
+    number_of same
+weekday_numbered (suc (suc (suc (suc (suc zero))))) weekday e = let same : weekdays.Friday ≡ weekday = cc in ap
+    number_of same
+weekday_numbered (suc (suc (suc (suc (suc (suc zero)))))) weekday e = let same : weekdays.Saturday ≡ weekday = cc
+    in ap number_of same
 weekday_numbered (suc (suc (suc (suc (suc (suc (suc k))))))) weekday e = absurd (cc)
 
 -- weekdays of one number are one

@@ -31,10 +31,34 @@ returns-clause-computed c =
     c.name_among.ensures.computed
     ∙ sym (named_in_year c.args.church c.args.day.number c.date_on-date.result _ c.date_on-date.ensures.valid
     c.date_on-date.ensures.value
-    (omega (arith, ints, c.year.ensures, c.year-else-year-lt1.ensures, c.year-year.ensures, c.if-year-lt1.false, c.if-year-gt9999.false))
+    (omega (
+      arith,
+      ints,
+      c.year.ensures,
+      c.year-else-year-lt1.ensures,
+      c.year-year.ensures,
+      c.if-year-lt1.false,
+      c.if-year-gt9999.false,
+    ))
     c.args.day.in_range
-    (omega (arith, ints, c.year.ensures, c.year-else-year-lt1.ensures, c.year-year.ensures, c.if-year-lt1.false, c.if-year-gt9999.false))
-    (omega (arith, ints, c.year.ensures, c.year-else-year-lt1.ensures, c.year-year.ensures, c.if-year-lt1.false, c.if-year-gt9999.false)))
+    (omega (
+      arith,
+      ints,
+      c.year.ensures,
+      c.year-else-year-lt1.ensures,
+      c.year-year.ensures,
+      c.if-year-lt1.false,
+      c.if-year-gt9999.false,
+    ))
+    (omega (
+      arith,
+      ints,
+      c.year.ensures,
+      c.year-else-year-lt1.ensures,
+      c.year-year.ensures,
+      c.if-year-lt1.false,
+      c.if-year-gt9999.false,
+    )))
 
 pub invariant_of-sought-clause-on_weekday : goal.invariant_of-sought-clause-on_weekday
 invariant_of-sought-clause-on_weekday c =

@@ -235,7 +235,7 @@ STREAMS = [
      lines("standard input: 2 dates have names that are not known: --unknown lists them")),
     # Dates with a first and a last day, and without the text of EDTF.
     (f"{SPANS_COLUMNS} --spans --edtf", SPANS, 0, SPANS_CONVERTED,
-     lines("standard input: 1 date has no day")),
+     lines("standard input: 1 date is no date of its calendar")),
     (f"{SPANS_COLUMNS} --spans --to rd", "Date\nMai 1806\n", 0,
      "Date,first rd,last rd,mark,refusal\nMai 1806,659383,659413,,\n", ""),
     # Sheets that break off.
@@ -273,7 +273,7 @@ MADE = [
     # Registers of the first and of the last days.
     (f"{SPANS_COLUMNS} --edtf --register spans.csv", 0,
      {"spans.csv.dates.csv": SPANS_CONVERTED, "spans.csv.first.register.csv": SPANS_FIRST,
-      "spans.csv.last.register.csv": SPANS_LAST}, lines("spans.csv: 1 date has no day")),
+      "spans.csv.last.register.csv": SPANS_LAST}, lines("spans.csv: 1 date is no date of its calendar")),
     # Files that cannot be opened or made: all are opened before any is made.
     ("--date 1 --all iso a.csv none.csv", 3, {}, lines("cannot open none.csv")),
     ("--date 1 --all iso a.csv c.csv", 3, {"a.csv.dates.csv.part": ""}, lines("cannot make c.csv.dates.csv")),

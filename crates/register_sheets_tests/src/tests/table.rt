@@ -271,6 +271,7 @@ const CASES: [Case; 23] = [
         above: 0,
         dates: &DATE_0_IN_1,
         columns: &WEEKDAY_AND_CHURCH_AND_GREGORIAN,
+        spans: Spans::Unread,
         reading: DAY_FIRST,
         sheet: "D;C\n12. März 1699;julian\n12. März 1699;gregorian\n27. März 1712;gregorian\n\
             20.7.1428;coptic\nx;julian\n27. März 1712;\n",

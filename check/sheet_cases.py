@@ -238,6 +238,10 @@ STREAMS = [
      lines("standard input: 1 date is no date of its calendar")),
     (f"{SPANS_COLUMNS} --spans --to rd", "Date\nMai 1806\n", 0,
      "Date,first rd,last rd,mark,refusal\nMai 1806,659383,659413,,\n", ""),
+    # How many are no single day: a month, a year, and what ends before a day.
+    (f"{SPANS_COLUMNS} --edtf --summary", SPANS, 0, SPANS_CONVERTED,
+     lines("standard input: 1 date is no date of its calendar",
+           "standard input: 7 records, refused: 2, empty: 1, spans: 3")),
     # Sheets that break off.
     ("--date Datum --calendar Calendar", SHEET, 1, "",
      lines("standard input: no column Datum: the columns are No, Calendar, Date")),

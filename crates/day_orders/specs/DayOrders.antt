@@ -1,5 +1,5 @@
 -- The order of entries by their days.
-use Rattle.std.specs.Prelude.{◌≡◌, ◌<◌, ◌⊎◌, ℕ, List, get_or, length}
+use Rattle.std.specs.Prelude.{◌≡◌, ◌==◌, ◌<◌, ◌⊎◌, ℕ, List, get_or, if◌then◌else◌, length}
 use Rattle.std.specs.List.{range_with_len}
 use Rattle.std.specs.List.Sorted.{IsPermutation}
 use Rattle.day_orders.specs.declared.TheConstants.{NO_DAY}
@@ -17,3 +17,12 @@ ComesBefore days one other =
 pub record IsDayOrder (days order : List ℕ) : Type 0 where
   pub all : IsPermutation (range_with_len 0 (length days)) order
   pub in_order : (i j : ℕ) → i < j → j < length order → ComesBefore days (get_or order i 0) (get_or order j 0)
+
+-- the day by which an entry of a first and a last day is sorted: the first, or where it has none, the last
+abbrev pub sorting_day : ℕ → ℕ → ℕ
+sorting_day first last = if first == NO_DAY then last else first
+
+-- these are the days by which entries with these first and last days are sorted
+pub record AreSortingDays (first last days : List ℕ) : Type 0 where
+  pub all : length days ≡ length first
+  pub each : (i : ℕ) → i < length first → day_of days i ≡ sorting_day (day_of first i) (day_of last i)

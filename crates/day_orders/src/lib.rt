@@ -2,7 +2,7 @@
 #![tactic(auto)]
 
 ghost use Rattle.std.specs.Prelude.{◌≡◌, IfOk, get_or};
-ghost use Rattle.day_orders.specs.DayOrders.{IsDayOrder};
+ghost use Rattle.day_orders.specs.DayOrders.{AreSortingDays, IsDayOrder, sorting_day};
 
 use std::alloc::{AllocError, Global};
 
@@ -17,6 +17,33 @@ fn day_at(days: &[u32], index: u32) -> u32
         Some(day) => *day,
         None => NO_DAY,
     }
+}
+
+/// The day by which an entry of two days is sorted.
+fn sorting_day(first: u32, last: u32) -> u32
+    ensures { result ≡ sorting_day first last }
+{
+    if first == NO_DAY { last } else { first }
+}
+
+/// The days by which entries of two days are sorted, one for each first day: that itself, or, where it is `NO_DAY`, the
+/// last day at the same place. Beyond the last days, that is `NO_DAY`.
+///
+/// # Errors
+///
+/// Memory ran out.
+pub fn sorting_days(alloc: Global, first: &[u32], last: &[u32]) -> Result<Vec<u32>, AllocError>
+    ensures { IfOk result (λ days. AreSortingDays first.now last.now days.items) }
+{
+    let mut days = Vec::new(alloc);
+    'days: for i in 0..first.len() {
+        let end = match last.get(i) {
+            Some(day) => *day,
+            None => NO_DAY,
+        };
+        days.push(sorting_day(first[i], end))?;
+    }
+    Ok(days)
 }
 
 /// The indices of entries in the order of their days. Each day is counted from a first one, and an entry that has none has

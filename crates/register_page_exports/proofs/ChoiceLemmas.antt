@@ -9,30 +9,32 @@ use Rattle.written_dates.specs.declared.written.Choice.{Choice}
 use Rattle.register_sheets.specs.declared.choices.AskedColumn.{AskedColumn}
 use Rattle.register_sheets.specs.declared.choices.AskedColumn.TheVariants.{Cells, Church}
 use Rattle.register_sheets.specs.declared.choices.DateColumn.{DateColumn}
-use Rattle.register_sheets.specs.declared.choices.Spans.TheVariants as spans
+use Rattle.register_sheets.specs.declared.choices.Spans.{Spans}
 use Rattle.register_page_exports.specs.AskedViews.{all_before}
 use Rattle.register_page_exports.specs.SheetChoices.{asked_by, before, column_by, columns_by, date_by, dates_by, id_by}
-use Rattle.register_page_exports.specs.SheetChoices.{reading_by}
+use Rattle.register_page_exports.specs.SheetChoices.{reading_by, spans_by}
 
--- what is asked by seven numbers in front and the others
-pub asked_made : (head dates columns : List ℕ) (delimiter : ℕ) (reading : Choice) (ds : Option (List DateColumn))
-    (cs : Option (List AskedColumn)) → length head ≡ 7
+-- what is asked by eight numbers in front and the others
+pub asked_made : (head dates columns : List ℕ) (delimiter : ℕ) (reading : Choice) (spans : Spans)
+    (ds : Option (List DateColumn)) (cs : Option (List AskedColumn)) → length head ≡ 8
     → (slice_index_or head 0 0 < 256) × (delimiter ≡ slice_index_or head 0 0)
     → reading_by (slice_index_or head 3 0) (slice_index_or head 4 0) (slice_index_or head 5 0) (slice_index_or head 6 0)
-    ≡ Some reading
+    ≡ Some reading → spans_by (slice_index_or head 7 0) ≡ Some spans
     → dates_by dates ≡ ds → columns_by columns ≡ cs
     → asked_by (head ++ dates) columns ≡ (ds >>= λ d. cs >>= λ c. Some (record {
       delimiter = delimiter;
       above = slice_index_or head 1 0;
       id = id_by (slice_index_or head 2 0);
       reading = reading;
-      spans = spans.Unread;
+      spans = spans;
       dates = d;
       columns = c;
     }))
-asked_made (a ∷ b ∷ c ∷ d ∷ e ∷ f ∷ g ∷ []) dates columns delimiter reading ds cs seven (byte, is) read dated asked =
-    let low : nat_lt a 256 ≡ true = lt-ltb _ _ byte in rw (is, low, read, dated, asked) refl
-asked_made head dates columns delimiter reading ds cs seven low read dated asked = absurd (omega (arith, seven))
+asked_made (a ∷ b ∷ c ∷ d ∷ e ∷ f ∷ g ∷ h ∷ []) dates columns delimiter reading spans ds cs eight (byte, is) read said
+    dated asked =
+    let low : nat_lt a 256 ≡ true = lt-ltb _ _ byte in rw (is, low, read, said, dated, asked) refl
+asked_made head dates columns delimiter reading spans ds cs eight low read said dated asked =
+    absurd (omega (arith, eight))
 
 -- a column asked by a number from 2 on is that of a target
 target_in_front : (targets : List Target) (k : ℕ) (target : Target) → slice_get targets k ≡ Some target

@@ -16,6 +16,7 @@ use Rattle.written_dates.specs.declared.rules.Order.TheVariants.{YearFirst, DayF
 use Rattle.written_dates.specs.declared.written.Choice.{Choice}
 use Rattle.written_dates.specs.declared.written.Short.{Short}
 use Rattle.written_dates.specs.declared.written.Short.TheVariants.{Refuse, Keep, Add}
+use Rattle.register_sheets.specs.declared.choices.Spans.{Spans}
 use Rattle.register_sheets.specs.declared.choices.Spans.TheVariants as spans
 
 -- the number that stands for no place
@@ -53,6 +54,14 @@ reading_by order years hebrew charters = do
   c ← flag_by charters
   Some (record { order = o; short_years = y; short_hebrew_years = h; charters = c })
 
+-- dates that say no single day are not read, or have a first and a last day, or the text of EDTF too
+abbrev pub spans_by : ℕ → Option Spans
+spans_by n =
+    if n == 0 then Some spans.Unread
+    else if n == 1 then Some spans.Ends
+    else if n == 2 then Some spans.EndsAndEdtf
+    else None
+
 -- the calendar of a date is at this place, or that of this number
 abbrev pub calendar_by : ℕ → ℕ → Option CalendarField
 calendar_by place number =
@@ -89,14 +98,14 @@ abbrev pub if_byte : {A : Type 0} → ℕ → Option A → Option A
 if_byte delimiter asked = if nat_lt delimiter 256 then asked else None
 
 abbrev pub asked_by : List ℕ → List ℕ → Option SheetAsked
-asked_by (delimiter ∷ above ∷ id ∷ order ∷ years ∷ hebrew ∷ charters ∷ numbers) columns =
-    if_byte delimiter (reading_by order years hebrew charters >>= λ reading. dates_by numbers >>= λ dates.
-    columns_by columns >>= λ asked. Some (record {
+asked_by (delimiter ∷ above ∷ id ∷ order ∷ years ∷ hebrew ∷ charters ∷ number ∷ numbers) columns =
+    if_byte delimiter (reading_by order years hebrew charters >>= λ reading. spans_by number >>= λ read.
+    dates_by numbers >>= λ dates. columns_by columns >>= λ asked. Some (record {
       delimiter = delimiter;
       above = above;
       id = id_by id;
       reading = reading;
-      spans = spans.Unread;
+      spans = read;
       dates = dates;
       columns = asked;
     }))

@@ -1,5 +1,6 @@
 -- What becomes of a sheet for a page.
-use Rattle.std.specs.Prelude.{◌≡◌, ◌≢◌, ◌⊎◌, ◌≤◌, ◌<◌, ⊤, ℕ, List, [], IsSome, None, Some, length, slice_get}
+use Rattle.std.specs.Prelude.{◌≡◌, ◌≢◌, ◌⊎◌, ◌==◌, ◌≤◌, ◌<◌, ⊤, ℕ, List, [], IsSome, None, Some, if◌then◌else◌, length}
+use Rattle.std.specs.Prelude.{slice_get}
 use Rattle.register_records.specs.Entries.{record_limit, text_records}
 use Rattle.register_sheets.specs.AskedOfSheets.{IsChoice, IsListedChoice, SheetAsked}
 use Rattle.register_sheets.specs.Converted.{IsWholeSheet, below}
@@ -7,7 +8,8 @@ use Rattle.register_sheets.specs.NameLists.{IsFaultOf, IsListOf}
 use Rattle.register_sheets.specs.Registers.{IsRegister}
 use Rattle.register_sheets.specs.UnknownNames.{AreUnreadIn, IsUnknown, NameCount, list_text}
 use Rattle.register_sheets.specs.declared.choices.DateColumn.{DateColumn}
-use Rattle.register_sheets.specs.declared.choices.End.TheVariants.{First}
+use Rattle.register_sheets.specs.declared.choices.End.{End}
+use Rattle.register_sheets.specs.declared.choices.End.TheVariants.{First, Last}
 use Rattle.register_sheets.specs.declared.choices.SheetChoice.{SheetChoice}
 use Rattle.register_sheets.specs.declared.date_counts.SheetCounts.{SheetCounts}
 use Rattle.register_sheets.specs.declared.name_lists.NameLine.{NameLine}
@@ -47,15 +49,19 @@ pub record IsAskedSheet (numbers columns names sheet : List ℕ) (count : ℕ) (
   pub whole : IsWholeSheet choice (text_records choice.delimiter sheet) count counts bytes
   pub all_unread : AreUnreadIn choice (text_records choice.delimiter sheet) unread
 
--- the register of a column of dates for what is asked
-pub record IsAskedRegister (numbers names sheet : List ℕ) (place : ℕ) (bytes : List ℕ) : Type 0 where
+-- the end of dates of a number
+abbrev pub end_by : ℕ → End
+end_by n = if n == 0 then First else Last
+
+-- the register of the first or the last days of a column of dates for what is asked
+pub record IsAskedRegister (numbers names sheet : List ℕ) (place : ℕ) (end : End) (bytes : List ℕ) : Type 0 where
   pub choice : SheetChoice
   pub column : DateColumn
   pub count : ℕ
   pub asked : IsAsked numbers [] names sheet choice
   pub is_choice : IsChoice choice
   pub at_place : slice_get choice.dates.now place ≡ Some column
-  pub whole : IsRegister choice column First (text_records choice.delimiter sheet) count bytes
+  pub whole : IsRegister choice column end (text_records choice.delimiter sheet) count bytes
 
 -- the list of the first names that are not known for what is asked, at most so many, how many dates others stopped, and
 -- how many dates were not read

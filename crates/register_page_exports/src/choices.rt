@@ -4,6 +4,7 @@ ghost use Rattle.std.specs.Prelude.{◌≡◌, ◌++◌, IfOk};
 ghost use Rattle.register_page_exports.specs.AskedViews.{asked_seen, columns_seen, dates_seen};
 ghost use Rattle.register_page_exports.specs.SheetChoices.{asked_by, calendar_by, column_by, columns_by, date_by, dates_by};
 ghost use Rattle.register_page_exports.specs.SheetChoices.{flag_by, id_by, order_in, reading_by, short_by, short_hebrew_by};
+ghost use Rattle.register_page_exports.specs.SheetChoices.{spans_by};
 
 use date_texts::laws::{all_calendars, all_targets};
 use date_texts::{Calendar, MAX_TARGETS, Target};
@@ -16,7 +17,7 @@ use written_dates::{Choice, Order, Short};
 const NO_PLACE: u32 = 4_294_967_295;
 
 /// How many numbers stand before those of the columns of dates.
-const HEAD: usize = 7;
+const HEAD: usize = 8;
 
 /// How many numbers a column of dates has.
 const DATE: usize = 3;
@@ -75,6 +76,18 @@ fn flag_of(number: u32) -> Option<bool>
     match number {
         0 => Some(false),
         1 => Some(true),
+        _ => None,
+    }
+}
+
+/// What becomes of dates that say no single day.
+fn spans_of(number: u32) -> Option<Spans>
+    ensures { result ≡ spans_by number }
+{
+    match number {
+        0 => Some(Spans::Unread),
+        1 => Some(Spans::Ends),
+        2 => Some(Spans::EndsAndEdtf),
         _ => None,
     }
 }
@@ -177,6 +190,9 @@ fn asked_of(
     let Some(reading) = reading_of(head[3], head[4], head[5], head[6]) else {
         return Ok(None);
     };
+    let Some(spans) = spans_of(head[7]) else {
+        return Ok(None);
+    };
     let Some(dates) = dates_of(alloc, dates)? else {
         return Ok(None);
     };
@@ -188,7 +204,7 @@ fn asked_of(
         above: head[1],
         id: id_of(head[2]),
         reading,
-        spans: Spans::Unread,
+        spans,
         dates,
         columns,
     }))

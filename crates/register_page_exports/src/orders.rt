@@ -1,14 +1,14 @@
 //! The order of entries by their days, and records in an order, for a page.
 
 ghost use Rattle.std.specs.Prelude.{◌≡◌, ◌≢◌, ◌⊎◌, ◌≤◌, ◌<◌, ℕ, List, All, Any, length};
-ghost use Rattle.day_orders.specs.DayOrders.{IsDayOrder};
+ghost use Rattle.day_orders.specs.DayOrders.{AreSortingDays, IsDayOrder};
 ghost use Rattle.record_texts.specs.Orders.{records_at};
 ghost use Rattle.register_records.specs.Entries.{text_records};
 ghost use Rattle.register_sheets.specs.Sheets.{records_text};
 ghost use Rattle.register_page_exports.specs.SheetReports.{PutsText};
 
 use crate::sheets::{TextReport, put_text};
-use day_orders::day_order as order_of;
+use day_orders::{day_order as order_of, sorting_days};
 use record_texts::{OrderFault, records_in_order};
 use register_page::copy_if_fits;
 use std::alloc::Global;
@@ -36,6 +36,33 @@ pub extern "C" fn day_order(alloc: Global, days: &[u32], room: &mut [u32], repor
         Ok(order) => OrderReport {
             ending: 0,
             length: copy_if_fits(order.as_slice(), room),
+        },
+        Err(_) => OrderReport {
+            ending: 1,
+            length: 0,
+        },
+    };
+}
+
+/// Puts the days by which entries of two days are sorted to the front of `room`: of each its first day, or, where it has
+/// none, its last. The day of an end that is open is 4294967295; that of an entry beyond the last days too.
+#[unsafe(no_mangle)]
+pub extern "C" fn span_days(
+    alloc: Global,
+    first: &[u32],
+    last: &[u32],
+    room: &mut [u32],
+    report: &mut OrderReport,
+)
+    ensures days { report.new.ending ≡ 0 → (days : List ℕ) × AreSortingDays first.now last.now days
+        × PutsText days room.old room.new report.new.length }
+    ensures none { report.new.ending ≢ 0
+        → (report.new.ending ≡ 1) × (report.new.length ≡ 0) × (room.new ≡ room.old) }
+{
+    *report = match sorting_days(alloc, first, last) {
+        Ok(days) => OrderReport {
+            ending: 0,
+            length: copy_if_fits(days.as_slice(), room),
         },
         Err(_) => OrderReport {
             ending: 1,

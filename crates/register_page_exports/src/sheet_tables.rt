@@ -15,7 +15,7 @@ ghost use Rattle.register_page_exports.specs.KnownViews.{EndsEarly, KnowsAsked, 
 ghost use Rattle.register_page_exports.specs.SheetChoices.{asked_by};
 ghost use Rattle.register_page_exports.specs.SheetReports.{PutsText};
 ghost use Rattle.register_page_exports.specs.SheetTables.{EndsBy, EndsFor, HasFault, IsAskedRegister, IsAskedSheet};
-ghost use Rattle.register_page_exports.specs.SheetTables.{IsAskedUnknown, IsChoiceAt, IsEndingOf};
+ghost use Rattle.register_page_exports.specs.SheetTables.{IsAskedUnknown, IsChoiceAt, IsEndingOf, end_by};
 
 use crate::choices::asked_by_numbers;
 use crate::sheets::{TextReport, put_text};
@@ -159,17 +159,28 @@ fn converted_by(
     }
 }
 
-/// The register of a column of dates by what is known.
+/// The end of dates of a number.
+fn end_of(number: u8) -> End
+    ensures { result ≡ end_by number }
+{
+    match number {
+        0 => End::First,
+        _ => End::Last,
+    }
+}
+
+/// The register of the first or the last days of a column of dates by what is known.
 fn register_by(
     alloc: Global,
     sheet: &[u8],
     known: &AskedByNames,
     column: usize,
+    end: End,
     expected: usize,
 ) -> Result<Vec<u8>, SheetEnding>
     ensures whole { IfOk result (λ text. (choice : SheetChoiceValue) × IsChoiceBy known.now choice × IsChoice choice
         × (found : DateColumnValue) × (count : ℕ) × (slice_get choice.dates.now column ≡ Some found)
-        × IsRegister choice found End.First (text_records choice.delimiter sheet.now) count text.items) }
+        × IsRegister choice found end (text_records choice.delimiter sheet.now) count text.items) }
     ensures ends { IfErr result (EndsBy (IsChoiceBy known.now) (IsChoiceAt column) sheet.now) }
 {
     let setup = setup_of(known)?;
@@ -177,9 +188,9 @@ fn register_by(
         return Err(SheetEnding::Choice);
     };
     let mut output = PlainOutput::new(bytes_for(alloc, expected), 0);
-    let end = write_register(alloc, sheet, &setup, column, End::First, &mut output);
+    let written = write_register(alloc, sheet, &setup, column, end, &mut output);
     let text = output.into_inner();
-    match end {
+    match written {
         Ok(_) => Ok(text),
         Err(cause) => Err(ending_of(cause)),
     }
@@ -254,20 +265,21 @@ fn converted(
     })
 }
 
-/// The register of a column of dates for what is asked.
+/// The register of the first or the last days of a column of dates for what is asked.
 fn register_made(
     alloc: Global,
     sheet: &[u8],
     choice: &[u32],
     column: usize,
+    end: End,
     names: &[u8],
     expected: usize,
 ) -> Result<Vec<u8>, SheetEnding>
-    ensures whole { IfOk result (λ text. IsAskedRegister choice.now names.now sheet.now column text.items) }
+    ensures whole { IfOk result (λ text. IsAskedRegister choice.now names.now sheet.now column end text.items) }
     ensures ends { IfErr result (EndsFor (IsChoiceAt column) choice.now [] names.now sheet.now) }
 {
     made_by(alloc, sheet, choice, &[], names, |known| {
-        register_by(alloc, sheet, known, column, expected)
+        register_by(alloc, sheet, known, column, end, expected)
     })
 }
 
@@ -355,25 +367,27 @@ pub extern "C" fn sheet_convert(
     };
 }
 
-/// Puts the register of a column of dates to the front of `room`.
+/// Puts the register of a column of dates to the front of `room`: that of the first days where `end` is 0, else that of the
+/// last days.
 #[unsafe(no_mangle)]
 pub extern "C" fn sheet_register(
     alloc: Global,
     sheet: &[u8],
     choice: &[u32],
     column: usize,
+    end: u8,
     names: &[u8],
     room: &mut [u8],
     report: &mut TextReport,
 )
     ensures whole { report.new.ending ≡ 0 → (text : List ℕ)
-        × IsAskedRegister choice.now names.now sheet.now column text
+        × IsAskedRegister choice.now names.now sheet.now column (end_by end) text
         × PutsText text room.old room.new report.new.length }
     ensures none { report.new.ending ≢ 0 → (report.new.length ≡ 0) × (room.new ≡ room.old) }
     ensures why { report.new.ending ≢ 0
         → IsEndingOf (EndsFor (IsChoiceAt column) choice.now [] names.now sheet.now) report.new.ending }
 {
-    *report = match register_made(alloc, sheet, choice, column, names, room.len()) {
+    *report = match register_made(alloc, sheet, choice, column, end_of(end), names, room.len()) {
         Ok(text) => put_text(text.as_slice(), room),
         Err(ending) => TextReport {
             ending: ending.number(),

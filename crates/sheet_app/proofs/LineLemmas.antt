@@ -1,15 +1,16 @@
 -- The lines on sheets.
 use Rattle.std.proofs.Common.{◌≡◌, ◌<◌, ◌+◌, ◌∙◌, ◌++◌, ◌∷◌, ℕ, zero, suc, List, [], Bool, Option, Some, None, ap, append_assoc}
 use Rattle.std.proofs.Common.{append-nil, arith}
-use Rattle.std.proofs.Common.{codes, false, get_or, length, refl, subst, sym, take, true}
+use Rattle.std.proofs.Common.{codes, false, get_or, length, map, min, refl, subst, sym, take, true}
 use Rattle.std.specs.Io.KnownBytes.{Appends}
 use Rattle.std.specs.List.{flat_map}
 use Rattle.std.specs.Prelude.{◌==◌, Err, IfErr, IfOk, Ok, Result, if◌then◌else◌}
-use Rattle.std.proofs.lemmas.List.{take_more}
+use Rattle.std.proofs.lemmas.List.{length-map, take_min, take_more}
 use Rattle.std.proofs.lemmas.List.Concat.{flat_map-append}
 use Rattle.std.proofs.lemmas.List.Elements.{All-pop}
 use Rattle.clap.specs.Words.{Text}
 use Rattle.register_records.specs.declared.outputs.Output as outputs
+use Rattle.register_sheets.specs.declared.date_counts.DateCounts.{DateCounts}
 use Rattle.sheet_app.specs.EndedSheets.{AreReported, ended_lines}
 use Rattle.sheet_app.specs.Lines.{listed, listed_at}
 use Rattle.sheet_app.specs.declared.converting.EndedSheet.{EndedSheet}
@@ -45,15 +46,20 @@ text_more line head (first ∷ texts) (suc i) text within same is =
     )
     (append_assoc head (listed (first ∷ take i texts)) (codes ", " ++ get_or texts i []))
 
--- the line of a summary, of its parts
-pub summary_made : (head count refused comma empty end : Text)
-    → ((((head ++ count) ++ refused) ++ comma) ++ empty) ++ end
-    ≡ head ++ (count ++ (refused ++ (comma ++ (empty ++ end))))
-summary_made head count refused comma empty end =
-    append_assoc (((head ++ count) ++ refused) ++ comma) empty end
-    ∙ append_assoc ((head ++ count) ++ refused) comma (empty ++ end)
-    ∙ append_assoc (head ++ count) refused (comma ++ (empty ++ end))
-    ∙ append_assoc head count (refused ++ (comma ++ (empty ++ end)))
+-- the numbers of a summary, of their parts
+pub counts_made : (head count refused comma empty : Text)
+    → (((head ++ count) ++ refused) ++ comma) ++ empty ≡ head ++ (count ++ (refused ++ (comma ++ empty)))
+counts_made head count refused comma empty =
+    append_assoc ((head ++ count) ++ refused) comma empty
+    ∙ append_assoc (head ++ count) refused (comma ++ empty)
+    ∙ append_assoc head count (refused ++ (comma ++ empty))
+
+-- what was gone over is what is told
+pub shown : (f : DateCounts → List ℕ) (dates all : List DateCounts) (n k : ℕ) → k ≡ min n (length dates)
+    → dates ≡ all → take k (map f dates) ≡ take n (map f all)
+shown f dates all n k e same =
+    ap (λ i. take i (map f dates)) (e ∙ ap (min n) (sym (length-map dates f))) ∙ take_min n (map f dates)
+    ∙ ap (λ xs. take n (map f xs)) same
 
 none_gained : (held : Option (List ℕ)) → Appends held held []
 none_gained None = tt

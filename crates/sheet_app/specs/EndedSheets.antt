@@ -1,5 +1,5 @@
 -- The sheets of a command line, as they have ended.
-use Rattle.std.specs.Prelude.{◌≡◌, ◌&&◌, ◌⊎◌, ◌++◌, ℕ, All, Bool, List, IfSome, false, length, map, true}
+use Rattle.std.specs.Prelude.{◌≡◌, ◌&&◌, ◌⊎◌, ◌++◌, ℕ, All, Bool, List, IfSome, false, map, true}
 use Rattle.std.specs.Io.KnownBytes.{Appends}
 use Rattle.std.specs.List.{AllZip, flat_map}
 use Rattle.std.specs.declared.io.traits.Read as reads
@@ -46,7 +46,7 @@ is_complete sheet = (is_whole sheet.done && sheet.are_named) && sheet.is_reporte
 -- the lines on a sheet
 abbrev pub ended_lines : {W : Type 0} → Task → EndedSheet W → List ℕ
 ended_lines task sheet =
-    lines_on task.summary (length task.dates) (ended_name sheet) sheet.done
+    lines_on task (ended_name sheet) sheet.done
     ++ names_line (ended_name sheet) sheet.are_named
 
 -- standard error has gained the lines on these sheets, if there was memory for all, and unless it failed

@@ -6,10 +6,13 @@ use Rattle.clap.specs.Words.{Text}
 use Rattle.csv.specs.Records.{fields_of}
 use Rattle.register_records.specs.Entries.{Fields}
 use Rattle.register_sheets.specs.DateStops.{count_of}
+use Rattle.register_sheets.specs.declared.choices.Spans.{Spans}
+use Rattle.register_sheets.specs.declared.choices.Spans.TheVariants as spans
 use Rattle.register_sheets.specs.declared.reasons.Reason.{Reason}
 use Rattle.register_sheets.specs.declared.reasons.Reason.TheVariants as reasons
 use Rattle.register_sheets.specs.declared.reasons.ReasonCounts.{ReasonCounts}
 use Rattle.register_sheets.specs.declared.unread_dates.UnreadDates.{UnreadDates}
+use Rattle.sheet_arguments.specs.Requests.{Task}
 use Rattle.sheet_app.specs.declared.sheet_faults.SheetFault.{SheetFault}
 use Rattle.sheet_app.specs.declared.sheet_faults.SheetFault.TheVariants as fault
 use Rattle.sheet_app.specs.declared.sheets.SheetDone.{SheetDone}
@@ -111,20 +114,33 @@ refused_list dates whole = listed (take dates (map (λ counts. decimal counts.re
 abbrev pub empty_list : ℕ → WholeSheet → Text
 empty_list dates whole = listed (take dates (map (λ counts. decimal counts.empty) whole.counts.dates))
 
--- how many records a sheet has that are not blank, and those numbers
-abbrev pub summary_line : Text → ℕ → WholeSheet → Text
-summary_line name dates whole =
-    head_of name ++ ((decimal (whole.records - whole.counts.blank) ++ codes " records, refused: ")
-    ++ (refused_list dates whole ++ (codes ", empty: " ++ (empty_list dates whole ++ 10 ∷ []))))
+-- how many were converted and are no single day
+abbrev pub spans_list : ℕ → WholeSheet → Text
+spans_list dates whole = listed (take dates (map (λ counts. decimal counts.spans) whole.counts.dates))
 
--- the lines on a sheet of so many columns of dates, the last of them where a summary is asked for
-abbrev pub lines_on : Bool → ℕ → Text → SheetDone → Text
-lines_on summary dates name (done.Whole whole) =
+-- how many records a sheet has that are not blank, and those of refused and of empty dates
+abbrev pub counts_of : Text → ℕ → WholeSheet → Text
+counts_of name dates whole =
+    head_of name ++ ((decimal (whole.records - whole.counts.blank) ++ codes " records, refused: ")
+    ++ (refused_list dates whole ++ (codes ", empty: " ++ empty_list dates whole)))
+
+-- where dates that are no single day are read, so many
+abbrev pub spans_part : Spans → ℕ → WholeSheet → Text
+spans_part spans.Unread dates whole = []
+spans_part other dates whole = codes ", spans: " ++ spans_list dates whole
+
+abbrev pub summary_line : Task → Text → WholeSheet → Text
+summary_line task name whole =
+    counts_of name (length task.dates) whole ++ (spans_part task.spans (length task.dates) whole ++ 10 ∷ [])
+
+-- the lines on a sheet, the last of them where a summary is asked for
+abbrev pub lines_on : Task → Text → SheetDone → Text
+lines_on task name (done.Whole whole) =
     stopped_line name whole.unread.stopped ++ (kept_lines name whole.unread
-    ++ (if summary then summary_line name dates whole else []))
-lines_on summary dates name (done.WholeBut fault) = head_of name ++ (fault_text fault ++ 10 ∷ [])
-lines_on summary dates name (done.Listed listed) = more_line name listed.more ++ kept_lines name listed.unread
-lines_on summary dates name (done.Broken fault) = head_of name ++ (fault_text fault ++ 10 ∷ [])
+    ++ (if task.summary then summary_line task name whole else []))
+lines_on task name (done.WholeBut fault) = head_of name ++ (fault_text fault ++ 10 ∷ [])
+lines_on task name (done.Listed listed) = more_line name listed.more ++ kept_lines name listed.unread
+lines_on task name (done.Broken fault) = head_of name ++ (fault_text fault ++ 10 ∷ [])
 
 -- the line on a sheet of which not all outputs have got their names
 abbrev pub names_line : Text → Bool → Text

@@ -103,8 +103,7 @@ fn convert_one<'a, R: Read + Drop, W: Output + Drop, P: FileStore<R, W>, E: Outp
         registers.as_mut_slice(),
     );
     let are_named = give_names(store, places.as_slice());
-    let dates = job.dates.len();
-    let is_told = report_sheet(alloc, errors, name, dates, job.summary, &done);
+    let is_told = report_sheet(alloc, errors, name, job, &done);
     let is_reported = report_names(alloc, errors, name, are_named) && is_told;
     EndedSheet {
         name,

@@ -1,11 +1,12 @@
 //! Reports on standard error how sheets have ended.
 
-ghost use Rattle.std.specs.Prelude.{◌≡◌, ◌++◌, ◌∷◌, [], ◌==◌, IfErr, IfOk, OnOk, false, if◌then◌else◌};
+ghost use Rattle.std.specs.Prelude.{◌≡◌, ◌++◌, ◌∷◌, [], ◌==◌, IfErr, IfOk, OnOk, codes, false, if◌then◌else◌};
 ghost use Rattle.std.specs.Fmt.{decimal};
 ghost use Rattle.sheet_app.specs.Lines.{line_of_dates as dates_line};
 ghost use Rattle.sheet_app.specs.Lines.{fault_text, head_of, kept_lines, lines_on, listed_at, missing_lines, more_line};
 ghost use Rattle.sheet_app.specs.Lines.{other_lines, reason_line, reason_lines, reason_words, short_line, sign_lines, stopped_line};
-ghost use Rattle.sheet_app.specs.Lines.{names_line, summary_line};
+ghost use Rattle.sheet_app.specs.Lines.{counts_of, names_line, spans_list, summary_line};
+ghost use Rattle.sheet_arguments.specs.Requests.{task_of};
 ghost use Rattle.sheet_app.specs.SheetViews.{Says};
 ghost use Rattle.sheet_app.specs.declared.sheets.SheetDone.TheVariants.{Listed, Whole};
 
@@ -13,8 +14,8 @@ use crate::sheet_faults::{SheetFault, push_listed};
 use crate::sheets::{ListedSheet, SheetDone, WholeSheet};
 use itoa::Buffer;
 use register_records::{Output, send};
-use register_sheets::{Reason, ReasonCounts, UnreadDates};
-use sheet_arguments::MEMORY_FAULT;
+use register_sheets::{Reason, ReasonCounts, Spans, UnreadDates};
+use sheet_arguments::{Job, MEMORY_FAULT};
 use std::alloc::{AllocError, Global};
 
 /// Begins a line on the sheet of this name.
@@ -59,15 +60,15 @@ fn push_number(line: &mut Vec<u8>, index: usize, number: usize) -> Result<(), Al
     push_listed(line, index, Buffer::new().format(number).as_bytes())
 }
 
-/// The line of a summary: how many records a sheet has that are not blank, and of how many the date was refused or is empty
-/// for each of so many columns of dates.
-fn line_of_summary(
+/// A line with how many records a sheet has that are not blank, and of how many the date was refused or is empty for each of
+/// so many columns of dates.
+fn line_of_counts(
     alloc: Global,
     name: &str,
     dates: usize,
     whole: &WholeSheet,
 ) -> Result<Vec<u8>, AllocError>
-    ensures { IfOk result (λ line. line.items ≡ summary_line name.now dates whole.now) }
+    ensures { IfOk result (λ line. line.items ≡ counts_of name.now dates whole.now) }
 {
     let mut line = begin_line(alloc, name)?;
     let records = u64::from(whole.records).saturating_sub(whole.counts.blank as u64);
@@ -81,6 +82,35 @@ fn line_of_summary(
     }
     line.extend_from_slice(b", empty: ")?;
     line.extend_from_slice(empty.as_slice())?;
+    Ok(line)
+}
+
+/// Adds to a line how many dates were converted that are no single day, for each of so many columns of dates.
+fn push_spans(line: &mut Vec<u8>, dates: usize, whole: &WholeSheet) -> Result<(), AllocError>
+    ensures { OnOk result (line.new.items ≡ line.old.items ++ (codes ", spans: " ++ spans_list dates whole.now)) }
+{
+    line.extend_from_slice(b", spans: ")?;
+    let columns = whole.counts.dates.as_slice();
+    'dates: for index in 0..dates.min(columns.len()) {
+        push_number(line, index, columns[index].spans)?;
+    }
+    Ok(())
+}
+
+/// The line of a summary: these numbers, and, where dates that are no single day are read, how many are none.
+fn line_of_summary(
+    alloc: Global,
+    name: &str,
+    job: &Job<'_>,
+    whole: &WholeSheet,
+) -> Result<Vec<u8>, AllocError>
+    ensures { IfOk result (λ line. line.items ≡ summary_line (task_of job.now) name.now whole.now) }
+{
+    let dates = job.dates.len();
+    let mut line = line_of_counts(alloc, name, dates, whole)?;
+    if !matches!(job.spans, Spans::Unread) {
+        push_spans(&mut line, dates, whole)?;
+    }
     line.push(b'\n')?;
     Ok(line)
 }
@@ -318,11 +348,10 @@ fn report_listed<E: Output>(
     alloc: Global,
     errors: &mut E,
     name: &str,
-    dates: usize,
-    summary: bool,
+    job: &Job<'_>,
     listed: &ListedSheet,
 ) -> bool
-    ensures lines { Says E.Output errors.old errors.new result (lines_on summary dates name.now (Listed listed.now)) }
+    ensures lines { Says E.Output errors.old errors.new result (lines_on (task_of job.now) name.now (Listed listed.now)) }
     ensures mark { E.own_mark errors.new ≡ E.own_mark errors.old }
 {
     let more = report_more(alloc, errors, name, listed.more);
@@ -335,36 +364,34 @@ fn report_summary<E: Output>(
     alloc: Global,
     errors: &mut E,
     name: &str,
-    dates: usize,
-    summary: bool,
+    job: &Job<'_>,
     whole: &WholeSheet,
 ) -> bool
     ensures line { Says E.Output errors.old errors.new result
-        (if summary then summary_line name.now dates whole.now else []) }
+        (if job.now.summary then summary_line (task_of job.now) name.now whole.now else []) }
     ensures mark { E.own_mark errors.new ≡ E.own_mark errors.old }
 {
-    if !summary {
+    if !job.summary {
         return true;
     }
-    send_line(errors, line_of_summary(alloc, name, dates, whole))
+    send_line(errors, line_of_summary(alloc, name, job, whole))
 }
 
-/// Reports of a whole sheet how many dates were not read, and why, where there are such, and with `summary` its records, and
-/// how many dates were refused or are empty. Says whether there was memory for all lines.
+/// Reports of a whole sheet how many dates were not read, and why, where there are such, and, where a summary is asked for,
+/// its records, and how many dates were refused or are empty. Says whether there was memory for all lines.
 fn report_whole<E: Output>(
     alloc: Global,
     errors: &mut E,
     name: &str,
-    dates: usize,
-    summary: bool,
+    job: &Job<'_>,
     whole: &WholeSheet,
 ) -> bool
-    ensures lines { Says E.Output errors.old errors.new result (lines_on summary dates name.now (Whole whole.now)) }
+    ensures lines { Says E.Output errors.old errors.new result (lines_on (task_of job.now) name.now (Whole whole.now)) }
     ensures mark { E.own_mark errors.new ≡ E.own_mark errors.old }
 {
     let stopped = report_stopped(alloc, errors, name, whole.unread.stopped as u64);
     let kept = report_kept(alloc, errors, name, &whole.unread);
-    let counted = report_summary(alloc, errors, name, dates, summary, whole);
+    let counted = report_summary(alloc, errors, name, job, whole);
     stopped && kept && counted
 }
 
@@ -374,16 +401,15 @@ pub fn report_sheet<E: Output>(
     alloc: Global,
     errors: &mut E,
     name: &str,
-    dates: usize,
-    summary: bool,
+    job: &Job<'_>,
     done: &SheetDone<'_>,
 ) -> bool
-    ensures lines { Says E.Output errors.old errors.new result (lines_on summary dates name.now done.now) }
+    ensures lines { Says E.Output errors.old errors.new result (lines_on (task_of job.now) name.now done.now) }
     ensures mark { E.own_mark errors.new ≡ E.own_mark errors.old }
 {
     match done {
-        SheetDone::Whole(whole) => report_whole(alloc, errors, name, dates, summary, whole),
-        SheetDone::Listed(listed) => report_listed(alloc, errors, name, dates, summary, listed),
+        SheetDone::Whole(whole) => report_whole(alloc, errors, name, job, whole),
+        SheetDone::Listed(listed) => report_listed(alloc, errors, name, job, listed),
         SheetDone::WholeBut(fault) | SheetDone::Broken(fault) => {
             send_line(errors, line_of_fault(alloc, name, fault))
         }

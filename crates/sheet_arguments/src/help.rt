@@ -61,7 +61,8 @@ Options:
                       --names.
     --summary         report on standard error, for each whole sheet, its
                       records without blank ones, and for each column how
-                      many dates were refused and how many are empty.
+                      many dates were refused, how many are empty, and with
+                      --spans how many are no single day.
     -h, --help        print this page and read nothing.
     -V, --version     print the version and read nothing.
 

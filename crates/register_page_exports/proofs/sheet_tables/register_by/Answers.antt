@@ -15,8 +15,8 @@ returns-in-Ok-clause-whole c =
     let there : slice_get dates c.args.column ≡ Some column
     = slice_get-get_or dates c.args.column column found.3.0 ∙ ap (λ (d : DateColumn). Some d) (sym found.1) in
     let chosen = c.in_ok-setup.ensures.choice in
-    let made = rw c.in-Ok.is at (c.write_register-end.ensures column there) in
-    let register = made_whole c.new-output.result.inner.items c.write_register-end.new.output.inner.items
+    let made = rw c.in-Ok.is at (c.write_register-written.ensures column there) in
+    let register = made_whole c.new-output.result.inner.items c.write_register-written.new.output.inner.items
     c.into_inner-text.result.items _ made.0 (search rules) (search rules) in
     (c.in_ok-setup.setup.choice, chosen.0, chosen.1, column, register.0, there, register.1)
 
@@ -42,7 +42,7 @@ returns-in-Err-clause-ends c =
     let there : slice_get dates c.args.column ≡ Some column
     = slice_get-get_or dates c.args.column column found.3.0 ∙ ap (λ (d : DateColumn). Some d) (sym found.1) in
     let chosen = c.in_ok-setup.ensures.choice in
-    let made = rw c.in-Err.is at (c.write_register-end.ensures column there) in
+    let made = rw c.in-Err.is at (c.write_register-written.ensures column there) in
     ends_by_cause (IsChoiceBy c.args.known.now) (IsChoiceAt c.args.column) c.args.sheet.now
     c.in_ok-setup.setup.choice c.in-Err.cause c.ending_of.result c.ending_of.ensures chosen.0 (chosen.1, found.3.0)
     (λ is. (rw is at made).1.1) (λ is. (rw is at made).0.1.more)

@@ -4,7 +4,6 @@ use Rattle.std.proofs.lemmas.Result.{IfErr-weaker, IfOk-weaker}
 use Rattle.register_records.specs.Entries.{text_records}
 use Rattle.register_sheets.specs.Registers.{IsRegister}
 use Rattle.register_sheets.specs.declared.choices.DateColumn.{DateColumn}
-use Rattle.register_sheets.specs.declared.choices.End.TheVariants.{First}
 use Rattle.register_sheets.specs.declared.choices.SheetChoice.{SheetChoice}
 use Rattle.register_sheets.specs.AskedOfSheets.{IsChoice, IsChoiceBy}
 use Rattle.register_page_exports.specs.SheetTables.{EndsBy, IsChoiceAt}
@@ -20,7 +19,7 @@ returns-clause-whole c =
           let (place, given, same) = post in
           let whole : IfOk c.made_by.result (λ text. (choice : SheetChoice) × IsChoiceBy place.now choice × IsChoice choice
           × (found : DateColumn) × (count : ℕ) × (slice_get choice.dates.now c.args.column ≡ Some found)
-          × IsRegister choice found First (text_records choice.delimiter c.args.sheet.now) count text.items)
+          × IsRegister choice found c.args.end (text_records choice.delimiter c.args.sheet.now) count text.items)
           = search rules in
           IfOk-weaker c.made_by.result _ _ (λ made is. record {
             choice = is.0;

@@ -1,6 +1,7 @@
 -- What broke off, or broke off behind the sheet, is told in one line.
 use Rattle.std.proofs.Common.{Global, Vec, ◌++◌, ◌∷◌, [], List, ℕ, ap, inl, inr, subst, sym}
 use Rattle.sheet_app.specs.Lines.{fault_text, head_of, lines_on}
+use Rattle.sheet_arguments.specs.Requests.{task_of}
 use Rattle.sheet_app.specs.SheetViews.{Says}
 use Rattle.sheet_app.specs.declared.sheets.SheetDone.{SheetDone}
 use Rattle.sheet_app.proofs.LineLemmas.{line_said}
@@ -13,7 +14,7 @@ returns-in-WholeBut-clause-lines g c =
     let said : Says g.E.Output before after c.send_line.result line
     = line_said g.E.Output before after c.send_line.result (λ (l : Vec ℕ Global). l.items) c.line_of_fault.result line
     c.line_of_fault.ensures c.send_line.ensures.line c.send_line.ensures.lost in
-    let lines = λ (done : SheetDone). lines_on c.args.summary c.args.dates c.args.name.now done in
+    let lines = λ (done : SheetDone). lines_on (task_of c.args.job.now) c.args.name.now done in
     let Told = λ (text : List ℕ). Says g.E.Output before after c.send_line.result text in
     elim c.in-WholeBut.is [
       | inl but ↦ subst Told (sym (ap lines but)) said

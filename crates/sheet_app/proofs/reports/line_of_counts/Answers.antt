@@ -1,12 +1,12 @@
 -- Each turn adds the next count to each list.
 use Rattle.std.proofs.Common.{◌≡◌, ◌<◌, ◌∙◌, ◌-◌, [], ◌∷◌, ◌++◌, ℕ, List, ap, ap₂, arith, codes, get_or, length, map, min, rules, sym, take}
 use Rattle.std.specs.Fmt.{decimal}
-use Rattle.std.proofs.lemmas.List.{get_or-map, length-map, take_min}
+use Rattle.std.proofs.lemmas.List.{get_or-map, length-map}
 use Rattle.register_sheets.specs.DateCounts.{no_counts}
 use Rattle.register_sheets.specs.declared.date_counts.DateCounts.{DateCounts}
 use Rattle.sheet_app.specs.Lines.{empty_list, head_of, listed, refused_list}
-use Rattle.sheet_app.proofs.LineLemmas.{summary_made, text_more}
-use Rattle.sheet_app.proofs.reports.line_of_summary.Goals as goal
+use Rattle.sheet_app.proofs.LineLemmas.{counts_made, shown, text_more}
+use Rattle.sheet_app.proofs.reports.line_of_counts.Goals as goal
 
 pub dates-preserved : goal.dates-preserved
 dates-preserved c =
@@ -26,12 +26,6 @@ dates-preserved c =
           (sym (get_or-map empty dates index no_counts [] within)) c.dates.invariant.empty;
     }
 
-shown : (f : DateCounts → List ℕ) (dates all : List DateCounts) (n k : ℕ) → k ≡ min n (length dates) → dates ≡ all
-    → take k (map f dates) ≡ take n (map f all)
-shown f dates all n k e same =
-    ap (λ i. take i (map f dates)) (e ∙ ap (min n) (sym (length-map dates f))) ∙ take_min n (map f dates)
-    ∙ ap (λ xs. take n (map f xs)) same
-
 pub returns : goal.returns
 returns c =
     let whole = c.args.whole.now in
@@ -48,9 +42,7 @@ returns c =
     let empty_all = c.as_slice.ensures.value
     ∙ c.dates.invariant.empty
     ∙ ap listed (shown empty dates whole.counts.dates c.args.dates c.dates.index last c.as_slice-columns.ensures) in
-    c.in_ok-push.ensures.items
-    ∙ ap (λ (xs : List ℕ). xs ++ 10 ∷ [])
-    (c.in_ok-extend_from_slice-2.ensures.items
+    c.in_ok-extend_from_slice-2.ensures.items
     ∙ ap₂ (λ (xs ys : List ℕ). xs ++ ys)
-    (c.in_ok-extend_from_slice.ensures.items ∙ ap (λ (xs : List ℕ). xs ++ codes ", empty: ") refused_all) empty_all)
-    ∙ summary_made head records (refused_list c.args.dates whole) (codes ", empty: ") (empty_list c.args.dates whole) (10 ∷ [])
+    (c.in_ok-extend_from_slice.ensures.items ∙ ap (λ (xs : List ℕ). xs ++ codes ", empty: ") refused_all) empty_all
+    ∙ counts_made head records (refused_list c.args.dates whole) (codes ", empty: ") (empty_list c.args.dates whole)

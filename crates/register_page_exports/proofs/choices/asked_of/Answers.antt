@@ -10,7 +10,7 @@ returns-in_default-2 c =
     (slice_index_or head 6 0) ≡ Some c.in-Some.reading = search rules in
     let low : (slice_index_or head 0 0 < 256) × (c.in-Ok.delimiter ≡ slice_index_or head 0 0)
     = rw c.in-Ok.is at c.try_from.ensures in
-    sym (asked_made head c.args.dates.now c.args.columns.now c.in-Ok.delimiter c.in-Some.reading c.in-Some-2.spans None _
+    sym (asked_made head c.args.dates.now c.args.columns.now c.in-Ok.delimiter c.in-Some.reading c.in-Some-spans_of.spans None _
     (search rules) low read (search rules) (search rules) refl)
 
 pub returns : goal.returns
@@ -21,5 +21,15 @@ returns c =
     let low : (slice_index_or head 0 0 < 256) × (c.in-Ok.delimiter ≡ slice_index_or head 0 0)
     = rw c.in-Ok.is at c.try_from.ensures in
     rw c.id_of.ensures (sym (asked_made head c.args.dates.now c.args.columns.now c.in-Ok.delimiter c.in-Some.reading
-    c.in-Some-2.spans (Some c.in-Some-3.dates.items) (Some c.in-Some-4.columns.items) (search rules) low read (search rules)
+    c.in-Some-spans_of.spans (Some c.in-Some-2.dates.items) (Some c.in-Some-3.columns.items) (search rules) low read (search rules)
     (search rules) (search rules)))
+
+pub returns-in_default-3 : goal.returns-in_default-3
+returns-in_default-3 c =
+    let head = c.args.head.now in
+    let read : reading_by (slice_index_or head 3 0) (slice_index_or head 4 0) (slice_index_or head 5 0)
+    (slice_index_or head 6 0) ≡ Some c.in-Some.reading = search rules in
+    let low : (slice_index_or head 0 0 < 256) × (c.in-Ok.delimiter ≡ slice_index_or head 0 0)
+    = rw c.in-Ok.is at c.try_from.ensures in
+    sym (asked_made head c.args.dates.now c.args.columns.now c.in-Ok.delimiter c.in-Some.reading c.in-Some-spans_of.spans
+    (Some c.in-Some-2.dates.items) None (search rules) low read (search rules) (search rules) (search rules))

@@ -6,6 +6,7 @@ use Rattle.family_trees.specs.LineViews.{line_seen}
 use Rattle.family_trees.specs.TextViews.{text_seen}
 use Rattle.family_trees.specs.Trees.{DateOfTree}
 use Rattle.family_trees.specs.declared.trees.Tree.{Tree}
+use Rattle.family_trees.specs.declared.date_values.DateValue.{DateValue}
 use Rattle.family_trees.specs.declared.dates.TreeDate.{TreeDate}
 use Rattle.family_trees.specs.declared.lines.Line.{Line}
 
@@ -15,8 +16,11 @@ lines_in tree = map line_seen tree.lines.items
 abbrev pub over_seen : Option Line → Option TreeLine
 over_seen over = option_map line_seen over
 
-abbrev pub mark_seen : Bor (List ℕ) × Bor (List ℕ) → List ℕ × List ℕ
-mark_seen mark = (mark.0.now, mark.1.now)
+abbrev pub pair_seen : Bor (List ℕ) × Bor (List ℕ) → List ℕ × List ℕ
+pair_seen pair = (pair.0.now, pair.1.now)
+
+abbrev pub value_seen : DateValue → List ℕ × List ℕ
+value_seen it = (it.calendar.now, text_seen it.text)
 
 abbrev pub date_seen : TreeDate → DateOfTree
 date_seen it =
@@ -29,5 +33,5 @@ date_seen it =
       kind = it.kind.now;
       place = text_seen it.place;
       calendar = it.calendar.now;
-      date = it.date.now;
+      date = text_seen it.date;
     }

@@ -1,4 +1,5 @@
 pub mod Lines
+pub mod DateValues
 pub mod LineViews
 pub mod Trees
 pub mod TextViews

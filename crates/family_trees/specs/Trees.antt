@@ -1,8 +1,9 @@
 -- The dates of a family tree, and what each is the date of.
-use Rattle.std.specs.Prelude.{◌==◌, ◌&&◌, ◌+◌, ◌-◌, ℕ, Bool, List, [], ◌∷◌, ◌++◌, Option, None, Some, codes, drop}
-use Rattle.std.specs.Prelude.{if◌then◌else◌, length, nat_le, nat_lt, take, unwrap_or}
+use Rattle.std.specs.Prelude.{◌==◌, ◌&&◌, ◌+◌, ◌-◌, ℕ, Bool, List, [], ◌∷◌, ◌++◌, Option, None, Some, codes}
+use Rattle.std.specs.Prelude.{if◌then◌else◌, nat_le, nat_lt, unwrap_or}
 use Rattle.std.specs.List.{find}
 use Rattle.std.specs.Str.{bytes_eq}
+use Rattle.family_trees.specs.DateValues.{dated}
 use Rattle.family_trees.specs.Lines.{TreeLine, tree_lines, unindented}
 
 -- A line is looked at with the lines before it, the nearest first, and with those behind it.
@@ -74,23 +75,6 @@ abbrev pub number_in : Option TreeLine → List ℕ
 number_in None = []
 number_in (Some line) = line.number
 
--- how the date of each calendar begins, in GEDCOM 5.5.1 and in 7, and the name of the calendar
-abbrev pub marks : List (List ℕ × List ℕ)
-marks =
-    (codes "@#DGREGORIAN@", codes "gregorian") ∷ (codes "@#DJULIAN@", codes "julian")
-    ∷ (codes "@#DHEBREW@", codes "hebrew") ∷ (codes "@#DFRENCH R@", codes "republican")
-    ∷ (codes "GREGORIAN ", codes "gregorian") ∷ (codes "JULIAN ", codes "julian")
-    ∷ (codes "HEBREW ", codes "hebrew") ∷ (codes "FRENCH_R ", codes "republican") ∷ []
-
-abbrev pub begins_with : List ℕ → List ℕ → Bool
-begins_with mark value = bytes_eq (take (length mark) value) mark
-
--- the calendar of a date and its text: Gregorian where it begins with no mark
-abbrev pub dated : List (List ℕ × List ℕ) → List ℕ → List ℕ × List ℕ
-dated [] value = (codes "gregorian", value)
-dated ((mark, calendar) ∷ others) value =
-    if begins_with mark value then (calendar, unindented (drop (length mark) value)) else dated others value
-
 -- a date of a tree
 pub record DateOfTree : Type 0 where
   -- the number of the record, as `@I1@`
@@ -141,8 +125,8 @@ date_with tree before line behind place =
       part = part_over line.level before;
       kind = value_beside line.level (codes "TYPE") before behind;
       place = place;
-      calendar = (dated marks (unindented line.value)).0;
-      date = (dated marks (unindented line.value)).1;
+      calendar = (dated (unindented line.value)).0;
+      date = (dated (unindented line.value)).1;
     }
 
 -- the date on a line, and its place

@@ -1,13 +1,16 @@
 //! The dates of a family tree, and what each is the date of.
 
 ghost use Rattle.std.specs.Prelude.{◌≡◌, ◌<◌, ◌+◌, IfOk, drop, get_or, length, map, reverse, take};
-ghost use Rattle.family_trees.specs.DateViews.{date_seen, lines_in, mark_seen, over_seen};
+ghost use Rattle.family_trees.specs.DateValues.{dated as dated_spec};
+ghost use Rattle.family_trees.specs.DateViews.{date_seen, lines_in, over_seen};
 ghost use Rattle.family_trees.specs.LineViews.{line_seen};
+ghost use Rattle.family_trees.specs.Lines.{unindented as unindented_spec};
 ghost use Rattle.family_trees.specs.declared.lines.Line.{Line as LineValue};
 ghost use Rattle.family_trees.specs.TextViews.{text_seen};
-ghost use Rattle.family_trees.specs.Trees.{date_at, date_with, dated, first_person, is_date, is_family, marks, name_in};
+ghost use Rattle.family_trees.specs.Trees.{date_at, date_with, first_person, is_date, is_family, name_in};
 ghost use Rattle.family_trees.specs.Trees.{part_over, second_person, tag_over, tree_dates, value_beside};
 
+use crate::date_values::{DateValue, dated};
 use crate::lines::{Line, lines_of, unindented};
 use crate::trees::{Tree, line_over, names_of, value_before, value_in};
 use crate::values::{Text, whole_beside};
@@ -32,8 +35,8 @@ pub struct TreeDate<'a> {
     pub place: Text<'a>,
     /// The name of the date's calendar.
     pub calendar: &'a [u8],
-    /// The date, as it stands.
-    pub date: &'a [u8],
+    /// The date, as it stands but for the marks of its calendar.
+    pub date: Text<'a>,
 }
 
 /// Whether a line is a date.
@@ -113,41 +116,6 @@ fn part_over<'a>(before: &[Line<'a>], level: u8) -> &'a [u8]
     tag_over(before, level - 1, level)
 }
 
-/// A mark of a calendar, and the calendar's name.
-type CalendarMark = (&'static [u8], &'static [u8]);
-
-/// The calendar of a date by these marks, and its text.
-#[tactic(auto, using(crate::proofs::MarkLemmas::next_mark))]
-fn dated_by<'a>(marks: &[CalendarMark], value: &'a [u8]) -> (&'static [u8], &'a [u8])
-    ensures calendar { result.0.now ≡ (dated (map mark_seen marks.now) value.now).0 }
-    ensures text { result.1.now ≡ (dated (map mark_seen marks.now) value.now).1 }
-{
-    'marks: for (mark, calendar) in marks {
-        if let Some(text) = value.strip_prefix(*mark) {
-            return (*calendar, unindented(text));
-        }
-    }
-    (b"gregorian", value)
-}
-
-/// The calendar of a date, and its text.
-fn dated(value: &[u8]) -> (&'static [u8], &[u8])
-    ensures calendar { result.0.now ≡ (dated marks value.now).0 }
-    ensures text { result.1.now ≡ (dated marks value.now).1 }
-{
-    let marks: [CalendarMark; 8] = [
-        (b"@#DGREGORIAN@", b"gregorian"),
-        (b"@#DJULIAN@", b"julian"),
-        (b"@#DHEBREW@", b"hebrew"),
-        (b"@#DFRENCH R@", b"republican"),
-        (b"GREGORIAN ", b"gregorian"),
-        (b"JULIAN ", b"julian"),
-        (b"HEBREW ", b"hebrew"),
-        (b"FRENCH_R ", b"republican"),
-    ];
-    dated_by(&marks, value)
-}
-
 impl<'a> Tree<'a> {
     /// The name of the record with this number, or nothing.
     fn name(&self, number: &[u8]) -> &'a [u8]
@@ -162,19 +130,21 @@ impl<'a> Tree<'a> {
         }
     }
 
-    /// The date on a line, by the lines before it and behind it, and its place.
+    /// The date on a line, by the lines before it and behind it, its place, and what its value says.
     fn date(
         &self,
         before: &[Line<'a>],
         line: &Line<'a>,
         behind: &[Line<'a>],
         place: Text<'a>,
+        value: DateValue<'a>,
     ) -> TreeDate<'a>
+        requires calendar { value.calendar.now ≡ (dated_spec (unindented_spec (line_seen line.now).value)).0 }
+        requires text { text_seen value.text ≡ (dated_spec (unindented_spec (line_seen line.now).value)).1 }
         ensures { date_seen result ≡ date_with (lines_in self.now) (reverse (map line_seen before.now))
             (line_seen line.now) (map line_seen behind.now) (text_seen place.entry) }
     {
         let over = line_over(before, 0);
-        let (calendar, date) = dated(unindented(line.value));
         TreeDate {
             number: match over {
                 Some(line) => line.number,
@@ -186,8 +156,8 @@ impl<'a> Tree<'a> {
             part: part_over(before, line.level),
             kind: value_beside(before, behind, line.level, b"TYPE"),
             place,
-            calendar,
-            date,
+            calendar: value.calendar,
+            date: value.text,
         }
     }
 }
@@ -207,7 +177,8 @@ fn date_on<'a>(
 {
     let line = &lines[place];
     let of_place = whole_beside(alloc, lines, place, line.level, b"PLAC")?;
-    Ok(tree.date(&lines[..place], line, &lines[place + 1..], of_place))
+    let value = dated(alloc, unindented(line.value))?;
+    Ok(tree.date(&lines[..place], line, &lines[place + 1..], of_place, value))
 }
 
 /// The dates of a family tree in GEDCOM 5.5.1 or 7: one for each line `DATE` of a record, in order. What is no line is

@@ -3,6 +3,7 @@
 //! [`dates_of`] finds each line `DATE` of a record, once and in order, and [`tree_sheet`] writes them as a sheet.
 #![tactic(auto)]
 
+mod date_values;
 mod dates;
 mod lines;
 mod tree_sheets;

@@ -41,8 +41,14 @@ fn write_head(sheet: &mut Writer<Vec<u8>>) -> Result<(), AllocError>
 }
 
 /// Appends what is known of a date.
-fn write_date(sheet: &mut Writer<Vec<u8>>, date: &TreeDate, place: &[u8]) -> Result<(), AllocError>
-    requires { place.now ≡ (date_seen date.now).place }
+fn write_date(
+    sheet: &mut Writer<Vec<u8>>,
+    date: &TreeDate,
+    place: &[u8],
+    text: &[u8],
+) -> Result<(), AllocError>
+    requires place { place.now ≡ (date_seen date.now).place }
+    requires text { text.now ≡ (date_seen date.now).date }
     ensures { OnOk result ((text : List ℕ) → Holds text sheet.old
         → Holds (text ++ row_text default_writer (date_record (date_seen date.now))) sheet.new) }
 {
@@ -55,7 +61,7 @@ fn write_date(sheet: &mut Writer<Vec<u8>>, date: &TreeDate, place: &[u8]) -> Res
         date.kind,
         place,
         date.calendar,
-        date.date,
+        text,
     ];
     write(sheet, &fields)
 }
@@ -83,7 +89,12 @@ pub fn tree_sheet(alloc: Global, tree: &[u8]) -> Result<Vec<u8>, AllocError>
     let mut sheet = Writer::from_writer(Vec::new(alloc));
     write_head(&mut sheet)?;
     'dates: for date in &dates {
-        write_date(&mut sheet, date, date.place.as_slice())?;
+        write_date(
+            &mut sheet,
+            date,
+            date.place.as_slice(),
+            date.date.as_slice(),
+        )?;
     }
     text_of(sheet)
 }

@@ -11,7 +11,7 @@ struct Case {
     dates: &'static str,
 }
 
-static CASES: [Case; 5] = [
+static CASES: [Case; 6] = [
     Case {
         tree: "\
 0 HEAD
@@ -105,6 +105,65 @@ static CASES: [Case; 5] = [
 ",
     },
     Case {
+        tree: "\
+0 @I1@ INDI
+1 BIRT
+2 DATE BEF @#DJULIAN@ 1 MAY 1700
+2 DATE BET @#DJULIAN@ 1700 AND @#DJULIAN@ 1705
+2 DATE FROM @#DFRENCH R@ 1 VEND 2 TO @#DFRENCH R@ 3 VEND 2
+2 DATE AFT @#DHEBREW@ TSH 5507
+2 DATE INT @#DJULIAN@ 1 MAY 1700 (May day)
+2 DATE FROM @#DGREGORIAN@ 1700
+2 DATE TO @#DJULIAN@  1700
+2 DATE BET @#DJULIAN@ 1700 AND 1705
+2 DATE BET 1700 AND @#DJULIAN@ 1705
+2 DATE BET @#DJULIAN@ 1700 AND @#DHEBREW@ 5507
+2 DATE FROM @#DGREGORIAN@ 1700 TO 1705
+2 DATE BET @#DJULIAN@ 1700
+2 DATE @#DJULIAN@ BET 1700 AND 1705
+2 DATE @#DJULIAN@ BEF 1 MAY 1700
+1 DEAT
+2 DATE ABT JULIAN 1700
+2 DATE CAL HEBREW 5 TSH 5507
+2 DATE EST FRENCH_R 2
+2 DATE BET JULIAN 1700 AND JULIAN 1705
+2 DATE FROM FRENCH_R 1 VEND 2 TO FRENCH_R 3 VEND 2
+2 DATE FROM JULIAN 1700
+2 DATE FROM TO JULIAN 1705
+2 DATE BET JULIAN 1700 AND GREGORIAN 1705
+2 DATE BET  1700  AND  1705
+2 DATE BEF JULIANA
+2 DATE Bef JULIAN 1700
+",
+        dates: "\
+@I1@|||BIRT||||julian|BEF 1 MAY 1700
+@I1@|||BIRT||||julian|BET 1700 AND 1705
+@I1@|||BIRT||||republican|FROM 1 VEND 2 TO 3 VEND 2
+@I1@|||BIRT||||hebrew|AFT TSH 5507
+@I1@|||BIRT||||julian|INT 1 MAY 1700 (May day)
+@I1@|||BIRT||||gregorian|FROM 1700
+@I1@|||BIRT||||julian|TO 1700
+@I1@|||BIRT||||gregorian|BET @#DJULIAN@ 1700 AND 1705
+@I1@|||BIRT||||gregorian|BET 1700 AND @#DJULIAN@ 1705
+@I1@|||BIRT||||gregorian|BET @#DJULIAN@ 1700 AND @#DHEBREW@ 5507
+@I1@|||BIRT||||gregorian|FROM 1700 TO 1705
+@I1@|||BIRT||||gregorian|BET @#DJULIAN@ 1700
+@I1@|||BIRT||||julian|BET 1700 AND 1705
+@I1@|||BIRT||||julian|BEF 1 MAY 1700
+@I1@|||DEAT||||julian|ABT 1700
+@I1@|||DEAT||||hebrew|CAL 5 TSH 5507
+@I1@|||DEAT||||republican|EST 2
+@I1@|||DEAT||||julian|BET 1700 AND 1705
+@I1@|||DEAT||||republican|FROM 1 VEND 2 TO 3 VEND 2
+@I1@|||DEAT||||julian|FROM 1700
+@I1@|||DEAT||||gregorian|FROM TO JULIAN 1705
+@I1@|||DEAT||||gregorian|BET JULIAN 1700 AND GREGORIAN 1705
+@I1@|||DEAT||||gregorian|BET  1700  AND  1705
+@I1@|||DEAT||||gregorian|BEF JULIANA
+@I1@|||DEAT||||gregorian|Bef JULIAN 1700
+",
+    },
+    Case {
         tree: "",
         dates: "",
     },
@@ -127,7 +186,7 @@ fn push_line(lines: &mut Vec<u8>, it: &TreeDate) -> Result<(), AllocError> {
     push_field(lines, it.kind)?;
     push_field(lines, it.place.as_slice())?;
     push_field(lines, it.calendar)?;
-    lines.extend_from_slice(it.date)?;
+    lines.extend_from_slice(it.date.as_slice())?;
     lines.push(b'\n')?;
     Ok(())
 }

@@ -1,4 +1,4 @@
 use Rattle.family_trees.proofs.tree_sheets.write_date.Goals as goal
 
 pub returns : goal.returns
-returns c = rw c.requires at c.write.ensures
+returns c = rw (c.requires.place, c.requires.text) at c.write.ensures

@@ -8,8 +8,8 @@ use Rattle.date_spans.specs.declared.spans.Marks.{Marks}
 use Rattle.date_texts.specs.declared.calendar.Calendar.{Calendar}
 use Rattle.register_records.specs.Entries.{Fields}
 use Rattle.register_records.specs.Outcomes.{IsRowOf}
-use Rattle.register_sheets.specs.Choices.{asked_targets, calendar_text, called_for, id_text}
-use Rattle.register_sheets.specs.DateEnds.{AreEndsBy, Dated, DatedEnd, IsEdtfIf, IsEdtfOf, sense_of}
+use Rattle.register_sheets.specs.Choices.{asked_targets, calendar_text, called_for, id_text, in_both_styles}
+use Rattle.register_sheets.specs.DateEnds.{AreEndsIn, Dated, DatedEnd, IsEdtfIf, IsEdtfOf, sense_of}
 use Rattle.register_sheets.specs.DateStops.{DateStop, IsStopBy}
 use Rattle.register_sheets.specs.DateViews.{HasRows, entry_of}
 use Rattle.register_sheets.specs.SheetRecords.{IsDateRead, date_seen, dated_seen, stop_read}
@@ -42,41 +42,45 @@ entry_as choice number id other calendar named end same i n e h =
 
 -- the calendar, the stop and both texts, and then the rows and the text of EDTF
 pub date_is_read : (choice : SheetChoice) (column : DateColumn) (number : ℕ) (fields : Fields) (id : List ℕ)
-    (called : Option Calendar) (stop : Option DateStop) (mid rows new : ColumnDates)
+    (called : Option Calendar) (both : Bool) (stop : Option DateStop) (mid rows new : ColumnDates)
     → mid.calendar.items ≡ calendar_text choice.calendars.now column.calendar fields
-    → called ≡ called_for choice column fields → id ≡ id_text choice.id number fields
-    → AreEndsBy choice.spans choice.reading called choice.names.now.listed.now (get_or fields column.date [])
+    → called ≡ called_for choice column fields → both ≡ in_both_styles choice.calendars.now column.calendar fields
+    → id ≡ id_text choice.id number fields
+    → AreEndsIn both choice.spans choice.reading called choice.names.now.listed.now (get_or fields column.date [])
     (dated_seen mid).first.text (dated_seen mid).last.text mid.marks
     → IsStopBy choice column fields (dated_seen mid).first.text called stop → stop_read mid.stop ≡ stop
     → HasRows choice number id mid rows → new.calendar ≡ rows.calendar → new.stop ≡ rows.stop
     → (dated_seen new).first ≡ (dated_seen rows).first → (dated_seen new).last ≡ (dated_seen rows).last
     → new.marks ≡ rows.marks → IsEdtfOf choice.spans (dated_seen new)
     → IsDateRead choice number fields column (date_seen new)
-date_is_read choice column number fields id called stop mid rows new named is_called is_id ends stops stopped h calendar
-    same_stop
-    first last marks edtf =
+date_is_read choice column number fields id called both stop mid rows new named is_called is_both is_id ends stops
+    stopped h calendar same_stop first last marks edtf =
     let field = get_or fields column.date [] in
     let names = choice.names.now.listed.now in
+    let styles = in_both_styles choice.calendars.now column.calendar fields in
+    let found = called_for choice column fields in
     let first_text : (dated_seen mid).first.text ≡ (dated_seen new).first.text
     = sym (ap (λ (end : DatedEnd). end.text) first ∙ h.first_text) in
     let last_text : (dated_seen mid).last.text ≡ (dated_seen new).last.text
     = sym (ap (λ (end : DatedEnd). end.text) last ∙ h.last_text) in
     record {
       calendar = ap (λ (text : Vec ℕ Global). text.items) (calendar ∙ h.calendar) ∙ named;
-      stop = subst (λ (found : Option DateStop). IsStopBy choice column fields (dated_seen new).first.text
-          (called_for choice column fields) found)
+      stop = subst (λ (stopping : Option DateStop). IsStopBy choice column fields (dated_seen new).first.text found
+          stopping)
           (sym stopped ∙ sym (ap stop_read (same_stop ∙ h.stop)))
           (subst (λ (c : Option Calendar). IsStopBy choice column fields (dated_seen new).first.text c stop) is_called
           (subst (λ (text : List ℕ). IsStopBy choice column fields text called stop) first_text stops));
       dated = record {
-        ends = subst (λ (found : Marks). AreEndsBy choice.spans choice.reading (called_for choice column fields) names
-            field (dated_seen new).first.text (dated_seen new).last.text found) (sym (marks ∙ h.marks))
-            (subst (λ (text : List ℕ). AreEndsBy choice.spans choice.reading (called_for choice column fields) names
-            field (dated_seen new).first.text text mid.marks) last_text
-            (subst (λ (text : List ℕ). AreEndsBy choice.spans choice.reading (called_for choice column fields) names
-            field text (dated_seen mid).last.text mid.marks) first_text
-            (subst (λ (c : Option Calendar). AreEndsBy choice.spans choice.reading c names field
-            (dated_seen mid).first.text (dated_seen mid).last.text mid.marks) is_called ends)));
+        ends = subst (λ (marked : Marks). AreEndsIn styles choice.spans choice.reading found names field
+            (dated_seen new).first.text (dated_seen new).last.text marked) (sym (marks ∙ h.marks))
+            (subst (λ (text : List ℕ). AreEndsIn styles choice.spans choice.reading found names field
+            (dated_seen new).first.text text mid.marks) last_text
+            (subst (λ (text : List ℕ). AreEndsIn styles choice.spans choice.reading found names field text
+            (dated_seen mid).last.text mid.marks) first_text
+            (subst (λ (c : Option Calendar). AreEndsIn styles choice.spans choice.reading c names field
+            (dated_seen mid).first.text (dated_seen mid).last.text mid.marks) is_called
+            (subst (λ (b : Bool). AreEndsIn b choice.spans choice.reading called names field
+            (dated_seen mid).first.text (dated_seen mid).last.text mid.marks) is_both ends))));
         first = entry_as choice number id _ mid.calendar.items _ (dated_seen rows).first (dated_seen new).first is_id
             named first h.first;
         last = entry_as choice number id _ mid.calendar.items _ (dated_seen rows).last (dated_seen new).last is_id named

@@ -7,7 +7,7 @@ ghost use Rattle.register_records.specs.Outcomes.{IsRowOf};
 ghost use Rattle.register_records.specs.Seen.{outcome_seen};
 ghost use Rattle.register_records.specs.Views.{row_seen};
 ghost use Rattle.register_sheets.specs.Choices.{asked_targets};
-ghost use Rattle.register_sheets.specs.DateEnds.{AreEndsBy, IsEdtfOf, asks_edtf as asks_spec, end_text};
+ghost use Rattle.register_sheets.specs.DateEnds.{AreEndsBy, AreEndsIn, IsEdtfOf, asks_edtf as asks_spec, end_text};
 ghost use Rattle.register_sheets.specs.DateEnds.{has_edtf as has_spec, is_failed, is_open};
 ghost use Rattle.register_sheets.specs.DateEnds.{sense_of as sense_spec, telling as telling_spec, told};
 ghost use Rattle.register_sheets.specs.DateViews.{HasRows, entry_of};
@@ -22,7 +22,7 @@ use crate::reasons::Reason;
 use crate::register_fields::{calendar_of, id_of};
 use crate::stops::{DateStop, NameStop, stop_by};
 use csv::ByteRecord;
-use date_spans::{Kind, Marks, write_span};
+use date_spans::{Kind, Marks, write_in_both, write_span};
 use date_texts::{Calendar, Refusal};
 use day_numbers::Day;
 use edtf_texts::{Sense, write_edtf};
@@ -253,8 +253,8 @@ impl ColumnDates {
         telling(&self.first, self.last())
     }
 
-    /// Writes the first and the last day that a field can mean, as date texts of registers.
-    fn put_ends(
+    /// Writes the first and the last day that a field can mean in a calendar, as date texts of registers.
+    fn put_in_calendar(
         &mut self,
         choice: &SheetChoice,
         called: Option<Calendar>,
@@ -290,6 +290,27 @@ impl ColumnDates {
                 Ok(())
             }
         }
+    }
+
+    /// Writes them for a field in both styles, or in a calendar.
+    fn put_ends(
+        &mut self,
+        choice: &SheetChoice,
+        called: Option<Calendar>,
+        both: bool,
+        field: &[u8],
+    ) -> Result<(), AllocError>
+        ensures ends { OnOk result (AreEndsIn both choice.now.spans choice.now.reading called
+            choice.now.names.now.listed.now field.now (dated_seen self.new).first.text (dated_seen self.new).last.text
+            self.new.marks) }
+        ensures calendar { self.new.calendar ≡ self.old.calendar }
+    {
+        if !both {
+            return self.put_in_calendar(choice, called, field);
+        }
+        self.has_last = false;
+        self.marks = DAY_MARKS;
+        write_in_both(&mut self.first.text, field, choice.names, &choice.reading)
     }
 
     /// Whether the text of EDTF is asked, and no date was refused.
@@ -345,10 +366,10 @@ impl ColumnDates {
             (IsDateRead setup.now.choice number (fields_of fields.now) column.now (date_seen self.new)) }
     {
         let choice = &setup.choice;
-        let (calendar, called) = calendar_of(choice.calendars, column.calendar, fields);
+        let (calendar, called, both) = calendar_of(choice.calendars, column.calendar, fields);
         copy_text(&mut self.calendar, calendar)?;
         let field = field_at(fields, column.date as usize);
-        self.put_ends(choice, called, field)?;
+        self.put_ends(choice, called, both, field)?;
         let stop = stop_by(choice, column, called, fields, self.first.text.as_slice());
         self.stop.renew(stop)?;
         let mut buffer = Buffer::new();

@@ -1,15 +1,20 @@
 -- What is read for a date.
-use Rattle.std.proofs.Common.{◌≡◌, ◌∙◌, [], ℕ, ℤ, Bool, List, Option, Vec, ap, get_or, subst, sym, true}
+use Rattle.std.proofs.Common.{◌≡◌, ◌∙◌, [], ℕ, ℤ, Bool, List, Option, Vec, ap, cond, false, get_or, is_ok, refl, subst}
+use Rattle.std.proofs.Common.{Err, Ok, Result, sym, true}
 use Rattle.std.specs.declared.alloc.Global.{Global}
 use Rattle.std.specs.Result.{result_ok}
+use Rattle.std.proofs.lemmas.Bool.Decides.{Decides-int_eq}
 use Rattle.edtf_texts.specs.Edtf.{IsEdtf}
 use Rattle.edtf_texts.specs.declared.edtf.Sense.{Sense}
 use Rattle.date_spans.specs.declared.spans.Marks.{Marks}
 use Rattle.date_texts.specs.declared.calendar.Calendar.{Calendar}
+use Rattle.date_texts.specs.declared.refusal.Refusal.{Refusal}
 use Rattle.register_records.specs.Entries.{Fields}
 use Rattle.register_records.specs.Outcomes.{IsRowOf}
 use Rattle.register_sheets.specs.Choices.{asked_targets, calendar_text, called_for, id_text, in_both_styles}
-use Rattle.register_sheets.specs.DateEnds.{AreEndsIn, Dated, DatedEnd, IsEdtfIf, IsEdtfOf, sense_of}
+use Rattle.register_sheets.specs.DateEnds.{AreEndsIn, Dated, DatedEnd, IsEdtfIf, IsEdtfOf}
+use Rattle.register_sheets.specs.DateEnds.{is_failed, is_open, sense_of, telling}
+use Rattle.register_sheets.specs.DateCounts.{is_one_day}
 use Rattle.register_sheets.specs.DateStops.{DateStop, IsStopBy}
 use Rattle.register_sheets.specs.DateViews.{HasRows, entry_of}
 use Rattle.register_sheets.specs.SheetRecords.{IsDateRead, date_seen, dated_seen, stop_read}
@@ -26,6 +31,20 @@ edtf_there b dated sense n k is same first last h =
     (subst (λ (m : Option ℤ). IsEdtf (sense_of dated.marks) (result_ok dated.first.row.outcome) m dated.edtf) last
     (subst (λ (m : Option ℤ). IsEdtf (sense_of dated.marks) m k dated.edtf) first
     (subst (λ (s : Sense). IsEdtf s n k dated.edtf) same h)))
+
+-- one end that is both tells for itself, and is one day where it has one
+told_by : (failed open_end : Bool) (end : DatedEnd)
+    → cond failed end (cond failed end (cond open_end end end)) ≡ end
+told_by true open_end end = refl
+told_by false true end = refl
+told_by false false end = refl
+
+pub telling_itself : (end : DatedEnd) → telling end end ≡ end
+telling_itself end = told_by (is_failed end) (is_open end) end
+
+pub one_day_itself : (outcome : Result ℤ Refusal) → is_one_day outcome outcome ≡ is_ok outcome
+one_day_itself (Ok day) = (Decides-int_eq day day).1 refl
+one_day_itself (Err refusal) = refl
 
 -- an end whose row is that of the entry with its text
 abbrev IsConverted : SheetChoice → ℕ → List ℕ → List ℕ → DatedEnd → Type 0

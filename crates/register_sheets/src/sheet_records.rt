@@ -7,6 +7,7 @@ ghost use Rattle.register_records.specs.Outcomes.{IsRowOf};
 ghost use Rattle.register_records.specs.Seen.{outcome_seen};
 ghost use Rattle.register_records.specs.Views.{row_seen};
 ghost use Rattle.register_sheets.specs.Choices.{asked_targets};
+ghost use Rattle.register_sheets.specs.DateCounts.{is_one_day as one_day_spec};
 ghost use Rattle.register_sheets.specs.DateEnds.{AreEndsBy, AreEndsIn, IsEdtfOf, asks_edtf as asks_spec, end_text};
 ghost use Rattle.register_sheets.specs.DateEnds.{has_edtf as has_spec, is_failed, is_open};
 ghost use Rattle.register_sheets.specs.DateEnds.{sense_of as sense_spec, telling as telling_spec, told};
@@ -182,6 +183,16 @@ fn telling<'a>(first: &'a ReadEnd, last: &'a ReadEnd) -> &'a ReadEnd
     }
 }
 
+/// Whether two outcomes are one day.
+fn is_one_day(first: Result<Day, Refusal>, last: Result<Day, Refusal>) -> bool
+    ensures { result ≡ one_day_spec (outcome_seen first) (outcome_seen last) }
+{
+    match (first, last) {
+        (Ok(first), Ok(last)) => first.number() == last.number(),
+        _ => false,
+    }
+}
+
 /// The day of an outcome.
 fn day_of(outcome: Result<Day, Refusal>) -> Option<Day>
     ensures { option_map (λ day. day.number) result ≡ result_ok (outcome_seen outcome) }
@@ -247,10 +258,27 @@ impl ColumnDates {
     }
 
     /// The end that tells whether the date was refused.
+    #[tactic(auto, using(crate::proofs::DateLemmas::telling_itself))]
     pub fn told(&self) -> &ReadEnd
         ensures { (end_seen result.now).row ≡ told (dated_seen self.now) }
     {
-        telling(&self.first, self.last())
+        if self.has_last {
+            telling(&self.first, &self.last)
+        } else {
+            &self.first
+        }
+    }
+
+    /// Whether the first and the last day are one.
+    #[tactic(auto, using(crate::proofs::DateLemmas::one_day_itself))]
+    pub fn is_one_day(&self) -> bool
+        ensures { result ≡ one_day_spec (dated_seen self.now).first.row.outcome (dated_seen self.now).last.row.outcome }
+    {
+        if self.has_last {
+            is_one_day(self.first.row.outcome(), self.last.row.outcome())
+        } else {
+            self.first.row.outcome().is_ok()
+        }
     }
 
     /// Writes the first and the last day that a field can mean in a calendar, as date texts of registers.

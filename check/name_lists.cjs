@@ -38,8 +38,8 @@ function itemOf(means) {
 function listOf(rows, calendars) {
   const names = [], fields = [], byCalendar = new Map(calendars.map(it => [it, new Map()]));
   for (const [text, means, where] of rows) {
-    if (calendars.includes(means)) {
-      fields.push({ text, calendar: means });
+    if (calendars.includes(means) || means === "both") {
+      fields.push({ text, calendar: means === "both" ? "gregorian" : means });
       continue;
     }
     const held = new Set(where === "" ? calendars : where.split(" "));

@@ -153,8 +153,20 @@ SPANS_LAST = ("id,calendar,date\n1,gregorian,1806-5-12\n2,gregorian,1806-5-31\n3
               "4,gregorian,1806-05-11\n5,gregorian,1801-5-5\n6,gregorian,1755-1750\n7,gregorian,\n")
 SPANS_COLUMNS = "--date Date --all gregorian --order day"
 
+# Dates in both styles: of one day, with a month and a year for both; of one day; of two days; and in one style.
+STYLES = "No,Style,Date\n1,stary/nowy,10/22 stycznia 1863\n2,both,29.12.1863/10.1.1864\n3,both,10/23 stycznia 1863\n"
+STYLES_CONVERTED = """\
+No,Style,Date,weekday,gregorian,refusal
+1,stary/nowy,10/22 stycznia 1863,Thursday,1863-01-22,
+2,both,29.12.1863/10.1.1864,Sunday,1864-01-10,
+3,both,10/23 stycznia 1863,,,5
+"""
+STYLES_REGISTER = ("id,calendar,date\n1,gregorian,1863-1-22\n2,gregorian,1864-1-10\n"
+                   "3,gregorian,10/23 stycznia 1863\n")
+STYLES_COLUMNS = "--date Date --calendar Style --order day"
+
 FILES = {
-    "spans.csv": SPANS,
+    "spans.csv": SPANS, "styles.csv": STYLES, "old-style.csv": "name,means,in\nstary/nowy,julian,\nO.S.,both,\n",
     "a.csv": SHEET, "c.csv": SHEET, "own.csv": SHEET, "two.csv": TWO_DATES, "empty.csv": "",
     "names.csv": "name,means,in\nMeyo,month 5,\n", "weekdays.csv": "name,means,in\nSonntag,weekday 0,\n",
     "own.csv.unknown.csv": "name,means,in\nMeyo,month 5,\n",
@@ -242,6 +254,13 @@ STREAMS = [
     (f"{SPANS_COLUMNS} --edtf --summary", SPANS, 0, SPANS_CONVERTED,
      lines("standard input: 1 date is no date of its calendar",
            "standard input: 7 records, refused: 2, empty: 1, spans: 3")),
+    # Dates in both styles, and lists of names that hold before the built-in one.
+    (f"{STYLES_COLUMNS} --summary", STYLES, 0, STYLES_CONVERTED,
+     lines("standard input: 1 date is no date of its calendar", "standard input: 3 records, refused: 1, empty: 0")),
+    (f"{STYLES_COLUMNS} --spans --to gregorian --names old-style.csv",
+     "Style,Date\nO.S.,10/22 stycznia 1863\nstary/nowy,10/22 stycznia 1863\n", 0,
+     "Style,Date,first gregorian,last gregorian,mark,refusal\nO.S.,10/22 stycznia 1863,1863-01-22,1863-01-22,,\n"
+     "stary/nowy,10/22 stycznia 1863,,,,5\n", lines("standard input: 1 date is no date of its calendar")),
     # Sheets that break off.
     ("--date Datum --calendar Calendar", SHEET, 1, "",
      lines("standard input: no column Datum: the columns are No, Calendar, Date")),
@@ -278,6 +297,9 @@ MADE = [
     (f"{SPANS_COLUMNS} --edtf --register spans.csv", 0,
      {"spans.csv.dates.csv": SPANS_CONVERTED, "spans.csv.first.register.csv": SPANS_FIRST,
       "spans.csv.last.register.csv": SPANS_LAST}, lines("spans.csv: 1 date is no date of its calendar")),
+    (f"{STYLES_COLUMNS} --id No --register styles.csv", 0,
+     {"styles.csv.dates.csv": STYLES_CONVERTED, "styles.csv.register.csv": STYLES_REGISTER},
+     lines("styles.csv: 1 date is no date of its calendar")),
     # Files that cannot be opened or made: all are opened before any is made.
     ("--date 1 --all iso a.csv none.csv", 3, {}, lines("cannot open none.csv")),
     ("--date 1 --all iso a.csv c.csv", 3, {"a.csv.dates.csv.part": ""}, lines("cannot make c.csv.dates.csv")),

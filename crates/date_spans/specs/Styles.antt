@@ -11,7 +11,7 @@ use Rattle.date_spans.specs.declared.extents.Extent.{Extent}
 use Rattle.date_spans.specs.declared.extents.Extent.TheVariants as extent
 use Rattle.date_spans.specs.Cuts.{sides}
 use Rattle.date_spans.specs.declared.sayings.RangeSigns.{RangeSigns}
-use Rattle.date_spans.specs.Ends.{HasDay, first_of, holds}
+use Rattle.date_spans.specs.Ends.{HasDay, date_text, first_of, holds}
 use Rattle.date_spans.specs.Extents.{extent_of}
 use Rattle.date_spans.specs.Sayings.{left_of}
 use Rattle.date_spans.specs.Spans.{items_in, one_side}
@@ -61,3 +61,12 @@ pub data IsOneDay (a b : Numbers) : Option Numbers → Type 0 where
 abbrev pub IsOfBoth : Option (Numbers × Numbers) → Option Numbers → Type 0
 IsOfBoth None date = date ≡ None
 IsOfBoth (Some two) date = IsOneDay two.0 two.1 date
+
+-- what is written for a text in both styles: that date; where there is none, the text stays
+abbrev pub written_by : List ℕ → Option Numbers → List ℕ
+written_by text None = text
+written_by text (Some date) = date_text (Some date)
+
+abbrev pub IsWrittenInBoth : Choice → List Name → List ℕ → List ℕ → Type 0
+IsWrittenInBoth choice names text written =
+    (date : Option Numbers) × IsOfBoth (two_dates choice names text) date × (written ≡ written_by text date)

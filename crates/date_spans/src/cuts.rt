@@ -5,7 +5,8 @@ ghost use Rattle.written_dates.specs.declared.tokens.Kind.TheVariants.{Blank};
 ghost use Rattle.written_dates.specs.Fields.{is_blank as blank_spec};
 ghost use Rattle.written_dates.specs.Signs.{bare as bare_spec, is_bar as bar_spec};
 ghost use Rattle.written_dates.specs.Tokens.{piece, tokens};
-ghost use Rattle.date_spans.specs.CutViews.{seen_sides, seen_mark};
+ghost use Rattle.std.specs.List.{list_any};
+ghost use Rattle.date_spans.specs.CutViews.{is_slash_byte, seen_sides, seen_mark};
 ghost use Rattle.date_spans.specs.Cuts.{begins_open as begins_open_spec, ends_open as ends_open_spec, is_open as open_spec};
 ghost use Rattle.date_spans.specs.Cuts.{bytes_before, bytes_behind, count_cuts as count_spec, cuts as cuts_spec};
 ghost use Rattle.date_spans.specs.Cuts.{has_slash as slash_spec, is_about_sign as about_spec, last_byte as last_spec};
@@ -130,6 +131,13 @@ pub fn has_slash(text: &[u8]) -> bool
     ensures { result ≡ slash_spec text.now }
 {
     count_cuts(Cut::Slash, text) > 0
+}
+
+/// Whether the byte of a slash stands in a text.
+pub fn has_slash_byte(text: &[u8]) -> bool
+    ensures { result ≡ list_any is_slash_byte text.now }
+{
+    text.iter().any(|byte| *byte == b'/')
 }
 
 /// Whether a byte at the end of a text says that it is uncertain.

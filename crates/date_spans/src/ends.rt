@@ -181,7 +181,7 @@ pub fn if_held(choice: &Choice, calendar: Calendar, said: Option<Said>) -> Optio
 }
 
 /// Makes a buffer the text of a date, or empty.
-fn set_date(out: &mut Vec<u8>, date: Option<Numbers>) -> Result<(), AllocError>
+pub fn set_date(out: &mut Vec<u8>, date: Option<Numbers>) -> Result<(), AllocError>
     ensures { OnOk result (out.new.items ≡ text_spec date) }
 {
     out.clear();

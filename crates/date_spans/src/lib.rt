@@ -16,4 +16,4 @@ mod styles;
 pub use ends::Numbers;
 pub use sayings::Kind;
 pub use spans::{Marks, write_span};
-pub use styles::date_in_both;
+pub use styles::{date_in_both, write_in_both};

@@ -12,7 +12,7 @@ ghost use Rattle.date_spans.specs.Spans.{cut_sides as cut_spec, is_dual as dual_
 ghost use Rattle.date_spans.specs.Spans.{marks as new_marks, marks_of as marks_spec, one_side as one_spec, said_by_sides as by_sides_spec};
 ghost use Rattle.date_spans.specs.Spans.{said_in as said_spec, stands as stands_spec, two_sides as two_spec, words_in as words_spec};
 
-use crate::cuts::{Cut, has_slash, is_open, sides, unmarked};
+use crate::cuts::{Cut, has_slash, has_slash_byte, is_open, sides, unmarked};
 use crate::ends::{if_held, set_ends, set_text};
 use crate::extents::Signs;
 use crate::items::{items_in, words_in};
@@ -150,11 +150,15 @@ fn said_of_whole(choice: &Choice, calendar: Calendar, names: &Names, text: &[u8]
     said_by(way, found.as_slice())
 }
 
-/// Whether the only slash of a text has a year before it and the year after that behind it.
-#[tactic(auto, unfolding(crate::specs::Spans::is_dual))]
+/// Whether the only slash of a text has a year before it and the year after that behind it. Most texts have none, which
+/// their bytes tell.
+#[tactic(auto, unfolding(crate::specs::Spans::is_dual), using(crate::proofs::CutLemmas::no_sides))]
 fn is_dual(choice: &Choice, calendar: Calendar, names: &Names, text: &[u8]) -> bool
     ensures { result ≡ dual_spec choice.now calendar names.now.listed.now text.now }
 {
+    if !has_slash_byte(text) {
+        return false;
+    }
     let Some((left, right)) = sides(Cut::Slash, text) else {
         return false;
     };

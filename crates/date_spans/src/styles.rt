@@ -1,17 +1,19 @@
 //! Days in two styles.
 
-ghost use Rattle.std.specs.Prelude.{◌≡◌, ◌↔◌, ◌≤◌, IsTrue, Some, length};
-ghost use Rattle.date_spans.specs.Styles.{IsOfBoth, IsOneDay, both_dates as both_spec, date_of as date_spec};
+ghost use Rattle.std.specs.Prelude.{◌≡◌, ◌↔◌, ◌≤◌, IsTrue, OnOk, Some, length};
+ghost use Rattle.date_spans.specs.Styles.{IsOfBoth, IsOneDay, IsWrittenInBoth, both_dates as both_spec};
+ghost use Rattle.date_spans.specs.Styles.{date_of as date_spec, written_by};
 ghost use Rattle.date_spans.specs.Styles.{of_items as items_spec, style_sides as sides_spec, two_dates as two_spec};
 
 use crate::cuts::{Cut, sides};
-use crate::ends::{Numbers, day_of, first_of, holds};
+use crate::ends::{Numbers, day_of, first_of, holds, set_date, set_text};
 use crate::extents::{Extent, extent_of};
 use crate::items::items_in;
 use crate::sayings::{RangeSigns, left_of};
 use crate::spans::one_side;
 use date_texts::Calendar;
 use day_numbers::Day;
+use std::alloc::AllocError;
 use written_dates::{Choice, Item, Names};
 
 /// The date of a day that is said, where it is so.
@@ -118,4 +120,32 @@ pub fn date_in_both(choice: &Choice, names: &Names, text: &[u8]) -> Option<Numbe
         Some((old, new)) => one_day(old, new),
         None => None,
     }
+}
+
+/// Makes a buffer this date, where there is one, and else the text.
+fn set_found(out: &mut Vec<u8>, text: &[u8], date: Option<Numbers>) -> Result<(), AllocError>
+    ensures { OnOk result (out.new.items ≡ written_by text.now date) }
+{
+    match date {
+        None => set_text(out, text),
+        Some(_) => set_date(out, date),
+    }
+}
+
+/// Makes a buffer what is written for a text in both styles: the Gregorian date of its day, as [`date_in_both`] finds
+/// it; the text itself where it finds none. What the buffer held is gone.
+///
+/// # Errors
+///
+/// `AllocError` where the buffer could not grow; then it may hold anything.
+pub fn write_in_both(
+    out: &mut Vec<u8>,
+    text: &[u8],
+    names: &Names,
+    choice: &Choice,
+) -> Result<(), AllocError>
+    ensures { OnOk result (IsWrittenInBoth choice.now names.now.listed.now text.now out.new.items) }
+{
+    let date = date_in_both(choice, names, text);
+    set_found(out, text, date)
 }

@@ -2,7 +2,7 @@
 
 mod table;
 
-use date_spans::{Kind, Marks, Numbers, date_in_both, write_span};
+use date_spans::{Kind, Marks, Numbers, date_in_both, write_in_both, write_span};
 use date_texts::{Calendar, calendar_named};
 use day_numbers::Weekday;
 use std::alloc::{AllocError, Global};
@@ -278,6 +278,26 @@ fn is_date(date: Option<Numbers>, numbers: &Option<(u32, u32, u32)>) -> bool {
     }
 }
 
+/// Whether a date with these numbers is written for a text, or the text.
+fn is_written(
+    alloc: Global,
+    choice: &Choice,
+    names: &Names,
+    text: &str,
+    numbers: &Option<(u32, u32, u32)>,
+) -> bool {
+    let mut out = Vec::new(alloc);
+    if write_in_both(&mut out, text.as_bytes(), names, choice).is_err() {
+        return false;
+    }
+    match numbers {
+        Some((year, month, day)) => format!(in alloc; "{year}-{month}-{day}").is_ok_and(
+            |date| out.as_slice() == date.as_bytes(),
+        ),
+        None => out.as_slice() == text.as_bytes(),
+    }
+}
+
 #[test]
 fn texts_have_both_styles(rt: HostRuntime) {
     let Ok(listed) = names_in(rt.alloc(), NAMES) else {
@@ -295,5 +315,9 @@ fn texts_have_both_styles(rt: HostRuntime) {
     for (text, numbers) in &BOTH {
         let date = date_in_both(&choice, &names, text.as_bytes());
         assert!(rt; is_date(date, numbers), "at {text:?}");
+        assert!(rt;
+            is_written(rt.alloc(), &choice, &names, text, numbers),
+            "at {text:?}"
+        );
     }
 }

@@ -5,553 +5,556 @@ mod first_half;
 /// The list of names.
 pub const BUILT_NAMES: &str = crate::with_first_half!(
     "\
-fünf und zwanzigsten,25,\nfünf und zwanzigster,25,\nsechsundzwanzigste,26,\nsechsundzwanzigsten,26,\nsechsundzwanzigs\
-ter,26,\nsechs und zwanzigste,26,\nsechs und zwanzigsten,26,\nsechs und zwanzigster,26,\nsiebenundzwanzigste,27,\nsiebe\
-nundzwanzigsten,27,\nsiebenundzwanzigster,27,\nsieben und zwanzigste,27,\nsieben und zwanzigsten,27,\nsieben und zwanzi\
-gster,27,\nachtundzwanzigste,28,\nachtundzwanzigsten,28,\nachtundzwanzigster,28,\nacht und zwanzigste,28,\nacht und zwa\
-nzigsten,28,\nacht und zwanzigster,28,\nneunundzwanzigste,29,\nneunundzwanzigsten,29,\nneunundzwanzigster,29,\nneun un\
-d zwanzigste,29,\nneun und zwanzigsten,29,\nneun und zwanzigster,29,\ndreißigste,30,\ndreißigsten,30,\ndreißigster,3\
-0,\ndreyßigste,30,\ndreyßigsten,30,\ndreyßigster,30,\neinunddreißigste,31,\neinunddreißigsten,31,\neinunddreißigs\
-ter,31,\neinunddreyßigste,31,\neinunddreyßigsten,31,\neinunddreyßigster,31,\nein und dreißigste,31,\nein und dreiß\
-igsten,31,\nein und dreißigster,31,\nein und dreyßigste,31,\nein und dreyßigsten,31,\nein und dreyßigster,31,\neinh\
-undert,100,\neinhundert und,100,\nein hundert,100,\nein hundert und,100,\nhundert,100,\nhundert und,100,\nzweihundert,2\
-00,\nzweihundert und,200,\nzwei hundert,200,\nzwei hundert und,200,\nzweyhundert,200,\nzweyhundert und,200,\nzwey hunde\
-rt,200,\nzwey hundert und,200,\ndreihundert,300,\ndreihundert und,300,\ndrei hundert,300,\ndrei hundert und,300,\ndreyh\
-undert,300,\ndreyhundert und,300,\ndrey hundert,300,\ndrey hundert und,300,\nvierhundert,400,\nvierhundert und,400,\nvi\
-er hundert,400,\nvier hundert und,400,\nfünfhundert,500,\nfünfhundert und,500,\nfünf hundert,500,\nfünf hundert und\
-,500,\nsechshundert,600,\nsechshundert und,600,\nsechs hundert,600,\nsechs hundert und,600,\nsiebenhundert,700,\nsieben\
-hundert und,700,\nsieben hundert,700,\nsieben hundert und,700,\nachthundert,800,\nachthundert und,800,\nacht hundert,80\
-0,\nacht hundert und,800,\nneunhundert,900,\nneunhundert und,900,\nneun hundert,900,\nneun hundert und,900,\nelfhundert\
-,1100,\nelfhundert und,1100,\nelf hundert,1100,\nelf hundert und,1100,\nzwölfhundert,1200,\nzwölfhundert und,1200,\nz\
-wölf hundert,1200,\nzwölf hundert und,1200,\ndreizehnhundert,1300,\ndreizehnhundert und,1300,\ndreizehn hundert,1300,\
-\ndreizehn hundert und,1300,\ndreyzehnhundert,1300,\ndreyzehnhundert und,1300,\ndreyzehn hundert,1300,\ndreyzehn hunder\
-t und,1300,\nvierzehnhundert,1400,\nvierzehnhundert und,1400,\nvierzehn hundert,1400,\nvierzehn hundert und,1400,\nfün\
-fzehnhundert,1500,\nfünfzehnhundert und,1500,\nfünfzehn hundert,1500,\nfünfzehn hundert und,1500,\nsechzehnhundert,1\
-600,\nsechzehnhundert und,1600,\nsechzehn hundert,1600,\nsechzehn hundert und,1600,\nsiebzehnhundert,1700,\nsiebzehnhun\
-dert und,1700,\nsiebzehn hundert,1700,\nsiebzehn hundert und,1700,\nachtzehnhundert,1800,\nachtzehnhundert und,1800,\na\
-chtzehn hundert,1800,\nachtzehn hundert und,1800,\nneunzehnhundert,1900,\nneunzehnhundert und,1900,\nneunzehn hundert,1\
-900,\nneunzehn hundert und,1900,\ntausend,1000,\ntausend und,1000,\neintausend,1000,\neintausend und,1000,\nein tausend\
-,1000,\nein tausend und,1000,\nzweitausend,2000,\nzweitausend und,2000,\nzwei tausend,2000,\nzwei tausend und,2000,\nMo\
-ntag,weekday 1,\nDienstag,weekday 2,\nMittwoch,weekday 3,\nDonnerstag,weekday 4,\nFreitag,weekday 5,\nSamstag,weekday 6\
-,\nSonnabend,weekday 6,\nSonntag,weekday 0,\nMo,weekday 1,\nDi,weekday 2,gregorian julian coptic ethiopic egyptian arme\
-nian islamic hebrew french republican\nMi,weekday 3,gregorian julian coptic ethiopic egyptian armenian islamic hebrew f\
-rench republican\nDo,weekday 4,\nFr,weekday 5,\nSa,weekday 6,\nSo,weekday 0,\nMonday,weekday 1,\nTuesday,weekday 2,\nWe\
-dnesday,weekday 3,\nThursday,weekday 4,\nFriday,weekday 5,\nSaturday,weekday 6,\nSunday,weekday 0,\nMon,weekday 1,\nTue\
-,weekday 2,\nTues,weekday 2,\nWed,weekday 3,\nThu,weekday 4,\nThur,weekday 4,\nThurs,weekday 4,\nFri,weekday 5,\nSat,we\
-ekday 6,\nSun,weekday 0,\nlundi,weekday 1,\nmardi,weekday 2,\nmercredi,weekday 3,\njeudi,weekday 4,\nvendredi,weekday 5\
-,\nsamedi,weekday 6,\ndimanche,weekday 0,\nlun,weekday 1,\nmer,weekday 3,\njeu,weekday 4,\nven,weekday 5,\nsam,weekday \
-6,\ndim,weekday 0,\nmaandag,weekday 1,\ndinsdag,weekday 2,\nwoensdag,weekday 3,\ndonderdag,weekday 4,\nvrijdag,weekday \
-5,\nzaterdag,weekday 6,\nzondag,weekday 0,\nma,weekday 1,\nwo,weekday 3,\nvr,weekday 5,\nza,weekday 6,\nzo,weekday 0,\n\
-lunedì,weekday 1,\nmartedì,weekday 2,\nmercoledì,weekday 3,\ngiovedì,weekday 4,\nvenerdì,weekday 5,\nsabato,weekda\
-y 6,\ndomenica,weekday 0,\nlunes,weekday 1,\nmartes,weekday 2,\nmiércoles,weekday 3,\njueves,weekday 4,\nviernes,weekd\
-ay 5,\nsábado,weekday 6,\ndomingo,weekday 0,\nponiedziałek,weekday 1,\nwtorek,weekday 2,\nśroda,weekday 3,\nczwartek\
-,weekday 4,\npiątek,weekday 5,\nsobota,weekday 6,\nniedziela,weekday 0,\npondělí,weekday 1,\núterý,weekday 2,\nst\
-ředa,weekday 3,\nčtvrtek,weekday 4,\npátek,weekday 5,\nneděle,weekday 0,\ndies Lunae,weekday 1,\ndies Martis,weekda\
-y 2,\ndies Mercurii,weekday 3,\ndies Iovis,weekday 4,\ndies Jovis,weekday 4,\ndies Veneris,weekday 5,\ndies Saturni,wee\
-kday 6,\ndies Sabbati,weekday 6,\ndies Dominica,weekday 0,\nsøndag,weekday 0,\nmandag,weekday 1,\ntirsdag,weekday 2,\n\
-onsdag,weekday 3,\ntorsdag,weekday 4,\nfredag,weekday 5,\nlørdag,weekday 6,\nsöndag,weekday 0,\nmåndag,weekday 1,\nt\
-isdag,weekday 2,\nlördag,weekday 6,\nsunnuntai,weekday 0,\nmaanantai,weekday 1,\ntiistai,weekday 2,\nkeskiviikko,weekd\
-ay 3,\ntorstai,weekday 4,\nperjantai,weekday 5,\nlauantai,weekday 6,\nvasárnap,weekday 0,\nhétfő,weekday 1,\nkedd,we\
-ekday 2,\nszerda,weekday 3,\ncsütörtök,weekday 4,\npéntek,weekday 5,\nszombat,weekday 6,\nsegunda-feira,weekday 1,\
-\nterça-feira,weekday 2,\nquarta-feira,weekday 3,\nquinta-feira,weekday 4,\nsexta-feira,weekday 5,\nвоскресен\
-ье,weekday 0,\nпонедельник,weekday 1,\nвторник,weekday 2,\nсреда,weekday 3,\nчетверг,we\
-ekday 4,\nпятница,weekday 5,\nсуббота,weekday 6,\nнеділя,weekday 0,\nпонеділок,weekday 1,\
-\nвівторок,weekday 2,\nсереда,weekday 3,\nчетвер,weekday 4,\nпʼятниця,weekday 5,\nсубо\
-та,weekday 6,\nΚυριακή,weekday 0,\nΔευτέρα,weekday 1,\nΤρίτη,weekday 2,\nΤετάρτη,weekday 3,\
-\nΠέμπτη,weekday 4,\nΠαρασκευή,weekday 5,\nΣάββατο,weekday 6,\nPazar,weekday 0,\nPazartesi,weekda\
-y 1,\nSalı,weekday 2,\nÇarşamba,weekday 3,\nPerşembe,weekday 4,\nCuma,weekday 5,\nCumartesi,weekday 6,\nSonntags,we\
-ekday 0,\nSontag,weekday 0,\ndies dominicus,weekday 0,\ndie Dominica,weekday 0,\ndie Dominico,weekday 0,\ndominico die,\
-weekday 0,\nMontags,weekday 1,\nMondtag,weekday 1,\ndie Lunae,weekday 1,\ndie Lune,weekday 1,\nDienstags,weekday 2,\nDi\
-nstag,weekday 2,\nDinstags,weekday 2,\nErchtag,weekday 2,\nErtag,weekday 2,\nZinstag,weekday 2,\nZistag,weekday 2,\ndi\
-e Martis,weekday 2,\nMittwochs,weekday 3,\nMitwoch,weekday 3,\nMittichen,weekday 3,\ndie Mercurii,weekday 3,\nDonnersta\
-gs,weekday 4,\nDornstag,weekday 4,\nPfinztag,weekday 4,\ndie Jovis,weekday 4,\ndie Iovis,weekday 4,\nFreitags,weekday 5\
-,\nFreytag,weekday 5,\nFreytags,weekday 5,\ndie Veneris,weekday 5,\nSamstags,weekday 6,\nSonnabends,weekday 6,\nSambsta\
-g,weekday 6,\ndie Sabbati,weekday 6,\ndie Saturni,weekday 6,\ndie Sabbato,weekday 6,\nSonnabent,weekday 6,\ndominica,we\
-ekday 0,\ndom,weekday 0,\nferia secunda,weekday 1,\nferia 2,weekday 1,\nferia tertia,weekday 2,\nferia tercia,weekday 2\
-,\nferia 3,weekday 2,\nferia quarta,weekday 3,\nferia 4,weekday 3,\nferia quinta,weekday 4,\nferia 5,weekday 4,\nferia \
-sexta,weekday 5,\nferia 6,weekday 5,\nsabbato,weekday 6,\nsabbatum,weekday 6,\nprimidi,decade 1,french republican\nduod\
-i,decade 2,french republican\ntridi,decade 3,french republican\nquartidi,decade 4,french republican\nquintidi,decade 5,\
-french republican\nsextidi,decade 6,french republican\nseptidi,decade 7,french republican\noctidi,decade 8,french repub\
-lican\nnonidi,decade 9,french republican\ndécadi,decade 10,french republican\ndecadi,decade 10,french republican\nday \
-after,morrow,gregorian julian\nTag nach,morrow,gregorian julian\nTags nach,morrow,gregorian julian\njour après,morrow,\
-gregorian julian\nlendemain de,morrow,gregorian julian\ndie post,morrow,gregorian julian\ndies post,morrow,gregorian ju\
-lian\nday before,eve,gregorian julian\nTag vor,eve,gregorian julian\nTags vor,eve,gregorian julian\njour avant,eve,greg\
-orian julian\ndie ante,eve,gregorian julian\ndies ante,eve,gregorian julian\nin profesto,eve,gregorian julian\nafter,af\
-ter,gregorian julian coptic ethiopic egyptian armenian islamic hebrew french republican\nnach,after,gregorian julian co\
-ptic ethiopic egyptian armenian islamic hebrew french republican\npost,after,gregorian julian coptic ethiopic egyptian \
-armenian islamic hebrew french republican\np,after,gregorian julian\naprès,after,gregorian julian coptic ethiopic egyp\
-tian armenian islamic hebrew french republican\nbefore,before,gregorian julian coptic ethiopic egyptian armenian islami\
-c hebrew french republican\nvor,before,gregorian julian coptic ethiopic egyptian armenian islamic hebrew french republi\
-can\nante,before,gregorian julian coptic ethiopic egyptian armenian islamic hebrew french republican\navant,before,greg\
-orian julian coptic ethiopic egyptian armenian islamic hebrew french republican\nbef,before,gregorian julian coptic eth\
-iopic egyptian armenian islamic hebrew french republican\nvoor,before,gregorian julian coptic ethiopic egyptian armenia\
-n islamic hebrew french republican\nprima di,before,gregorian julian coptic ethiopic egyptian armenian islamic hebrew f\
-rench republican\nantes de,before,gregorian julian coptic ethiopic egyptian armenian islamic hebrew french republican\n\
-przed,before,gregorian julian coptic ethiopic egyptian armenian islamic hebrew french republican\npřed,before,gregoria\
-n julian coptic ethiopic egyptian armenian islamic hebrew french republican\naft,after,gregorian julian coptic ethiopi\
-c egyptian armenian islamic hebrew french republican\nna,after,gregorian julian coptic ethiopic egyptian armenian islam\
-ic hebrew french republican\ndopo,after,gregorian julian coptic ethiopic egyptian armenian islamic hebrew french republ\
-ican\ndespués de,after,gregorian julian coptic ethiopic egyptian armenian islamic hebrew french republican\npo,after,g\
-regorian julian coptic ethiopic egyptian armenian islamic hebrew french republican\nca,about,gregorian julian coptic et\
-hiopic egyptian armenian islamic hebrew french republican\ncirca,about,gregorian julian coptic ethiopic egyptian armeni\
-an islamic hebrew french republican\num,about,gregorian julian coptic ethiopic egyptian armenian islamic hebrew french \
-republican\ngegen,about,gregorian julian coptic ethiopic egyptian armenian islamic hebrew french republican\netwa,about\
-,gregorian julian coptic ethiopic egyptian armenian islamic hebrew french republican\nabout,about,gregorian julian copt\
-ic ethiopic egyptian armenian islamic hebrew french republican\nabt,about,gregorian julian coptic ethiopic egyptian arm\
-enian islamic hebrew french republican\nest,about,gregorian julian coptic ethiopic egyptian armenian islamic hebrew fre\
-nch republican\ncal,about,gregorian julian coptic ethiopic egyptian armenian islamic hebrew french republican\nvers,abo\
-ut,gregorian julian coptic ethiopic egyptian armenian islamic hebrew french republican\nenviron,about,gregorian julian \
-coptic ethiopic egyptian armenian islamic hebrew french republican\nomstreeks,about,gregorian julian coptic ethiopic eg\
-yptian armenian islamic hebrew french republican\nongeveer,about,gregorian julian coptic ethiopic egyptian armenian isl\
-amic hebrew french republican\nverso,about,gregorian julian coptic ethiopic egyptian armenian islamic hebrew french rep\
-ublican\nhacia,about,gregorian julian coptic ethiopic egyptian armenian islamic hebrew french republican\nokoło,about,\
-gregorian julian coptic ethiopic egyptian armenian islamic hebrew french republican\nkolem,about,gregorian julian copti\
-c ethiopic egyptian armenian islamic hebrew french republican\nasi,about,gregorian julian coptic ethiopic egyptian arme\
-nian islamic hebrew french republican\ncirciter,about,gregorian julian coptic ethiopic egyptian armenian islamic hebre\
-w french republican\nseit,from,gregorian julian coptic ethiopic egyptian armenian islamic hebrew french republican\nab,\
-from,gregorian julian coptic ethiopic egyptian armenian islamic french republican\nfrom,from,gregorian julian coptic et\
-hiopic egyptian armenian islamic hebrew french republican\nsince,from,gregorian julian coptic ethiopic egyptian armenia\
-n islamic hebrew french republican\ndepuis,from,gregorian julian coptic ethiopic egyptian armenian islamic hebrew frenc\
-h republican\nà partir de,from,gregorian julian coptic ethiopic egyptian armenian islamic hebrew french republican\nva\
-naf,from,gregorian julian coptic ethiopic egyptian armenian islamic hebrew french republican\nsinds,from,gregorian juli\
-an coptic ethiopic egyptian armenian islamic hebrew french republican\ndal,from,gregorian julian coptic ethiopic egypti\
-an armenian islamic hebrew french republican\ndesde,from,gregorian julian coptic ethiopic egyptian armenian islamic heb\
-rew french republican\nod,from,gregorian julian coptic ethiopic egyptian armenian islamic hebrew french republican\nnot\
-Before,from,gregorian julian coptic ethiopic egyptian armenian islamic hebrew french republican\nnicht vor,from,gregori\
-an julian coptic ethiopic egyptian armenian islamic hebrew french republican\nnot before,from,gregorian julian coptic e\
-thiopic egyptian armenian islamic hebrew french republican\nbis,to,gregorian julian coptic ethiopic egyptian armenian i\
-slamic hebrew french republican\nto,to,gregorian julian coptic ethiopic egyptian armenian islamic hebrew french republi\
-can\nuntil,to,gregorian julian coptic ethiopic egyptian armenian islamic hebrew french republican\ntill,to,gregorian ju\
-lian coptic ethiopic egyptian armenian islamic hebrew french republican\njusqu'à,to,gregorian julian coptic ethiopic e\
-gyptian armenian islamic hebrew french republican\njusqu’à,to,gregorian julian coptic ethiopic egyptian armenian isl\
-amic hebrew french republican\nau,to,gregorian julian coptic ethiopic egyptian armenian islamic hebrew french republica\
-n\nà,to,gregorian julian coptic ethiopic egyptian armenian islamic hebrew french republican\ntot,to,gregorian julian c\
-optic ethiopic egyptian armenian islamic hebrew french republican\ntot en met,to,gregorian julian coptic ethiopic egypt\
-ian armenian islamic hebrew french republican\nfino a,to,gregorian julian coptic ethiopic egyptian armenian islamic heb\
-rew french republican\nal,to,gregorian julian coptic ethiopic egyptian armenian islamic hebrew french republican\nhasta\
-,to,gregorian julian coptic ethiopic egyptian armenian islamic hebrew french republican\nusque ad,to,gregorian julian c\
-optic ethiopic egyptian armenian islamic hebrew french republican\nnotAfter,to,gregorian julian coptic ethiopic egyptia\
-n armenian islamic hebrew french republican\nnicht nach,to,gregorian julian coptic ethiopic egyptian armenian islamic h\
-ebrew french republican\nnot after,to,gregorian julian coptic ethiopic egyptian armenian islamic hebrew french republic\
-an\nzwischen,between,gregorian julian coptic ethiopic egyptian armenian islamic hebrew french republican\nzw,between,gr\
-egorian julian coptic ethiopic egyptian armenian islamic hebrew french republican\nbetween,between,gregorian julian cop\
-tic ethiopic egyptian armenian islamic hebrew french republican\nbet,between,gregorian julian coptic ethiopic egyptian \
-armenian islamic hebrew french republican\nentre,between,gregorian julian coptic ethiopic egyptian armenian islamic heb\
-rew french republican\ntussen,between,gregorian julian coptic ethiopic egyptian armenian islamic hebrew french republic\
-an\ntra,between,gregorian julian coptic ethiopic egyptian armenian islamic hebrew french republican\nfra,between,gregor\
-ian julian coptic ethiopic egyptian armenian islamic hebrew french republican\nmiędzy,between,gregorian julian coptic \
-ethiopic egyptian armenian islamic hebrew french republican\nmezi,between,gregorian julian coptic ethiopic egyptian arm\
-enian islamic hebrew french republican\ninter,between,gregorian julian coptic ethiopic egyptian armenian islamic hebre\
-w french republican\nund,and,gregorian julian coptic ethiopic egyptian armenian islamic hebrew french republican\nu,and\
-,gregorian julian coptic ethiopic egyptian armenian islamic hebrew french republican\nand,and,gregorian julian coptic e\
-thiopic egyptian armenian islamic hebrew french republican\net,and,gregorian julian coptic ethiopic egyptian armenian i\
-slamic hebrew french republican\ned,and,gregorian julian coptic ethiopic egyptian armenian islamic hebrew french republ\
-ican\ny,and,gregorian julian coptic ethiopic egyptian armenian islamic hebrew french republican\noraz,and,gregorian jul\
-ian coptic ethiopic egyptian armenian islamic hebrew french republican\nAdar,month 12-13,hebrew\neve of,eve,gregorian j\
-ulian\nvigilia,eve,gregorian julian\nin vigilia,eve,gregorian julian\nVigil,eve,gregorian julian\nVorabend,eve,gregoria\
-n julian\nprofesto,eve,gregorian julian\nveille de,eve,gregorian julian\noctava,octave,gregorian julian\nin octava,octa\
-ve,gregorian julian\nOktav,octave,gregorian julian\noctave of,octave,gregorian julian\nin crastino,morrow,gregorian jul\
-ian\ncrastino,morrow,gregorian julian\nmorrow of,morrow,gregorian julian\nOstern,easter 0,gregorian julian\nOstersonnta\
-g,easter 0,gregorian julian\nOstertag,easter 0,gregorian julian\nPascha,easter 0,gregorian julian\nPaschae,easter 0,gre\
-gorian julian\nPasche,easter 0,gregorian julian\nResurrectionis Domini,easter 0,gregorian julian\nEaster,easter 0,grego\
-rian julian\nEaster Day,easter 0,gregorian julian\nEaster Sunday,easter 0,gregorian julian\nPâques,easter 0,gregorian \
-julian\nOstermontag,easter 1,gregorian julian\nEaster Monday,easter 1,gregorian julian\nlundi de Pâques,easter 1,grego\
-rian julian\nOsterdienstag,easter 2,gregorian julian\nEaster Tuesday,easter 2,gregorian julian\nSeptuagesima,easter -63\
-,gregorian julian\nSeptuagesimae,easter -63,gregorian julian\nSeptuagésime,easter -63,gregorian julian\nCircumdederunt\
-,easter -63,gregorian julian\nSexagesima,easter -56,gregorian julian\nSexagesimae,easter -56,gregorian julian\nExsurge,\
-easter -56,gregorian julian\nExurge,easter -56,gregorian julian\nQuinquagesima,easter -49,gregorian julian\nQuinquagesi\
-mae,easter -49,gregorian julian\nEstomihi,easter -49,gregorian julian\nEsto mihi,easter -49,gregorian julian\nHerrenfas\
-tnacht,easter -49,gregorian julian\nFastnachtsdienstag,easter -47,gregorian julian\nShrove Tuesday,easter -47,gregoria\
-n julian\nMardi gras,easter -47,gregorian julian\nAschermittwoch,easter -46,gregorian julian\ndies Cinerum,easter -46,g\
-regorian julian\nCinerum,easter -46,gregorian julian\nAsh Wednesday,easter -46,gregorian julian\nmercredi des Cendres,e\
-aster -46,gregorian julian\nInvocavit,easter -42,gregorian julian\nInvocabit,easter -42,gregorian julian\nQuadragesima,\
-easter -42,gregorian julian\nReminiscere,easter -35,gregorian julian\nOculi,easter -28,gregorian julian\nLaetare,easte\
-r -21,gregorian julian\nLetare,easter -21,gregorian julian\nLätare,easter -21,gregorian julian\nJudica,easter -14,greg\
-orian julian\nIudica,easter -14,gregorian julian\nPalmarum,easter -7,gregorian julian\nPalmsonntag,easter -7,gregorian \
-julian\nPalm Sunday,easter -7,gregorian julian\ndimanche des Rameaux,easter -7,gregorian julian\nRameaux,easter -7,greg\
-orian julian\nGründonnerstag,easter -3,gregorian julian\nCoena Domini,easter -3,gregorian julian\nCoenae Domini,easte\
-r -3,gregorian julian\nCene Domini,easter -3,gregorian julian\nMaundy Thursday,easter -3,gregorian julian\nJeudi saint,\
-easter -3,gregorian julian\nKarfreitag,easter -2,gregorian julian\nCharfreitag,easter -2,gregorian julian\nParasceve,ea\
-ster -2,gregorian julian\nGood Friday,easter -2,gregorian julian\nVendredi saint,easter -2,gregorian julian\nKarsamstag\
-,easter -1,gregorian julian\nSabbatum sanctum,easter -1,gregorian julian\nQuasimodogeniti,easter 7,gregorian julian\nQu\
-asi modo geniti,easter 7,gregorian julian\nQuasimodo,easter 7,gregorian julian\nLow Sunday,easter 7,gregorian julian\nM\
-isericordias Domini,easter 14,gregorian julian\nMisericordia Domini,easter 14,gregorian julian\nJubilate,easter 21,greg\
-orian julian\nIubilate,easter 21,gregorian julian\nCantate,easter 28,gregorian julian\nKantate,easter 28,gregorian juli\
-an\nRogate,easter 35,gregorian julian\nVocem jucunditatis,easter 35,gregorian julian\nRogation Sunday,easter 35,gregori\
-an julian\nHimmelfahrt,easter 39,gregorian julian\nChristi Himmelfahrt,easter 39,gregorian julian\nAuffahrt,easter 39,g\
-regorian julian\nAscensionis Domini,easter 39,gregorian julian\nAscensionis,easter 39,gregorian julian\nAscension Day,e\
-aster 39,gregorian julian\nAscension,easter 39,gregorian julian\nExaudi,easter 42,gregorian julian\nPfingsten,easter 49\
-,gregorian julian\nPfingstsonntag,easter 49,gregorian julian\nPentecostes,easter 49,gregorian julian\nPentecoste,easte\
-r 49,gregorian julian\nPentecost,easter 49,gregorian julian\nWhitsunday,easter 49,gregorian julian\nWhit Sunday,easter \
-49,gregorian julian\nPentecôte,easter 49,gregorian julian\nPfingstmontag,easter 50,gregorian julian\nWhit Monday,easte\
-r 50,gregorian julian\nTrinitatis,easter 56,gregorian julian\nTrin,easter 56,gregorian julian\nTrinity Sunday,easter 56\
-,gregorian julian\nTrinity,easter 56,gregorian julian\nTrinité,easter 56,gregorian julian\nFronleichnam,easter 60,greg\
-orian julian\nCorporis Christi,easter 60,gregorian julian\nCorpus Christi,easter 60,gregorian julian\nFête-Dieu,easte\
-r 60,gregorian julian\nAdvent,sundays advent,gregorian julian\nAdventus,sundays advent,gregorian julian\nAdventus Domin\
-i,sundays advent,gregorian julian\nAdv,sundays advent,gregorian julian\nAdventssonntag,sundays advent,gregorian julian\
-\nSunday in Advent,sundays advent,gregorian julian\ndimanche de l'Avent,sundays advent,gregorian julian\nFastensonntag,\
-sundays lent,gregorian julian\nQuadragesimae,sundays lent,gregorian julian\nSunday in Lent,sundays lent,gregorian julia\
-n\nAd te levavi,sunday advent 1,gregorian julian\nPopulus Sion,sunday advent 2,gregorian julian\nGaudete,sunday advent \
-3,gregorian julian\nRorate,sunday advent 4,gregorian julian\nAdvent Sunday,sunday advent 1,gregorian julian\nNeujahr,fe\
-ast 1-1,gregorian julian\nCircumcisionis Domini,feast 1-1,gregorian julian\nCircumcisionis,feast 1-1,gregorian julian\n\
-Epiphaniae,feast 1-6,gregorian julian\nEpiphanie,feast 1-6,gregorian julian\nEpiphanias,feast 1-6,gregorian julian\nEpi\
-ph,feast 1-6,gregorian julian\nEpiphany,feast 1-6,gregorian julian\nTrium Regum,feast 1-6,gregorian julian\nDreikönig,\
-feast 1-6,gregorian julian\nHeilige Drei Könige,feast 1-6,gregorian julian\nFabiani et Sebastiani,feast 1-20,gregoria\
-n julian\nAgnetis,feast 1-21,gregorian julian\nVincentii,feast 1-22,gregorian julian\nConversionis Pauli,feast 1-25,gre\
-gorian julian\nPauli Bekehrung,feast 1-25,gregorian julian\nLichtmess,feast 2-2,gregorian julian\nMariä Lichtmess,feas\
-t 2-2,gregorian julian\nPurificationis Mariae,feast 2-2,gregorian julian\nPurificationis,feast 2-2,gregorian julian\nCa\
-ndlemas,feast 2-2,gregorian julian\nChandeleur,feast 2-2,gregorian julian\nBlasii,feast 2-3,gregorian julian\nAgathae,f\
-east 2-5,gregorian julian\nValentini,feast 2-14,gregorian julian\nCathedra Petri,feast 2-22,gregorian julian\nPetri Stu\
-hlfeier,feast 2-22,gregorian julian\nMatthiae,feast 3-1 -5,gregorian julian\nMathie,feast 3-1 -5,gregorian julian\nGert\
-rudis,feast 3-17,gregorian julian\nBenedicti,feast 3-21,gregorian julian\nAnnunciationis Mariae,feast 3-25,gregorian ju\
-lian\nAnnuntiationis Mariae,feast 3-25,gregorian julian\nMariä Verkündigung,feast 3-25,gregorian julian\nLady Day,fea\
-st 3-25,gregorian julian\nAnnonciation,feast 3-25,gregorian julian\nTiburtii et Valeriani,feast 4-14,gregorian julian\n\
-Marci,feast 4-25,gregorian julian\nPhilippi et Jacobi,feast 5-1,gregorian julian\nWalpurgis,feast 5-1,gregorian julian\
-\nWalburgis,feast 5-1,gregorian julian\nInventionis crucis,feast 5-3,gregorian julian\nKreuzauffindung,feast 5-3,gregor\
-ian julian\nUrbani,feast 5-25,gregorian julian\nViti,feast 6-15,gregorian julian\nJohannistag,feast 6-24,gregorian juli\
-an\nJohannis Baptistae,feast 6-24,gregorian julian\nJohannis Baptiste,feast 6-24,gregorian julian\nNativitatis Johanni\
-s Baptistae,feast 6-24,gregorian julian\nMidsummer Day,feast 6-24,gregorian julian\nla Saint-Jean,feast 6-24,gregorian \
-julian\nJohannis et Pauli,feast 6-26,gregorian julian\nPetri et Pauli,feast 6-29,gregorian julian\nPeter und Paul,feas\
-t 6-29,gregorian julian\nVisitationis Mariae,feast 7-2,gregorian julian\nMariä Heimsuchung,feast 7-2,gregorian julian\
-\nKiliani,feast 7-8,gregorian julian\nDivisionis apostolorum,feast 7-15,gregorian julian\nMariae Magdalenae,feast 7-22,\
-gregorian julian\nMarie Magdalene,feast 7-22,gregorian julian\nJacobi,feast 7-25,gregorian julian\nJakobi,feast 7-25,gr\
-egorian julian\nAnnae,feast 7-26,gregorian julian\nPetri ad vincula,feast 8-1,gregorian julian\nPetri Kettenfeier,feas\
-t 8-1,gregorian julian\nLammas,feast 8-1,gregorian julian\nLaurentii,feast 8-10,gregorian julian\nAssumptionis Mariae,f\
-east 8-15,gregorian julian\nMariä Himmelfahrt,feast 8-15,gregorian julian\nAssomption,feast 8-15,gregorian julian\nBar\
-tholomaei,feast 8-24,gregorian julian\nBartholomäi,feast 8-24,gregorian julian\nBartholomei,feast 8-24,gregorian julia\
-n\nDecollationis Johannis,feast 8-29,gregorian julian\nAegidii,feast 9-1,gregorian julian\nEgidii,feast 9-1,gregorian j\
-ulian\nNativitatis Mariae,feast 9-8,gregorian julian\nMariä Geburt,feast 9-8,gregorian julian\nExaltationis crucis,fea\
-st 9-14,gregorian julian\nKreuzerhöhung,feast 9-14,gregorian julian\nHoly Cross Day,feast 9-14,gregorian julian\nLambe\
-rti,feast 9-17,gregorian julian\nMatthaei,feast 9-21,gregorian julian\nMatthäi,feast 9-21,gregorian julian\nMauritii,f\
-east 9-22,gregorian julian\nMichaelis,feast 9-29,gregorian julian\nMichael,feast 9-29,gregorian julian\nMichaelmas,feas\
-t 9-29,gregorian julian\nSaint-Michel,feast 9-29,gregorian julian\nRemigii,feast 10-1,gregorian julian\nFrancisci,feas\
-t 10-4,gregorian julian\nDionysii,feast 10-9,gregorian julian\nGalli,feast 10-16,gregorian julian\nLucae,feast 10-18,gr\
-egorian julian\nUndecim milium virginum,feast 10-21,gregorian julian\nCrispini et Crispiniani,feast 10-25,gregorian jul\
-ian\nSimonis et Judae,feast 10-28,gregorian julian\nSimonis et Jude,feast 10-28,gregorian julian\nAllerheiligen,feast 1\
-1-1,gregorian julian\nOmnium Sanctorum,feast 11-1,gregorian julian\nAll Saints,feast 11-1,gregorian julian\nToussaint,f\
-east 11-1,gregorian julian\nAllerseelen,feast 11-2,gregorian julian\nAnimarum,feast 11-2,gregorian julian\nAll Souls,fe\
-ast 11-2,gregorian julian\nLeonhardi,feast 11-6,gregorian julian\nMartini,feast 11-11,gregorian julian\nMartinmas,feas\
-t 11-11,gregorian julian\nSaint-Martin,feast 11-11,gregorian julian\nElisabethae,feast 11-19,gregorian julian\nPraesent\
-ationis Mariae,feast 11-21,gregorian julian\nCaeciliae,feast 11-22,gregorian julian\nClementis,feast 11-23,gregorian ju\
-lian\nCatharinae,feast 11-25,gregorian julian\nKatharinae,feast 11-25,gregorian julian\nKatherine,feast 11-25,gregoria\
-n julian\nAndreae,feast 11-30,gregorian julian\nAndree,feast 11-30,gregorian julian\nBarbarae,feast 12-4,gregorian juli\
-an\nNicolai,feast 12-6,gregorian julian\nNikolai,feast 12-6,gregorian julian\nConceptionis Mariae,feast 12-8,gregorian \
-julian\nMariä Empfängnis,feast 12-8,gregorian julian\nLuciae,feast 12-13,gregorian julian\nLucie,feast 12-13,gregoria\
-n julian\nThomae,feast 12-21,gregorian julian\nThome,feast 12-21,gregorian julian\nHeiligabend,feast 12-24,gregorian ju\
-lian\nWeihnachten,feast 12-25,gregorian julian\nNativitatis Domini,feast 12-25,gregorian julian\nNativitatis Christi,fe\
-ast 12-25,gregorian julian\nNativitatis,feast 12-25,gregorian julian\nChristmas,feast 12-25,gregorian julian\nChristma\
-s Day,feast 12-25,gregorian julian\nNoël,feast 12-25,gregorian julian\nStephani,feast 12-26,gregorian julian\nJohanni\
-s Evangelistae,feast 12-27,gregorian julian\nInnocentum,feast 12-28,gregorian julian\nUnschuldige Kinder,feast 12-28,gr\
-egorian julian\nSilvestri,feast 12-31,gregorian julian\nSilvester,feast 12-31,gregorian julian\nPurificationis Mariae v\
-irginis,feast 2-2,gregorian julian\nPurificationis Marie virginis,feast 2-2,gregorian julian\nPurificationis Marie,feas\
-t 2-2,gregorian julian\nPurificationis beatae Mariae,feast 2-2,gregorian julian\nPurificationis beate Marie,feast 2-2,g\
-regorian julian\nPurificationis beatae Mariae virginis,feast 2-2,gregorian julian\nPurificationis beate Marie virginis,\
-feast 2-2,gregorian julian\nPurificationis B M V,feast 2-2,gregorian julian\nAnnunciationis Mariae virginis,feast 3-25,\
-gregorian julian\nAnnunciationis Marie virginis,feast 3-25,gregorian julian\nAnnunciationis Marie,feast 3-25,gregorian \
-julian\nAnnunciationis beatae Mariae,feast 3-25,gregorian julian\nAnnunciationis beate Marie,feast 3-25,gregorian julia\
-n\nAnnunciationis beatae Mariae virginis,feast 3-25,gregorian julian\nAnnunciationis beate Marie virginis,feast 3-25,gr\
-egorian julian\nAnnunciationis B M V,feast 3-25,gregorian julian\nAnnuntiationis Mariae virginis,feast 3-25,gregorian j\
-ulian\nAnnuntiationis Marie virginis,feast 3-25,gregorian julian\nAnnuntiationis Marie,feast 3-25,gregorian julian\nAnn\
-untiationis beatae Mariae,feast 3-25,gregorian julian\nAnnuntiationis beate Marie,feast 3-25,gregorian julian\nAnnuntia\
-tionis beatae Mariae virginis,feast 3-25,gregorian julian\nAnnuntiationis beate Marie virginis,feast 3-25,gregorian jul\
-ian\nAnnuntiationis B M V,feast 3-25,gregorian julian\nVisitationis Mariae virginis,feast 7-2,gregorian julian\nVisitat\
-ionis Marie virginis,feast 7-2,gregorian julian\nVisitationis Marie,feast 7-2,gregorian julian\nVisitationis beatae Mar\
-iae,feast 7-2,gregorian julian\nVisitationis beate Marie,feast 7-2,gregorian julian\nVisitationis beatae Mariae virgini\
-s,feast 7-2,gregorian julian\nVisitationis beate Marie virginis,feast 7-2,gregorian julian\nVisitationis B M V,feast 7-\
-2,gregorian julian\nAssumptionis Mariae virginis,feast 8-15,gregorian julian\nAssumptionis Marie virginis,feast 8-15,gr\
-egorian julian\nAssumptionis Marie,feast 8-15,gregorian julian\nAssumptionis beatae Mariae,feast 8-15,gregorian julian\
-\nAssumptionis beate Marie,feast 8-15,gregorian julian\nAssumptionis beatae Mariae virginis,feast 8-15,gregorian julian\
-\nAssumptionis beate Marie virginis,feast 8-15,gregorian julian\nAssumptionis B M V,feast 8-15,gregorian julian\nNativi\
-tatis Mariae virginis,feast 9-8,gregorian julian\nNativitatis Marie virginis,feast 9-8,gregorian julian\nNativitatis Ma\
-rie,feast 9-8,gregorian julian\nNativitatis beatae Mariae,feast 9-8,gregorian julian\nNativitatis beate Marie,feast 9-8\
-,gregorian julian\nNativitatis beatae Mariae virginis,feast 9-8,gregorian julian\nNativitatis beate Marie virginis,feas\
-t 9-8,gregorian julian\nNativitatis B M V,feast 9-8,gregorian julian\nConceptionis Mariae virginis,feast 12-8,gregoria\
-n julian\nConceptionis Marie virginis,feast 12-8,gregorian julian\nConceptionis Marie,feast 12-8,gregorian julian\nConc\
-eptionis beatae Mariae,feast 12-8,gregorian julian\nConceptionis beate Marie,feast 12-8,gregorian julian\nConceptionis \
-beatae Mariae virginis,feast 12-8,gregorian julian\nConceptionis beate Marie virginis,feast 12-8,gregorian julian\nConc\
-eptionis B M V,feast 12-8,gregorian julian\nÉpiphanie,feast 1-6,gregorian julian\nTheophaniae,feast 1-6,gregorian juli\
-an\nEpiphaniae Domini,feast 1-6,gregorian julian\nEpiphanie Domini,feast 1-6,gregorian julian\nThomae martyris,feast 12\
--29,gregorian julian\nThome martyris,feast 12-29,gregorian julian\nStephani protomartyris,feast 12-26,gregorian julian\
-\nMichaelistag,feast 9-29,gregorian julian\nMartinstag,feast 11-11,gregorian julian\nMartinitag,feast 11-11,gregorian j\
-ulian\nWeihnachtstag,feast 12-25,gregorian julian\nChristtag,feast 12-25,gregorian julian\nPaschatis,easter 0,gregoria\
-n julian\nPaschatos,easter 0,gregorian julian\nPfingsttag,easter 49,gregorian julian\nHimmelfahrtstag,easter 39,gregori\
-an julian\nFronleichnamstag,easter 60,gregorian julian\nChristmas Eve,feast 12-24,gregorian julian\nNew Year's Day,feas\
-t 1-1,gregorian julian\nNew Year’s Day,feast 1-1,gregorian julian\nNeujahrstag,feast 1-1,gregorian julian\nInnocentiu\
-m,feast 12-28,gregorian julian\ninfra octavam,after,gregorian julian\nEpiphaniam,feast 1-6,gregorian julian\nEpiphania \
-Domini,feast 1-6,gregorian julian\nNativitas Domini,feast 12-25,gregorian julian\nCircumcisio Domini,feast 1-1,gregoria\
-n julian\nferia secunda Paschae,easter 1,gregorian julian\nferia tertia Paschae,easter 2,gregorian julian\nAscensio Dom\
-ini,easter 39,gregorian julian\nferia secunda Pentecostes,easter 50,gregorian julian\nferia tertia Pentecostes,easter 5\
-1,gregorian julian\nConversio Pauli,feast 1-25,gregorian julian\nPurificatio Mariae,feast 2-2,gregorian julian\nAnnunti\
-atio Mariae,feast 3-25,gregorian julian\nInventio crucis,feast 5-3,gregorian julian\nNativitas Johannis Baptistae,feas\
-t 6-24,gregorian julian\nVisitatio Mariae,feast 7-2,gregorian julian\nDivisio apostolorum,feast 7-15,gregorian julian\n\
-Assumptio Mariae,feast 8-15,gregorian julian\nDecollatio Johannis,feast 8-29,gregorian julian\nNativitas Mariae,feast 9\
--8,gregorian julian\nExaltatio crucis,feast 9-14,gregorian julian\nPraesentatio Mariae,feast 11-21,gregorian julian\nCo\
-nceptio Mariae,feast 12-8,gregorian julian\nante,,roman\nante diem,,roman\na,,roman\nden,,\nder,,\ndes,,\ndem,,\nam,,\n\
-vom,,\nim,,\nin,,\nanno,year,\nanno domini,year,\nao,year,\nAD,year,\nA D,year,\nthe,,\nof,,\non,,\nday,day,\nle,,\nla,\
-,\ndu,,\nde,,\nl'an,year,\nl’an,year,\nan,year,\nannée,year,\nl'année,year,\nl’année,year,\nen,,\nil,,\ndel,,\nd\
-ell'anno,year,\ndell’anno,year,\nel,,\ndía,day,\ndel año,year,\naño,year,\ndnia,day,\nroku,year,\nr,year,\ndne,day\
-,\ndie,day,\nde dato,,\nvan,,\nhet,,\ner,,\nère,,\nere,,\nème,,\neme,,\nre,,\nst,,\nnd,,\nrd,,\nth,,\nte,,\nter,,greg\
-orian julian hebrew islamic french republican\nsten,,\nste,,\ntes,,\nens,,\nº,,\nª,,\no,,\ne,,\nster,,\nyear,year,\ny\
-ear of our Lord,year,\nof our Lord,year,\nour Lord,year,\nJahr,year,\nJahre,year,\nJahres,year,\nnach Christi Geburt,ye\
-ar,\nn Chr,year,\nanno Dni,year,\nanno salutis,year,\nanni,year,\nannus,year,\nAo Dni,year,\nA°,year,\nAº,year,\njaar\
-,year,\njaer,year,\ndo ano,year,\nano,year,\nannée de grâce,year,\nl'an de grâce,year,\nl’an de grâce,year,\nl'a\
-n de grace,year,\nl’an de grace,year,\nгода,year,\nгоду,year,\nгодъ,year,\nгода от Рождеств\
-а Христова,year,\nг,year,\nлета,year,\når,year,\naar,year,\nár,year,\nAnno Christi,year,\nnell'anno,yea\
-r,\nnell’anno,year,\nго,,\nого,,\nye,,\njour de,day,\nдня,day,\nчисла,day,\ndag,day,\nTag des,day,\ndì,\
-day,\na dì,day,\nadì,day,\naddì,day,\nde la République,,french republican\nde la Republique,,french republican\nde \
-la République française,,french republican\nde la République francaise,,french republican\nde la République franço\
-ise,,french republican\nde la Republique francaise,,french republican\nde la Republique françoise,,french republican\n\
-de la Republique francoise,,french republican\nde la République une et indivisible,,french republican\nde la Républiq\
-ue française une et indivisible,,french republican\nder Republik,,french republican\nder fränkischen Republik,,frenc\
-h republican\nder französischen Republik,,french republican\nder fränk. Republik,,french republican\nder frz. Republi\
-k,,french republican\nrépublicain,,french republican\nrépublicaine,,french republican\nde l'ère républicaine,,frenc\
-h republican\nde l’ère républicaine,,french republican\nfestum,,gregorian julian\nfesti,,gregorian julian\nfest,,gr\
-egorian julian\nfeast of,,gregorian julian\nfête de,,gregorian julian\ndivi,,gregorian julian\ndivae,,gregorian julian\
-\nbeate,,gregorian julian\nsancte,,gregorian julian\nfesto,,gregorian julian\nin festo,,gregorian julian\nin die,day,gr\
-egorian julian\nS,,gregorian julian\nSankt,,gregorian julian\nsancti,,gregorian julian\nsanctae,,gregorian julian\nbeat\
-i,,gregorian julian\nbeatae,,gregorian julian\napostoli,,gregorian julian\napostolorum,,gregorian julian\nevangelistae,\
-,gregorian julian\narchangeli,,gregorian julian\nten jare,year,\nJan y,month 1,gregorian julian\nJan ry,month 1,gregori\
-an julian\nFeb y,month 2,gregorian julian\nFeb ry,month 2,gregorian julian\nMch,month 3,gregorian julian\nAp'l,month 4,\
-gregorian julian\nAp’l,month 4,gregorian julian\nAp l,month 4,gregorian julian\nAug't,month 8,gregorian julian\nAug\
-’t,month 8,gregorian julian\nAug t,month 8,gregorian julian\nSept'r,month 9,gregorian julian\nSept’r,month 9,gregor\
-ian julian\nSept r,month 9,gregorian julian\nSep'r,month 9,gregorian julian\nSep’r,month 9,gregorian julian\nSep r,mo\
-nth 9,gregorian julian\nOct'r,month 10,gregorian julian\nOct’r,month 10,gregorian julian\nOct r,month 10,gregorian ju\
-lian\nNov'r,month 11,gregorian julian\nNov’r,month 11,gregorian julian\nNov r,month 11,gregorian julian\nDec'r,month \
-12,gregorian julian\nDec’r,month 12,gregorian julian\nDec r,month 12,gregorian julian\nJanuarie,month 1,gregorian jul\
-ian\nJanuarye,month 1,gregorian julian\nFebruarie,month 2,gregorian julian\nFebruarye,month 2,gregorian julian\nMarche,\
-month 3,gregorian julian\nAprill,month 4,gregorian julian\nMaye,month 5,gregorian julian\nMaie,month 5,gregorian julian\
-\nIune,month 6,gregorian julian\nIuly,month 7,gregorian julian\nIulie,month 7,gregorian julian\nJulie,month 7,gregoria\
-n julian\nJulye,month 7,gregorian julian\nAuguste,month 8,gregorian julian\nSeptemb,month 9,gregorian julian\nOctob,mon\
-th 10,gregorian julian\nNovemb,month 11,gregorian julian\nDecemb,month 12,gregorian julian\nLord's Day,weekday 0,\nLord\
-’s Day,weekday 0,\nLords Day,weekday 0,\nWeds,weekday 3,\nWednes,weekday 3,\nJanuario,month 1,gregorian julian\nIanua\
-rio,month 1,gregorian julian\nFebruario,month 2,gregorian julian\nMartio,month 3,gregorian julian\nAprili,month 4,grego\
-rian julian\nIunio,month 6,gregorian julian\nIulio,month 7,gregorian julian\nAugusto,month 8,gregorian julian\nSeptembr\
-i,month 9,gregorian julian\n7bri,month 9,gregorian julian\nVII bris,month 9,gregorian julian\nOctobri,month 10,gregoria\
-n julian\n8bri,month 10,gregorian julian\nVIII bris,month 10,gregorian julian\nNovembri,month 11,gregorian julian\n9bri\
-,month 11,gregorian julian\nIX bris,month 11,gregorian julian\nDecembri,month 12,gregorian julian\n10bri,month 12,grego\
-rian julian\nXbri,month 12,gregorian julian\nX bris,month 12,gregorian julian\nX ber,month 12,gregorian julian\nX bre,m\
-onth 12,gregorian julian\nIanuar,month 1,gregorian julian\nSeptembr,month 9,gregorian julian\nNovembr,month 11,gregoria\
-n julian\nDecembr,month 12,gregorian julian\ndie Solis,weekday 0,\ndies Solis,weekday 0,\nferia II,weekday 1,\nfer 2,we\
-ekday 1,\nfer II,weekday 1,\nferia III,weekday 2,\nfer 3,weekday 2,\nfer III,weekday 2,\nferia IV,weekday 3,\nferia III\
-I,weekday 3,\nfer 4,weekday 3,\nfer IV,weekday 3,\nferia V,weekday 4,\nfer 5,weekday 4,\nfer V,weekday 4,\nferia VI,wee\
-kday 5,\nfer 6,weekday 5,\nfer VI,weekday 5,\nsabbati,weekday 6,\nsabbathi,weekday 6,\ndie Sabbathi,weekday 6,\nsabbath\
-o,weekday 6,\nіануарій,month 1,gregorian julian\nіануарія,month 1,gregorian julian\nянуарій,mont\
-h 1,gregorian julian\nянуарія,month 1,gregorian julian\nфев,month 2,gregorian julian\nфевруарій,mont\
-h 2,gregorian julian\nфевруарія,month 2,gregorian julian\nмартъ,month 3,gregorian julian\nаприлій,\
-month 4,gregorian julian\nаприлія,month 4,gregorian julian\nмаій,month 5,gregorian julian\nмаія,month 5,\
-gregorian julian\nмаия,month 5,gregorian julian\nмайя,month 5,gregorian julian\nіуній,month 6,gregorian ju\
-lian\nіунія,month 6,gregorian julian\nиюния,month 6,gregorian julian\nіюн,month 6,gregorian julian\nіул\
-ій,month 7,gregorian julian\nіулія,month 7,gregorian julian\nиюлия,month 7,gregorian julian\nіюл,month 7\
-,gregorian julian\nавгустъ,month 8,gregorian julian\nсептемврій,month 9,gregorian julian\nсептем\
-врія,month 9,gregorian julian\nсен,month 9,gregorian julian\nсентебря,month 9,gregorian julian\nокто\
-врій,month 10,gregorian julian\nоктоврія,month 10,gregorian julian\nоктебря,month 10,gregorian julia\
-n\nноемврій,month 11,gregorian julian\nноемврія,month 11,gregorian julian\nноя,month 11,gregorian ju\
-lian\nдекемврій,month 12,gregorian julian\nдекемврія,month 12,gregorian julian\nвоскресені\
-е,weekday 0,\nвоскресение,weekday 0,\nвоскр,weekday 0,\nвс,weekday 0,\nпонедѣльникъ,week\
-day 1,\nпонедѣльник,weekday 1,\nпн,weekday 1,\nвторникъ,weekday 2,\nвт,weekday 2,\nсреду,we\
-ekday 3,\nсереду,weekday 3,\nср,weekday 3,\nчетвергъ,weekday 4,\nчетвертокъ,weekday 4,\nчт,\
-weekday 4,\nпятницу,weekday 5,\nпятокъ,weekday 5,\nпт,weekday 5,\nсубботу,weekday 6,\nсб,weekda\
-y 6,\nсїчень,month 1,gregorian julian\nсїчня,month 1,gregorian julian\nмарець,month 3,gregorian julian\
-\nмарця,month 3,gregorian julian\nкві,month 4,gregorian julian\nцвітень,month 4,gregorian julian\nцві\
-тня,month 4,gregorian julian\nтра,month 5,gregorian julian\nчер,month 6,gregorian julian\nжов,month 10,greg\
-orian julian\nлис,month 11,gregorian julian\nгру,month 12,gregorian julian\nнеділю,weekday 0,\nнд,weekda\
-y 0,\nп'ятниця,weekday 5,\nп’ятниця,weekday 5,\nп'ятницю,weekday 5,\nп’ятницю,weekday 5\
-,\nпʼятницю,weekday 5,\nсуботу,weekday 6,\nJanuárius,month 1,gregorian julian\nFebruárius,month 2,grego\
-rian julian\nMártius,month 3,gregorian julian\nMárczius,month 3,gregorian julian\nMártzius,month 3,gregorian julian\
-\nMarcius,month 3,gregorian julian\nDeczember,month 12,gregorian julian\nDeczber,month 12,gregorian julian\njanuár hó\
-,month 1,gregorian julian\njanuár hava,month 1,gregorian julian\njanuár havának,month 1,gregorian julian\nfebruár h\
-ó,month 2,gregorian julian\nfebruár hava,month 2,gregorian julian\nfebruár havának,month 2,gregorian julian\nmárci\
-us hó,month 3,gregorian julian\nmárcius hava,month 3,gregorian julian\nmárcius havának,month 3,gregorian julian\ná\
-prilis hó,month 4,gregorian julian\náprilis hava,month 4,gregorian julian\náprilis havának,month 4,gregorian julian\
-\nmájus hó,month 5,gregorian julian\nmájus hava,month 5,gregorian julian\nmájus havának,month 5,gregorian julian\n\
-június hó,month 6,gregorian julian\njúnius hava,month 6,gregorian julian\njúnius havának,month 6,gregorian julian\
-\njúlius hó,month 7,gregorian julian\njúlius hava,month 7,gregorian julian\njúlius havának,month 7,gregorian julia\
-n\naugusztus hó,month 8,gregorian julian\naugusztus hava,month 8,gregorian julian\naugusztus havának,month 8,gregoria\
-n julian\nszeptember hó,month 9,gregorian julian\nszeptember hava,month 9,gregorian julian\nszeptember havának,month \
-9,gregorian julian\noktóber hó,month 10,gregorian julian\noktóber hava,month 10,gregorian julian\noktóber havának,\
-month 10,gregorian julian\nnovember hó,month 11,gregorian julian\nnovember hava,month 11,gregorian julian\nnovember ha\
-vának,month 11,gregorian julian\ndecember hó,month 12,gregorian julian\ndecember hava,month 12,gregorian julian\ndece\
-mber havának,month 12,gregorian julian\nBoldogasszony hava,month 1,gregorian julian\nBöjtelő hava,month 2,gregorian \
-julian\nBöjtmás hava,month 3,gregorian julian\nSzent György hava,month 4,gregorian julian\nPünkösd hava,month 5,gr\
-egorian julian\nSzent Iván hava,month 6,gregorian julian\nSzent Jakab hava,month 7,gregorian julian\nKisasszony hava,m\
-onth 8,gregorian julian\nSzent Mihály hava,month 9,gregorian julian\nMindszent hava,month 10,gregorian julian\nSzent A\
-ndrás hava,month 11,gregorian julian\nKarácsony hava,month 12,gregorian julian\nvasarnap,weekday 0,\nhétfőn,weekda\
-y 1,\nhetfo,weekday 1,\nhétf,weekday 1,\nkedden,weekday 2,\nszerdán,weekday 3,\nszerdan,weekday 3,\ncsütörtökön,w\
-eekday 4,\ncsutortok,weekday 4,\ncsüt,weekday 4,\npénteken,weekday 5,\npentek,weekday 5,\npént,weekday 5,\nszombaton\
-,weekday 6,\nszomb,weekday 6,\nJaneyro,month 1,gregorian julian\nJanro,month 1,gregorian julian\nJan ro,month 1,gregori\
-an julian\nFevereyro,month 2,gregorian julian\nFevro,month 2,gregorian julian\nFev ro,month 2,gregorian julian\nmarso,m\
-onth 3,gregorian julian\nSeptembro,month 9,gregorian julian\n7bro,month 9,gregorian julian\nSetbro,month 9,gregorian ju\
-lian\nOctubro,month 10,gregorian julian\n8bro,month 10,gregorian julian\nOutbro,month 10,gregorian julian\n9bro,month 1\
-1,gregorian julian\nNovbro,month 11,gregorian julian\nDecembro,month 12,gregorian julian\n10bro,month 12,gregorian juli\
-an\nXbro,month 12,gregorian julian\nDezbro,month 12,gregorian julian\nmês de janeiro,month 1,gregorian julian\nmez de \
-janeiro,month 1,gregorian julian\ndo mês de janeiro,month 1,gregorian julian\ndo mez de janeiro,month 1,gregorian juli\
-an\nmês de fevereiro,month 2,gregorian julian\nmez de fevereiro,month 2,gregorian julian\ndo mês de fevereiro,month 2\
-,gregorian julian\ndo mez de fevereiro,month 2,gregorian julian\nmês de março,month 3,gregorian julian\nmez de março\
-,month 3,gregorian julian\ndo mês de março,month 3,gregorian julian\ndo mez de março,month 3,gregorian julian\nmês \
-de abril,month 4,gregorian julian\nmez de abril,month 4,gregorian julian\ndo mês de abril,month 4,gregorian julian\nd\
-o mez de abril,month 4,gregorian julian\nmês de maio,month 5,gregorian julian\nmez de maio,month 5,gregorian julian\nd\
-o mês de maio,month 5,gregorian julian\ndo mez de maio,month 5,gregorian julian\nmês de junho,month 6,gregorian julia\
-n\nmez de junho,month 6,gregorian julian\ndo mês de junho,month 6,gregorian julian\ndo mez de junho,month 6,gregorian \
-julian\nmês de julho,month 7,gregorian julian\nmez de julho,month 7,gregorian julian\ndo mês de julho,month 7,gregori\
-an julian\ndo mez de julho,month 7,gregorian julian\nmês de agosto,month 8,gregorian julian\nmez de agosto,month 8,gre\
-gorian julian\ndo mês de agosto,month 8,gregorian julian\ndo mez de agosto,month 8,gregorian julian\nmês de setembro,\
-month 9,gregorian julian\nmez de setembro,month 9,gregorian julian\ndo mês de setembro,month 9,gregorian julian\ndo me\
-z de setembro,month 9,gregorian julian\nmês de outubro,month 10,gregorian julian\nmez de outubro,month 10,gregorian ju\
-lian\ndo mês de outubro,month 10,gregorian julian\ndo mez de outubro,month 10,gregorian julian\nmês de novembro,mont\
-h 11,gregorian julian\nmez de novembro,month 11,gregorian julian\ndo mês de novembro,month 11,gregorian julian\ndo me\
-z de novembro,month 11,gregorian julian\nmês de dezembro,month 12,gregorian julian\nmez de dezembro,month 12,gregoria\
-n julian\ndo mês de dezembro,month 12,gregorian julian\ndo mez de dezembro,month 12,gregorian julian\nseg,weekday 1,\n\
-2ª feira,weekday 1,\nterca-feira,weekday 2,\n3ª feira,weekday 2,\nqua,weekday 3,\n4ª feira,weekday 3,\nqui,weekday 4\
-,\n5ª feira,weekday 4,\n6ª feira,weekday 5,\nsáb,weekday 6,\nsabado,weekday 6,\nsab,weekday 6,\nenº,month 1,gregori\
-an julian\nen.º,month 1,gregorian julian\nhenero,month 1,gregorian julian\nfebº,month 2,gregorian julian\nhebrero,mon\
-th 2,gregorian julian\nfebro,month 2,gregorian julian\nmço,month 3,gregorian julian\nmzo,month 3,gregorian julian\nabl\
-,month 4,gregorian julian\njunº,month 6,gregorian julian\njulº,month 7,gregorian julian\nagto,month 8,gregorian julia\
-n\nagº,month 8,gregorian julian\nag to,month 8,gregorian julian\nseptbre,month 9,gregorian julian\nsetbre,month 9,greg\
-orian julian\noctbre,month 10,gregorian julian\notubre,month 10,gregorian julian\nnobiembre,month 11,gregorian julian\n\
-novbre,month 11,gregorian julian\nnovre,month 11,gregorian julian\ndiziembre,month 12,gregorian julian\ndeziembre,mont\
-h 12,gregorian julian\ndicbre,month 12,gregorian julian\ndizbre,month 12,gregorian julian\ndel mes de enero,month 1,gre\
-gorian julian\ndel mes de febrero,month 2,gregorian julian\ndel mes de marzo,month 3,gregorian julian\ndel mes de abril\
-,month 4,gregorian julian\ndel mes de mayo,month 5,gregorian julian\ndel mes de junio,month 6,gregorian julian\ndel me\
-s de julio,month 7,gregorian julian\ndel mes de agosto,month 8,gregorian julian\ndel mes de septiembre,month 9,gregoria\
-n julian\ndel mes de octubre,month 10,gregorian julian\ndel mes de noviembre,month 11,gregorian julian\ndel mes de dici\
-embre,month 12,gregorian julian\nmié,weekday 3,\nmiercoles,weekday 3,\nmie,weekday 3,\njue,weekday 4,\nvie,weekday 5,\
-\nKânunusani,month 1,gregorian julian\nKanunusani,month 1,gregorian julian\nKânun-ı sani,month 1,gregorian julian\nK\
-anun-ı sani,month 1,gregorian julian\nİkincikânun,month 1,gregorian julian\nİkinci Kânun,month 1,gregorian julian\
-\nSonkânun,month 1,gregorian julian\nSonkanun,month 1,gregorian julian\nKânunisani,month 1,gregorian julian\nsubat,mo\
-nth 2,gregorian julian\nNİSAN,month 4,gregorian julian\nmayis,month 5,gregorian julian\nHAZİRAN,month 6,gregorian jul\
-ian\nagustos,month 8,gregorian julian\neylul,month 9,gregorian julian\nEylûl,month 9,gregorian julian\nEKİM,month 10,\
-gregorian julian\nTeşrinievvel,month 10,gregorian julian\nTeşrin-i evvel,month 10,gregorian julian\nTesrinievvel,mont\
-h 10,gregorian julian\nBirinciteşrin,month 10,gregorian julian\nBirinci Teşrin,month 10,gregorian julian\nİlkteşrin\
-,month 10,gregorian julian\nkasim,month 11,gregorian julian\nTeşrinisani,month 11,gregorian julian\nTeşrin-i sani,mon\
-th 11,gregorian julian\nTesrinisani,month 11,gregorian julian\nİkinciteşrin,month 11,gregorian julian\nİkinci Teşri\
-n,month 11,gregorian julian\nSonteşrin,month 11,gregorian julian\nSontesrin,month 11,gregorian julian\naralik,month 12\
-,gregorian julian\nKânunuevvel,month 12,gregorian julian\nKanunuevvel,month 12,gregorian julian\nKânun-ı evvel,mont\
-h 12,gregorian julian\nKanun-ı evvel,month 12,gregorian julian\nBirincikânun,month 12,gregorian julian\nBirinci Kânu\
-n,month 12,gregorian julian\nİlkkânun,month 12,gregorian julian\nKânunievvel,month 12,gregorian julian\nPaz,weekday \
-0,\nPzt,weekday 1,\nsali,weekday 2,\nÇar,weekday 3,\ncarsamba,weekday 3,\npersembe,weekday 4,\nCmt,weekday 6,\nPazar g\
-ünü,weekday 0,\nPazartesi günü,weekday 1,\nSalı günü,weekday 2,\nÇarşamba günü,weekday 3,\nPerşembe günü,\
-weekday 4,\nCuma günü,weekday 5,\nCumartesi günü,weekday 6,\nΙανουαριος,month 1,gregorian julian\nΦεβ\
-ρουαριος,month 2,gregorian julian\nΜαρτιος,month 3,gregorian julian\nΑπριλιος,month 4,gregorian \
-julian\nΜαιος,month 5,gregorian julian\nΙουνιος,month 6,gregorian julian\nΙουλιος,month 7,gregorian \
-julian\nΑυγουστος,month 8,gregorian julian\nΣεπτεμβριος,month 9,gregorian julian\nΟκτωβριο\
-ς,month 10,gregorian julian\nΝοεμβριος,month 11,gregorian julian\nΔεκεμβριος,month 12,gregorian jul\
-ian\nΙανουαριου,month 1,gregorian julian\nΦεβρουαριου,month 2,gregorian julian\nΜαρτιου,mon\
-th 3,gregorian julian\nΑπριλιου,month 4,gregorian julian\nΜαιου,month 5,gregorian julian\nΙουνιου,m\
-onth 6,gregorian julian\nΙουλιου,month 7,gregorian julian\nΑυγουστου,month 8,gregorian julian\nΣεπτ\
-εμβριου,month 9,gregorian julian\nΟκτωβριου,month 10,gregorian julian\nΝοεμβριου,month 11,greg\
-orian julian\nΔεκεμβριου,month 12,gregorian julian\nἸανουάριος,month 1,gregorian julian\nἸανο\
-υαρίου,month 1,gregorian julian\nἈπρίλιος,month 4,gregorian julian\nἈπριλίου,month 4,gregorian \
-julian\nΜάϊος,month 5,gregorian julian\nἸούνιος,month 6,gregorian julian\nἸουνίου,month 6,gregoria\
-n julian\nἸούλιος,month 7,gregorian julian\nἸουλίου,month 7,gregorian julian\nΑὔγουστος,mont\
-h 8,gregorian julian\nΑὐγούστου,month 8,gregorian julian\nὈκτώβριος,month 10,gregorian julian\nὈ\
-κτωβρίου,month 10,gregorian julian\nΓενάρης,month 1,gregorian julian\nΓενάρη,month 1,gregorian jul\
-ian\nΦλεβάρης,month 2,gregorian julian\nΦλεβάρη,month 2,gregorian julian\nΜάρτης,month 3,gregoria\
-n julian\nΜάρτη,month 3,gregorian julian\nΑπρίλης,month 4,gregorian julian\nΑπρίλη,month 4,gregorian \
-julian\nΜάης,month 5,gregorian julian\nΜάη,month 5,gregorian julian\nΙούνης,month 6,gregorian julian\nΙο\
-ύνη,month 6,gregorian julian\nΙούλης,month 7,gregorian julian\nΙούλη,month 7,gregorian julian\nΣεπτέ\
-μβρης,month 9,gregorian julian\nΣεπτέμβρη,month 9,gregorian julian\nΟκτώβρης,month 10,gregorian j\
-ulian\nΟκτώβρη,month 10,gregorian julian\nΝοέμβρης,month 11,gregorian julian\nΝοέμβρη,month 11,gr\
-egorian julian\nΔεκέμβρης,month 12,gregorian julian\nΔεκέμβρη,month 12,gregorian julian\nΓεναρη\
-ς,month 1,gregorian julian\nΓεναρη,month 1,gregorian julian\nΦλεβαρης,month 2,gregorian julian\nΦλεβ\
-αρη,month 2,gregorian julian\nΜαρτης,month 3,gregorian julian\nΜαρτη,month 3,gregorian julian\nΑπριλ\
-ης,month 4,gregorian julian\nΑπριλη,month 4,gregorian julian\nΜαης,month 5,gregorian julian\nΜαη,month 5\
-,gregorian julian\nΙουνης,month 6,gregorian julian\nΙουνη,month 6,gregorian julian\nΙουλης,month 7,gre\
-gorian julian\nΙουλη,month 7,gregorian julian\nΣεπτεμβρης,month 9,gregorian julian\nΣεπτεμβρη,m\
-onth 9,gregorian julian\nΟκτωβρης,month 10,gregorian julian\nΟκτωβρη,month 10,gregorian julian\nΝοεμ\
-βρης,month 11,gregorian julian\nΝοεμβρη,month 11,gregorian julian\nΔεκεμβρης,month 12,gregorian jul\
-ian\nΔεκεμβρη,month 12,gregorian julian\nἸαν,month 1,gregorian julian\nΦεβρ,month 2,gregorian julian\n\
-Μάρ,month 3,gregorian julian\nΜαρτ,month 3,gregorian julian\nἈπρ,month 4,gregorian julian\nΜάι,month 5,gr\
-egorian julian\nΜαϊ,month 5,gregorian julian\nΜαι,month 5,gregorian julian\nΙούν,month 6,gregorian julian\n\
-Ἰουν,month 6,gregorian julian\nΙούλ,month 7,gregorian julian\nἸουλ,month 7,gregorian julian\nΑύγ,mont\
-h 8,gregorian julian\nΑὐγ,month 8,gregorian julian\nΣεπτ,month 9,gregorian julian\nὈκτ,month 10,gregorian j\
-ulian\nΟκτωβρ,month 10,gregorian julian\nΝοέ,month 11,gregorian julian\nΝοεμβρ,month 11,gregorian julian\
-\nΔεκεμβρ,month 12,gregorian julian\nΚυριακη,weekday 0,\nΔευτερα,weekday 1,\nΤριτη,weekday 2,\
-\nΤεταρτη,weekday 3,\nΠεμπτη,weekday 4,\nΠαρασκευη,weekday 5,\nΣαββατο,weekday 6,\nΚυρ,\
-weekday 0,\nΚυριακήν,weekday 0,\nΔευ,weekday 1,\nΔευτέραν,weekday 1,\nΤρί,weekday 2,\nΤρι,week\
-day 2,\nΤρίτην,weekday 2,\nΤετ,weekday 3,\nΤετάρτην,weekday 3,\nΠέμ,weekday 4,\nΠεμ,weekday 4,\n\
-Πέμπτην,weekday 4,\nΠαρ,weekday 5,\nΠαρασκευήν,weekday 5,\nΣάβ,weekday 6,\nΣαβ,weekday 6,\nΣ\
-άββατον,weekday 6,\ntammi,month 1,gregorian julian\ntammik,month 1,gregorian julian\ntammikuun,month 1,gregoria\
-n julian\nhelmi,month 2,gregorian julian\nhelmik,month 2,gregorian julian\nhelmikuun,month 2,gregorian julian\nmaalis,m\
-onth 3,gregorian julian\nmaalisk,month 3,gregorian julian\nmaaliskuun,month 3,gregorian julian\nhuhti,month 4,gregoria\
-n julian\nhuhtik,month 4,gregorian julian\nhuhtikuun,month 4,gregorian julian\ntouko,month 5,gregorian julian\ntoukok,m\
-onth 5,gregorian julian\ntoukokuun,month 5,gregorian julian\nkesä,month 6,gregorian julian\nkesäk,month 6,gregorian j\
-ulian\nkesäkuun,month 6,gregorian julian\nheinä,month 7,gregorian julian\nheinäk,month 7,gregorian julian\nheinäkuu\
-n,month 7,gregorian julian\nelo,month 8,gregorian julian\nelok,month 8,gregorian julian\nelokuun,month 8,gregorian juli\
-an\nsyys,month 9,gregorian julian\nsyysk,month 9,gregorian julian\nsyyskuun,month 9,gregorian julian\nloka,month 10,gre\
-gorian julian\nlokak,month 10,gregorian julian\nlokakuun,month 10,gregorian julian\nmarras,month 11,gregorian julian\nm\
-arrask,month 11,gregorian julian\nmarraskuun,month 11,gregorian julian\njoulu,month 12,gregorian julian\njouluk,month 1\
-2,gregorian julian\njoulukuun,month 12,gregorian julian\nkesakuu,month 6,gregorian julian\nkesakuuta,month 6,gregorian \
-julian\nkesakuun,month 6,gregorian julian\nheinakuu,month 7,gregorian julian\nheinakuuta,month 7,gregorian julian\nhein\
-akuun,month 7,gregorian julian\nsu,weekday 0,\nsunnuntaina,weekday 0,\nmaanantaina,weekday 1,\ntiistaina,weekday 2,\nke\
-,weekday 3,\nkeskiviikkona,weekday 3,\ntorstaina,weekday 4,\npe,weekday 5,\nperjantaina,weekday 5,\nlauantaina,weekday \
-6,\nsön,weekday 0,\nsöndagen,weekday 0,\nsondag,weekday 0,\nmån,weekday 1,\nmåndagen,weekday 1,\ntis,weekday 2,\nti\
-sdagen,weekday 2,\nons,weekday 3,\nonsdagen,weekday 3,\ntors,weekday 4,\ntorsdagen,weekday 4,\nthorsdag,weekday 4,\nfre\
-,weekday 5,\nfredagen,weekday 5,\nlör,weekday 6,\nlördagen,weekday 6,\nlordag,weekday 6,\nsøn,weekday 0,\nsøndagen,\
-weekday 0,\nsundag,weekday 0,\nman,weekday 1,\nmandagen,weekday 1,\ntirs,weekday 2,\ntirsdagen,weekday 2,\ntysdag,weekd\
-ay 2,\ntys,weekday 2,\ntor,weekday 4,\nlør,weekday 6,\nlørdagen,weekday 6,\nløverdag,weekday 6,\nlaurdag,weekday 6,\
-\nlau,weekday 6,\nniedz,weekday 0,\npon,weekday 1,\nwt,weekday 2,\nśr,weekday 3,\ngio,weekday 4,\nczw,weekday 4,\nčt,\
-weekday 4,\npt,weekday 5,\npá,weekday 5,\nsob,weekday 6,\nsze,weekday 3,\nçrş,weekday 3,\ncs,weekday 4,\nprş,weekda\
-y 4,\nszo,weekday 6,\ncts,weekday 6,\nέτος,year,\nέτους,year,\nἔτος,year,\nἔτους,year,\nvuonna,year\
-,\névi,year,\név,year,\nesztendő,year,\nesztendőben,year,\nроку,year,\nрік,year,\nyılı,year,\npäivänä,d\
-ay,\npäivä,day,\npäivää,day,\nnapján,day,\nnapja,day,\nnapjan,day,\nnap,day,\nчислѣ,day,\nчисле,day,\nd\
-ias,day,\ndia,day,\nр,year,\nén,,\nán,,\njén,,\nik,,\ndik,,\nikén,,\ndikén,,\nkén,,\nkán,,\nй,,\nе,,\nое,,\
-\nаго,,\nην,,\nης,,\nτη,,\nτῇ,,\nτην,,\nτὴν,,\nτου,,\nτοῦ,,\naos,,\nв воскресенье\
-,weekday 0,\nвъ воскресенье,weekday 0,\nвъ воскресеніе,weekday 0,\nв понедельник,\
-weekday 1,\nвъ понедѣльникъ,weekday 1,\nво вторник,weekday 2,\nво вторникъ,weekday 2,\
-\nв среду,weekday 3,\nвъ среду,weekday 3,\nв середу,weekday 3,\nвъ середу,weekday 3,\nв ч\
-етверг,weekday 4,\nвъ четвергъ,weekday 4,\nв пятницу,weekday 5,\nвъ пятницу,weekday 5,\
-\nв субботу,weekday 6,\nвъ субботу,weekday 6,\ngregor.,gregorian,\ngregor,gregorian,\ngrég.,gregorian\
-,\ngrég,gregorian,\nst. n.,gregorian,\nst.n.,gregorian,\nst. nov.,gregorian,\nst. novi,gregorian,\nstili novi,gregoria\
-n,\nstyli novi,gregorian,\nnovo stilo,gregorian,\nnovo stylo,gregorian,\ngregorianska kalendern,gregorian,\nnya stilen,\
-gregorian,\nny stil,gregorian,\nnya stil,gregorian,\ngregorianske kalender,gregorian,\nden gregorianske kalender,gregor\
-ian,\nden gregorianske kalenderen,gregorian,\ngregorianske,gregorian,\ngregoriaaninen,gregorian,\ngregoriaaninen kalent\
-eri,gregorian,\nuutta lukua,gregorian,\nuusi luku,gregorian,\nGergely-naptár,gregorian,\nGergely-féle naptár,gregori\
-an,\ngergely-féle,gregorian,\nGergely-naptár szerint,gregorian,\núj naptár,gregorian,\ncalendário gregoriano,grego\
-rian,\nestilo novo,gregorian,\nmiladi,gregorian,\nmilâdî,gregorian,\nmiladî,gregorian,\nmiladi takvim,gregorian,\nGr\
-egoryen,gregorian,\nGregoryen takvimi,gregorian,\nΓρηγοριανό,gregorian,\nΓρηγοριανό ημερολό\
-γιο,gregorian,\nΓρηγοριανόν,gregorian,\nνέο ημερολόγιο,gregorian,\nνέον ἡμερολό\
-γιον,gregorian,\nν. ημ.,gregorian,\nν.ημ.,gregorian,\nн.ст.,gregorian,\nнов. ст.,gregorian,\nн. ст\
-иль,gregorian,\nновый ст.,gregorian,\nнового стиля,gregorian,\nноваго стиля,gregorian,\
-\nгригорианский календарь,gregorian,\nгригор.,gregorian,\nгригоріанський,greg\
-orian,\nгригоріанський календар,gregorian,\nновий стиль,gregorian,\nнового сти\
-лю,gregorian,\nза новим стилем,gregorian,\ngregorianus,gregorian,\ncalendarium Gregorianum,gregorian,\ns\
-t. v.,julian,\nst.v.,julian,\nst. vet.,julian,\nst. veteris,julian,\nstili veteris,julian,\nstyli veteris,julian,\nstil\
-o veteri,julian,\nstylo vetere,julian,\nveteri stilo,julian,\nveteri stylo,julian,\nv. st.,julian,\nO. St.,julian,\njul\
-ianska kalendern,julian,\ngamla stilen,julian,\ngammal stil,julian,\ngamla stil,julian,\ngammel stil,julian,\njuliansk\
-e kalender,julian,\nden julianske kalender,julian,\nden julianske kalenderen,julian,\njulianske,julian,\njuliaaninen,ju\
-lian,\njuliaaninen kalenteri,julian,\nvanhaa lukua,julian,\nvanha luku,julian,\nJulianus,julian,\nJulianus-naptár,juli\
-an,\nJulián-naptár,julian,\nJulián-naptár szerint,julian,\nónaptár,julian,\nó-naptár,julian,\nrégi naptár,jul\
-ian,\ncalendário juliano,julian,\nestilo antigo,julian,\nestilo velho,julian,\nestilo viejo,julian,\nviejo estilo,juli\
-an,\nJülyen,julian,\nJülyen takvimi,julian,\nJulyen,julian,\nΙουλιανό,julian,\nΙουλιανό ημερολ\
-όγιο,julian,\nΙουλιανόν,julian,\nπαλαιό ημερολόγιο,julian,\nπαλαιόν ἡμερολό\
-γιον,julian,\nπαλιό ημερολόγιο,julian,\nπ. ημ.,julian,\nπ.ημ.,julian,\nс. ст.,julian,\nс.\
-ст.,julian,\nст.ст.,julian,\nстар. ст.,julian,\nст. стиль,julian,\nс. стиль,julian,\nстар\
-ого стиля,julian,\nстараго стиля,julian,\nюлианский календарь,julian,\nюл.,juli\
-an,\nюліанський,julian,\nюліанський календар,julian,\nстарий стиль,julian,\nст\
-арого стилю,julian,\nза старим стилем,julian,\ncalendarium Julianum,julian,\nеврейский\
-,hebrew,\nиудейский,hebrew,\nевр.,hebrew,\nєврейський,hebrew,\nhéber,hebrew,\nzsidó,hebrew,\nhe\
-braico,hebrew,\njudaico,hebrew,\ncalendário hebraico,hebrew,\ncalendario hebreo,hebrew,\ncalendario judío,hebrew,\nİ\
-brani,hebrew,\nMusevi,hebrew,\nMusevî,hebrew,\nΕβραϊκό,hebrew,\nἙβραϊκό,hebrew,\nΙουδαϊκό,hebre\
-w,\nheprealainen,hebrew,\njuutalainen,hebrew,\nhebreisk,hebrew,\nhebreiska,hebrew,\njudisk,hebrew,\njudiska,hebrew,\nhe\
-braisk,hebrew,\nhebraiske,hebrew,\njødisk,hebrew,\njødiske,hebrew,\nhebraicus,hebrew,\njudaicus,hebrew,\nмусуль\
-манский,islamic,\nисламский,islamic,\nхиджра,islamic,\nхиджры,islamic,\nмусульман\
-ський,islamic,\nісламський,islamic,\nгіджра,islamic,\niszlám,islamic,\nmohamedán,islamic,\nhidzs\
-ra,islamic,\nislâmico,islamic,\nmuçulmano,islamic,\nhégira,islamic,\nhicri takvim,islamic,\nΙσλαμικό,islamic\
-,\nΜουσουλμανικό,islamic,\nΕγίρα,islamic,\nislamilainen,islamic,\nislamisk,islamic,\nislamiska,islami\
-c,\nmuslimsk,islamic,\nmuslimska,islamic,\nislamiske,islamic,\nmuslimske,islamic,\nrep.,republican,\nrep,republican,\nr\
-ép,republican,\nrépub.,republican,\nrépubl.,republican,\nrepub.,republican,\nrepubl.,republican,\ncalendario republi\
-cano,republican,\ncalendário republicano,republican,\nреспубликанский,republican,\nфранцузски\
-й республиканский,republican,\nреспубліканський,republican,\nköztársasági,republican\
-,\nforradalmi,republican,\nrepublikansk,republican,\nrepublikanska,republican,\nrepublikanske,republican,\ntasavaltalai\
-nen,republican,\ncopt.,coptic,\ncopt,coptic,\nкоптский,coptic,\nкоптський,coptic,\ncopta,coptic,\nKıp\
-ti,coptic,\nKıptî,coptic,\nΚοπτικό,coptic,\nkoptilainen,coptic,\nkoptisk,coptic,\nkoptiska,coptic,\nkoptiske,c\
-optic,\neth.,ethiopic,\nэфиопский,ethiopic,\nефіопський,ethiopic,\netióp,ethiopic,\netíope,ethiopi\
-c,\nHabeş,ethiopic,\nΑιθιοπικό,ethiopic,\netiopialainen,ethiopic,\netiopisk,ethiopic,\netiopiska,ethiopic,\ne\
-tiopiske,ethiopic,\nегипетский,egyptian,\nєгипетський,egyptian,\negyiptomi,egyptian,\negípcio,egy\
-ptian,\nΑιγυπτιακό,egyptian,\negyptiläinen,egyptian,\negyptisk,egyptian,\negyptiska,egyptian,\negyptiske,egy\
-ptian,\nægyptisk,egyptian,\nармянский,armenian,\nвірменський,armenian,\nörmény,armenian,\narmên\
-io,armenian,\narménio,armenian,\nErmeni,armenian,\nΑρμενικό,armenian,\narmenialainen,armenian,\narmenisk,armen\
-ian,\narmeniska,armenian,\narmensk,armenian,\narmenske,armenian,\nримский,roman,\nримський,roman,\nróma\
-i,roman,\nΡωμαϊκό,roman,\nroomalainen,roman,\nromersk,roman,\nromerska,roman,\nromerske,roman,\n\
+drei und zwanzigster,23,\ndrey und zwanzigste,23,\ndrey und zwanzigsten,23,\ndrey und zwanzigster,23,\nvierundzwanzigst\
+e,24,\nvierundzwanzigsten,24,\nvierundzwanzigster,24,\nvier und zwanzigste,24,\nvier und zwanzigsten,24,\nvier und zwan\
+zigster,24,\nfünfundzwanzigste,25,\nfünfundzwanzigsten,25,\nfünfundzwanzigster,25,\nfünf und zwanzigste,25,\nfünf \
+und zwanzigsten,25,\nfünf und zwanzigster,25,\nsechsundzwanzigste,26,\nsechsundzwanzigsten,26,\nsechsundzwanzigster,26\
+,\nsechs und zwanzigste,26,\nsechs und zwanzigsten,26,\nsechs und zwanzigster,26,\nsiebenundzwanzigste,27,\nsiebenundzw\
+anzigsten,27,\nsiebenundzwanzigster,27,\nsieben und zwanzigste,27,\nsieben und zwanzigsten,27,\nsieben und zwanzigster,\
+27,\nachtundzwanzigste,28,\nachtundzwanzigsten,28,\nachtundzwanzigster,28,\nacht und zwanzigste,28,\nacht und zwanzigst\
+en,28,\nacht und zwanzigster,28,\nneunundzwanzigste,29,\nneunundzwanzigsten,29,\nneunundzwanzigster,29,\nneun und zwanz\
+igste,29,\nneun und zwanzigsten,29,\nneun und zwanzigster,29,\ndreißigste,30,\ndreißigsten,30,\ndreißigster,30,\ndre\
+yßigste,30,\ndreyßigsten,30,\ndreyßigster,30,\neinunddreißigste,31,\neinunddreißigsten,31,\neinunddreißigster,31,\
+\neinunddreyßigste,31,\neinunddreyßigsten,31,\neinunddreyßigster,31,\nein und dreißigste,31,\nein und dreißigsten,\
+31,\nein und dreißigster,31,\nein und dreyßigste,31,\nein und dreyßigsten,31,\nein und dreyßigster,31,\neinhundert,\
+100,\neinhundert und,100,\nein hundert,100,\nein hundert und,100,\nhundert,100,\nhundert und,100,\nzweihundert,200,\nzw\
+eihundert und,200,\nzwei hundert,200,\nzwei hundert und,200,\nzweyhundert,200,\nzweyhundert und,200,\nzwey hundert,200,\
+\nzwey hundert und,200,\ndreihundert,300,\ndreihundert und,300,\ndrei hundert,300,\ndrei hundert und,300,\ndreyhundert,\
+300,\ndreyhundert und,300,\ndrey hundert,300,\ndrey hundert und,300,\nvierhundert,400,\nvierhundert und,400,\nvier hund\
+ert,400,\nvier hundert und,400,\nfünfhundert,500,\nfünfhundert und,500,\nfünf hundert,500,\nfünf hundert und,500,\n\
+sechshundert,600,\nsechshundert und,600,\nsechs hundert,600,\nsechs hundert und,600,\nsiebenhundert,700,\nsiebenhunder\
+t und,700,\nsieben hundert,700,\nsieben hundert und,700,\nachthundert,800,\nachthundert und,800,\nacht hundert,800,\nac\
+ht hundert und,800,\nneunhundert,900,\nneunhundert und,900,\nneun hundert,900,\nneun hundert und,900,\nelfhundert,1100,\
+\nelfhundert und,1100,\nelf hundert,1100,\nelf hundert und,1100,\nzwölfhundert,1200,\nzwölfhundert und,1200,\nzwölf \
+hundert,1200,\nzwölf hundert und,1200,\ndreizehnhundert,1300,\ndreizehnhundert und,1300,\ndreizehn hundert,1300,\ndrei\
+zehn hundert und,1300,\ndreyzehnhundert,1300,\ndreyzehnhundert und,1300,\ndreyzehn hundert,1300,\ndreyzehn hundert und,\
+1300,\nvierzehnhundert,1400,\nvierzehnhundert und,1400,\nvierzehn hundert,1400,\nvierzehn hundert und,1400,\nfünfzehnh\
+undert,1500,\nfünfzehnhundert und,1500,\nfünfzehn hundert,1500,\nfünfzehn hundert und,1500,\nsechzehnhundert,1600,\n\
+sechzehnhundert und,1600,\nsechzehn hundert,1600,\nsechzehn hundert und,1600,\nsiebzehnhundert,1700,\nsiebzehnhundert u\
+nd,1700,\nsiebzehn hundert,1700,\nsiebzehn hundert und,1700,\nachtzehnhundert,1800,\nachtzehnhundert und,1800,\nachtzeh\
+n hundert,1800,\nachtzehn hundert und,1800,\nneunzehnhundert,1900,\nneunzehnhundert und,1900,\nneunzehn hundert,1900,\n\
+neunzehn hundert und,1900,\ntausend,1000,\ntausend und,1000,\neintausend,1000,\neintausend und,1000,\nein tausend,1000,\
+\nein tausend und,1000,\nzweitausend,2000,\nzweitausend und,2000,\nzwei tausend,2000,\nzwei tausend und,2000,\nMontag,w\
+eekday 1,\nDienstag,weekday 2,\nMittwoch,weekday 3,\nDonnerstag,weekday 4,\nFreitag,weekday 5,\nSamstag,weekday 6,\nSon\
+nabend,weekday 6,\nSonntag,weekday 0,\nMo,weekday 1,\nDi,weekday 2,gregorian julian coptic ethiopic egyptian armenian i\
+slamic hebrew french republican\nMi,weekday 3,gregorian julian coptic ethiopic egyptian armenian islamic hebrew french \
+republican\nDo,weekday 4,\nFr,weekday 5,\nSa,weekday 6,\nSo,weekday 0,\nMonday,weekday 1,\nTuesday,weekday 2,\nWednesda\
+y,weekday 3,\nThursday,weekday 4,\nFriday,weekday 5,\nSaturday,weekday 6,\nSunday,weekday 0,\nMon,weekday 1,\nTue,weekd\
+ay 2,\nTues,weekday 2,\nWed,weekday 3,\nThu,weekday 4,\nThur,weekday 4,\nThurs,weekday 4,\nFri,weekday 5,\nSat,weekday \
+6,\nSun,weekday 0,\nlundi,weekday 1,\nmardi,weekday 2,\nmercredi,weekday 3,\njeudi,weekday 4,\nvendredi,weekday 5,\nsam\
+edi,weekday 6,\ndimanche,weekday 0,\nlun,weekday 1,\nmer,weekday 3,\njeu,weekday 4,\nven,weekday 5,\nsam,weekday 6,\ndi\
+m,weekday 0,\nmaandag,weekday 1,\ndinsdag,weekday 2,\nwoensdag,weekday 3,\ndonderdag,weekday 4,\nvrijdag,weekday 5,\nza\
+terdag,weekday 6,\nzondag,weekday 0,\nma,weekday 1,\nwo,weekday 3,\nvr,weekday 5,\nza,weekday 6,\nzo,weekday 0,\nluned\
+ì,weekday 1,\nmartedì,weekday 2,\nmercoledì,weekday 3,\ngiovedì,weekday 4,\nvenerdì,weekday 5,\nsabato,weekday 6,\
+\ndomenica,weekday 0,\nlunes,weekday 1,\nmartes,weekday 2,\nmiércoles,weekday 3,\njueves,weekday 4,\nviernes,weekday 5\
+,\nsábado,weekday 6,\ndomingo,weekday 0,\nponiedziałek,weekday 1,\nwtorek,weekday 2,\nśroda,weekday 3,\nczwartek,wee\
+kday 4,\npiątek,weekday 5,\nsobota,weekday 6,\nniedziela,weekday 0,\npondělí,weekday 1,\núterý,weekday 2,\nstředa\
+,weekday 3,\nčtvrtek,weekday 4,\npátek,weekday 5,\nneděle,weekday 0,\ndies Lunae,weekday 1,\ndies Martis,weekday 2,\
+\ndies Mercurii,weekday 3,\ndies Iovis,weekday 4,\ndies Jovis,weekday 4,\ndies Veneris,weekday 5,\ndies Saturni,weekda\
+y 6,\ndies Sabbati,weekday 6,\ndies Dominica,weekday 0,\nsøndag,weekday 0,\nmandag,weekday 1,\ntirsdag,weekday 2,\nons\
+dag,weekday 3,\ntorsdag,weekday 4,\nfredag,weekday 5,\nlørdag,weekday 6,\nsöndag,weekday 0,\nmåndag,weekday 1,\ntisd\
+ag,weekday 2,\nlördag,weekday 6,\nsunnuntai,weekday 0,\nmaanantai,weekday 1,\ntiistai,weekday 2,\nkeskiviikko,weekday \
+3,\ntorstai,weekday 4,\nperjantai,weekday 5,\nlauantai,weekday 6,\nvasárnap,weekday 0,\nhétfő,weekday 1,\nkedd,weekd\
+ay 2,\nszerda,weekday 3,\ncsütörtök,weekday 4,\npéntek,weekday 5,\nszombat,weekday 6,\nsegunda-feira,weekday 1,\nte\
+rça-feira,weekday 2,\nquarta-feira,weekday 3,\nquinta-feira,weekday 4,\nsexta-feira,weekday 5,\nвоскресенье\
+,weekday 0,\nпонедельник,weekday 1,\nвторник,weekday 2,\nсреда,weekday 3,\nчетверг,weekda\
+y 4,\nпятница,weekday 5,\nсуббота,weekday 6,\nнеділя,weekday 0,\nпонеділок,weekday 1,\nв\
+івторок,weekday 2,\nсереда,weekday 3,\nчетвер,weekday 4,\nпʼятниця,weekday 5,\nсубота,\
+weekday 6,\nΚυριακή,weekday 0,\nΔευτέρα,weekday 1,\nΤρίτη,weekday 2,\nΤετάρτη,weekday 3,\nΠ\
+έμπτη,weekday 4,\nΠαρασκευή,weekday 5,\nΣάββατο,weekday 6,\nPazar,weekday 0,\nPazartesi,weekday 1,\
+\nSalı,weekday 2,\nÇarşamba,weekday 3,\nPerşembe,weekday 4,\nCuma,weekday 5,\nCumartesi,weekday 6,\nSonntags,weekda\
+y 0,\nSontag,weekday 0,\ndies dominicus,weekday 0,\ndie Dominica,weekday 0,\ndie Dominico,weekday 0,\ndominico die,week\
+day 0,\nMontags,weekday 1,\nMondtag,weekday 1,\ndie Lunae,weekday 1,\ndie Lune,weekday 1,\nDienstags,weekday 2,\nDinsta\
+g,weekday 2,\nDinstags,weekday 2,\nErchtag,weekday 2,\nErtag,weekday 2,\nZinstag,weekday 2,\nZistag,weekday 2,\ndie Mar\
+tis,weekday 2,\nMittwochs,weekday 3,\nMitwoch,weekday 3,\nMittichen,weekday 3,\ndie Mercurii,weekday 3,\nDonnerstags,we\
+ekday 4,\nDornstag,weekday 4,\nPfinztag,weekday 4,\ndie Jovis,weekday 4,\ndie Iovis,weekday 4,\nFreitags,weekday 5,\nFr\
+eytag,weekday 5,\nFreytags,weekday 5,\ndie Veneris,weekday 5,\nSamstags,weekday 6,\nSonnabends,weekday 6,\nSambstag,wee\
+kday 6,\ndie Sabbati,weekday 6,\ndie Saturni,weekday 6,\ndie Sabbato,weekday 6,\nSonnabent,weekday 6,\ndominica,weekda\
+y 0,\ndom,weekday 0,\nferia secunda,weekday 1,\nferia 2,weekday 1,\nferia tertia,weekday 2,\nferia tercia,weekday 2,\nf\
+eria 3,weekday 2,\nferia quarta,weekday 3,\nferia 4,weekday 3,\nferia quinta,weekday 4,\nferia 5,weekday 4,\nferia sext\
+a,weekday 5,\nferia 6,weekday 5,\nsabbato,weekday 6,\nsabbatum,weekday 6,\nprimidi,decade 1,french republican\nduodi,de\
+cade 2,french republican\ntridi,decade 3,french republican\nquartidi,decade 4,french republican\nquintidi,decade 5,fren\
+ch republican\nsextidi,decade 6,french republican\nseptidi,decade 7,french republican\noctidi,decade 8,french republica\
+n\nnonidi,decade 9,french republican\ndécadi,decade 10,french republican\ndecadi,decade 10,french republican\nday afte\
+r,morrow,gregorian julian\nTag nach,morrow,gregorian julian\nTags nach,morrow,gregorian julian\njour après,morrow,greg\
+orian julian\nlendemain de,morrow,gregorian julian\ndie post,morrow,gregorian julian\ndies post,morrow,gregorian julian\
+\nday before,eve,gregorian julian\nTag vor,eve,gregorian julian\nTags vor,eve,gregorian julian\njour avant,eve,gregoria\
+n julian\ndie ante,eve,gregorian julian\ndies ante,eve,gregorian julian\nin profesto,eve,gregorian julian\nafter,after,\
+gregorian julian coptic ethiopic egyptian armenian islamic hebrew french republican\nnach,after,gregorian julian copti\
+c ethiopic egyptian armenian islamic hebrew french republican\npost,after,gregorian julian coptic ethiopic egyptian arm\
+enian islamic hebrew french republican\np,after,gregorian julian\naprès,after,gregorian julian coptic ethiopic egyptia\
+n armenian islamic hebrew french republican\nbefore,before,gregorian julian coptic ethiopic egyptian armenian islamic h\
+ebrew french republican\nvor,before,gregorian julian coptic ethiopic egyptian armenian islamic hebrew french republican\
+\nante,before,gregorian julian coptic ethiopic egyptian armenian islamic hebrew french republican\navant,before,gregori\
+an julian coptic ethiopic egyptian armenian islamic hebrew french republican\nbef,before,gregorian julian coptic ethiop\
+ic egyptian armenian islamic hebrew french republican\nvoor,before,gregorian julian coptic ethiopic egyptian armenian i\
+slamic hebrew french republican\nprima di,before,gregorian julian coptic ethiopic egyptian armenian islamic hebrew fren\
+ch republican\nantes de,before,gregorian julian coptic ethiopic egyptian armenian islamic hebrew french republican\nprz\
+ed,before,gregorian julian coptic ethiopic egyptian armenian islamic hebrew french republican\npřed,before,gregorian j\
+ulian coptic ethiopic egyptian armenian islamic hebrew french republican\naft,after,gregorian julian coptic ethiopic eg\
+yptian armenian islamic hebrew french republican\nna,after,gregorian julian coptic ethiopic egyptian armenian islamic h\
+ebrew french republican\ndopo,after,gregorian julian coptic ethiopic egyptian armenian islamic hebrew french republican\
+\ndespués de,after,gregorian julian coptic ethiopic egyptian armenian islamic hebrew french republican\npo,after,grego\
+rian julian coptic ethiopic egyptian armenian islamic hebrew french republican\nca,about,gregorian julian coptic ethiop\
+ic egyptian armenian islamic hebrew french republican\ncirca,about,gregorian julian coptic ethiopic egyptian armenian i\
+slamic hebrew french republican\num,about,gregorian julian coptic ethiopic egyptian armenian islamic hebrew french repu\
+blican\ngegen,about,gregorian julian coptic ethiopic egyptian armenian islamic hebrew french republican\netwa,about,gre\
+gorian julian coptic ethiopic egyptian armenian islamic hebrew french republican\nabout,about,gregorian julian coptic e\
+thiopic egyptian armenian islamic hebrew french republican\nabt,about,gregorian julian coptic ethiopic egyptian armenia\
+n islamic hebrew french republican\nest,about,gregorian julian coptic ethiopic egyptian armenian islamic hebrew french \
+republican\ncal,about,gregorian julian coptic ethiopic egyptian armenian islamic hebrew french republican\nvers,about,g\
+regorian julian coptic ethiopic egyptian armenian islamic hebrew french republican\nenviron,about,gregorian julian copt\
+ic ethiopic egyptian armenian islamic hebrew french republican\nomstreeks,about,gregorian julian coptic ethiopic egypti\
+an armenian islamic hebrew french republican\nongeveer,about,gregorian julian coptic ethiopic egyptian armenian islami\
+c hebrew french republican\nverso,about,gregorian julian coptic ethiopic egyptian armenian islamic hebrew french republ\
+ican\nhacia,about,gregorian julian coptic ethiopic egyptian armenian islamic hebrew french republican\nokoło,about,gre\
+gorian julian coptic ethiopic egyptian armenian islamic hebrew french republican\nkolem,about,gregorian julian coptic e\
+thiopic egyptian armenian islamic hebrew french republican\nasi,about,gregorian julian coptic ethiopic egyptian armenia\
+n islamic hebrew french republican\ncirciter,about,gregorian julian coptic ethiopic egyptian armenian islamic hebrew fr\
+ench republican\nseit,from,gregorian julian coptic ethiopic egyptian armenian islamic hebrew french republican\nab,from\
+,gregorian julian coptic ethiopic egyptian armenian islamic french republican\nfrom,from,gregorian julian coptic ethiop\
+ic egyptian armenian islamic hebrew french republican\nsince,from,gregorian julian coptic ethiopic egyptian armenian is\
+lamic hebrew french republican\ndepuis,from,gregorian julian coptic ethiopic egyptian armenian islamic hebrew french re\
+publican\nà partir de,from,gregorian julian coptic ethiopic egyptian armenian islamic hebrew french republican\nvanaf,\
+from,gregorian julian coptic ethiopic egyptian armenian islamic hebrew french republican\nsinds,from,gregorian julian c\
+optic ethiopic egyptian armenian islamic hebrew french republican\ndal,from,gregorian julian coptic ethiopic egyptian a\
+rmenian islamic hebrew french republican\ndesde,from,gregorian julian coptic ethiopic egyptian armenian islamic hebrew \
+french republican\nod,from,gregorian julian coptic ethiopic egyptian armenian islamic hebrew french republican\nnotBefo\
+re,from,gregorian julian coptic ethiopic egyptian armenian islamic hebrew french republican\nnicht vor,from,gregorian j\
+ulian coptic ethiopic egyptian armenian islamic hebrew french republican\nnot before,from,gregorian julian coptic ethio\
+pic egyptian armenian islamic hebrew french republican\nbis,to,gregorian julian coptic ethiopic egyptian armenian islam\
+ic hebrew french republican\nto,to,gregorian julian coptic ethiopic egyptian armenian islamic hebrew french republican\
+\nuntil,to,gregorian julian coptic ethiopic egyptian armenian islamic hebrew french republican\ntill,to,gregorian julia\
+n coptic ethiopic egyptian armenian islamic hebrew french republican\njusqu'à,to,gregorian julian coptic ethiopic egyp\
+tian armenian islamic hebrew french republican\njusqu’à,to,gregorian julian coptic ethiopic egyptian armenian islami\
+c hebrew french republican\nau,to,gregorian julian coptic ethiopic egyptian armenian islamic hebrew french republican\n\
+à,to,gregorian julian coptic ethiopic egyptian armenian islamic hebrew french republican\ntot,to,gregorian julian copt\
+ic ethiopic egyptian armenian islamic hebrew french republican\ntot en met,to,gregorian julian coptic ethiopic egyptia\
+n armenian islamic hebrew french republican\nfino a,to,gregorian julian coptic ethiopic egyptian armenian islamic hebre\
+w french republican\nal,to,gregorian julian coptic ethiopic egyptian armenian islamic hebrew french republican\nhasta,t\
+o,gregorian julian coptic ethiopic egyptian armenian islamic hebrew french republican\nusque ad,to,gregorian julian cop\
+tic ethiopic egyptian armenian islamic hebrew french republican\nnotAfter,to,gregorian julian coptic ethiopic egyptian \
+armenian islamic hebrew french republican\nnicht nach,to,gregorian julian coptic ethiopic egyptian armenian islamic heb\
+rew french republican\nnot after,to,gregorian julian coptic ethiopic egyptian armenian islamic hebrew french republican\
+\nzwischen,between,gregorian julian coptic ethiopic egyptian armenian islamic hebrew french republican\nzw,between,greg\
+orian julian coptic ethiopic egyptian armenian islamic hebrew french republican\nbetween,between,gregorian julian copti\
+c ethiopic egyptian armenian islamic hebrew french republican\nbet,between,gregorian julian coptic ethiopic egyptian ar\
+menian islamic hebrew french republican\nentre,between,gregorian julian coptic ethiopic egyptian armenian islamic hebre\
+w french republican\ntussen,between,gregorian julian coptic ethiopic egyptian armenian islamic hebrew french republican\
+\ntra,between,gregorian julian coptic ethiopic egyptian armenian islamic hebrew french republican\nfra,between,gregoria\
+n julian coptic ethiopic egyptian armenian islamic hebrew french republican\nmiędzy,between,gregorian julian coptic et\
+hiopic egyptian armenian islamic hebrew french republican\nmezi,between,gregorian julian coptic ethiopic egyptian armen\
+ian islamic hebrew french republican\ninter,between,gregorian julian coptic ethiopic egyptian armenian islamic hebrew f\
+rench republican\nund,and,gregorian julian coptic ethiopic egyptian armenian islamic hebrew french republican\nu,and,gr\
+egorian julian coptic ethiopic egyptian armenian islamic hebrew french republican\nand,and,gregorian julian coptic ethi\
+opic egyptian armenian islamic hebrew french republican\net,and,gregorian julian coptic ethiopic egyptian armenian isla\
+mic hebrew french republican\ned,and,gregorian julian coptic ethiopic egyptian armenian islamic hebrew french republica\
+n\ny,and,gregorian julian coptic ethiopic egyptian armenian islamic hebrew french republican\noraz,and,gregorian julia\
+n coptic ethiopic egyptian armenian islamic hebrew french republican\nAdar,month 12-13,hebrew\neve of,eve,gregorian jul\
+ian\nvigilia,eve,gregorian julian\nin vigilia,eve,gregorian julian\nVigil,eve,gregorian julian\nVorabend,eve,gregorian \
+julian\nprofesto,eve,gregorian julian\nveille de,eve,gregorian julian\noctava,octave,gregorian julian\nin octava,octave\
+,gregorian julian\nOktav,octave,gregorian julian\noctave of,octave,gregorian julian\nin crastino,morrow,gregorian julia\
+n\ncrastino,morrow,gregorian julian\nmorrow of,morrow,gregorian julian\nOstern,easter 0,gregorian julian\nOstersonntag,\
+easter 0,gregorian julian\nOstertag,easter 0,gregorian julian\nPascha,easter 0,gregorian julian\nPaschae,easter 0,grego\
+rian julian\nPasche,easter 0,gregorian julian\nResurrectionis Domini,easter 0,gregorian julian\nEaster,easter 0,gregori\
+an julian\nEaster Day,easter 0,gregorian julian\nEaster Sunday,easter 0,gregorian julian\nPâques,easter 0,gregorian ju\
+lian\nOstermontag,easter 1,gregorian julian\nEaster Monday,easter 1,gregorian julian\nlundi de Pâques,easter 1,gregori\
+an julian\nOsterdienstag,easter 2,gregorian julian\nEaster Tuesday,easter 2,gregorian julian\nSeptuagesima,easter -63,g\
+regorian julian\nSeptuagesimae,easter -63,gregorian julian\nSeptuagésime,easter -63,gregorian julian\nCircumdederunt,e\
+aster -63,gregorian julian\nSexagesima,easter -56,gregorian julian\nSexagesimae,easter -56,gregorian julian\nExsurge,ea\
+ster -56,gregorian julian\nExurge,easter -56,gregorian julian\nQuinquagesima,easter -49,gregorian julian\nQuinquagesima\
+e,easter -49,gregorian julian\nEstomihi,easter -49,gregorian julian\nEsto mihi,easter -49,gregorian julian\nHerrenfastn\
+acht,easter -49,gregorian julian\nFastnachtsdienstag,easter -47,gregorian julian\nShrove Tuesday,easter -47,gregorian j\
+ulian\nMardi gras,easter -47,gregorian julian\nAschermittwoch,easter -46,gregorian julian\ndies Cinerum,easter -46,greg\
+orian julian\nCinerum,easter -46,gregorian julian\nAsh Wednesday,easter -46,gregorian julian\nmercredi des Cendres,east\
+er -46,gregorian julian\nInvocavit,easter -42,gregorian julian\nInvocabit,easter -42,gregorian julian\nQuadragesima,eas\
+ter -42,gregorian julian\nReminiscere,easter -35,gregorian julian\nOculi,easter -28,gregorian julian\nLaetare,easter -2\
+1,gregorian julian\nLetare,easter -21,gregorian julian\nLätare,easter -21,gregorian julian\nJudica,easter -14,gregoria\
+n julian\nIudica,easter -14,gregorian julian\nPalmarum,easter -7,gregorian julian\nPalmsonntag,easter -7,gregorian juli\
+an\nPalm Sunday,easter -7,gregorian julian\ndimanche des Rameaux,easter -7,gregorian julian\nRameaux,easter -7,gregoria\
+n julian\nGründonnerstag,easter -3,gregorian julian\nCoena Domini,easter -3,gregorian julian\nCoenae Domini,easter -3,\
+gregorian julian\nCene Domini,easter -3,gregorian julian\nMaundy Thursday,easter -3,gregorian julian\nJeudi saint,easte\
+r -3,gregorian julian\nKarfreitag,easter -2,gregorian julian\nCharfreitag,easter -2,gregorian julian\nParasceve,easter \
+-2,gregorian julian\nGood Friday,easter -2,gregorian julian\nVendredi saint,easter -2,gregorian julian\nKarsamstag,east\
+er -1,gregorian julian\nSabbatum sanctum,easter -1,gregorian julian\nQuasimodogeniti,easter 7,gregorian julian\nQuasi m\
+odo geniti,easter 7,gregorian julian\nQuasimodo,easter 7,gregorian julian\nLow Sunday,easter 7,gregorian julian\nMiseri\
+cordias Domini,easter 14,gregorian julian\nMisericordia Domini,easter 14,gregorian julian\nJubilate,easter 21,gregoria\
+n julian\nIubilate,easter 21,gregorian julian\nCantate,easter 28,gregorian julian\nKantate,easter 28,gregorian julian\n\
+Rogate,easter 35,gregorian julian\nVocem jucunditatis,easter 35,gregorian julian\nRogation Sunday,easter 35,gregorian j\
+ulian\nHimmelfahrt,easter 39,gregorian julian\nChristi Himmelfahrt,easter 39,gregorian julian\nAuffahrt,easter 39,grego\
+rian julian\nAscensionis Domini,easter 39,gregorian julian\nAscensionis,easter 39,gregorian julian\nAscension Day,easte\
+r 39,gregorian julian\nAscension,easter 39,gregorian julian\nExaudi,easter 42,gregorian julian\nPfingsten,easter 49,gre\
+gorian julian\nPfingstsonntag,easter 49,gregorian julian\nPentecostes,easter 49,gregorian julian\nPentecoste,easter 49,\
+gregorian julian\nPentecost,easter 49,gregorian julian\nWhitsunday,easter 49,gregorian julian\nWhit Sunday,easter 49,gr\
+egorian julian\nPentecôte,easter 49,gregorian julian\nPfingstmontag,easter 50,gregorian julian\nWhit Monday,easter 50,\
+gregorian julian\nTrinitatis,easter 56,gregorian julian\nTrin,easter 56,gregorian julian\nTrinity Sunday,easter 56,greg\
+orian julian\nTrinity,easter 56,gregorian julian\nTrinité,easter 56,gregorian julian\nFronleichnam,easter 60,gregoria\
+n julian\nCorporis Christi,easter 60,gregorian julian\nCorpus Christi,easter 60,gregorian julian\nFête-Dieu,easter 60,\
+gregorian julian\nAdvent,sundays advent,gregorian julian\nAdventus,sundays advent,gregorian julian\nAdventus Domini,sun\
+days advent,gregorian julian\nAdv,sundays advent,gregorian julian\nAdventssonntag,sundays advent,gregorian julian\nSund\
+ay in Advent,sundays advent,gregorian julian\ndimanche de l'Avent,sundays advent,gregorian julian\nFastensonntag,sunday\
+s lent,gregorian julian\nQuadragesimae,sundays lent,gregorian julian\nSunday in Lent,sundays lent,gregorian julian\nAd \
+te levavi,sunday advent 1,gregorian julian\nPopulus Sion,sunday advent 2,gregorian julian\nGaudete,sunday advent 3,greg\
+orian julian\nRorate,sunday advent 4,gregorian julian\nAdvent Sunday,sunday advent 1,gregorian julian\nNeujahr,feast 1-\
+1,gregorian julian\nCircumcisionis Domini,feast 1-1,gregorian julian\nCircumcisionis,feast 1-1,gregorian julian\nEpipha\
+niae,feast 1-6,gregorian julian\nEpiphanie,feast 1-6,gregorian julian\nEpiphanias,feast 1-6,gregorian julian\nEpiph,fea\
+st 1-6,gregorian julian\nEpiphany,feast 1-6,gregorian julian\nTrium Regum,feast 1-6,gregorian julian\nDreikönig,feast \
+1-6,gregorian julian\nHeilige Drei Könige,feast 1-6,gregorian julian\nFabiani et Sebastiani,feast 1-20,gregorian julia\
+n\nAgnetis,feast 1-21,gregorian julian\nVincentii,feast 1-22,gregorian julian\nConversionis Pauli,feast 1-25,gregorian \
+julian\nPauli Bekehrung,feast 1-25,gregorian julian\nLichtmess,feast 2-2,gregorian julian\nMariä Lichtmess,feast 2-2,g\
+regorian julian\nPurificationis Mariae,feast 2-2,gregorian julian\nPurificationis,feast 2-2,gregorian julian\nCandlemas\
+,feast 2-2,gregorian julian\nChandeleur,feast 2-2,gregorian julian\nBlasii,feast 2-3,gregorian julian\nAgathae,feast 2-\
+5,gregorian julian\nValentini,feast 2-14,gregorian julian\nCathedra Petri,feast 2-22,gregorian julian\nPetri Stuhlfeier\
+,feast 2-22,gregorian julian\nMatthiae,feast 3-1 -5,gregorian julian\nMathie,feast 3-1 -5,gregorian julian\nGertrudis,f\
+east 3-17,gregorian julian\nBenedicti,feast 3-21,gregorian julian\nAnnunciationis Mariae,feast 3-25,gregorian julian\nA\
+nnuntiationis Mariae,feast 3-25,gregorian julian\nMariä Verkündigung,feast 3-25,gregorian julian\nLady Day,feast 3-25\
+,gregorian julian\nAnnonciation,feast 3-25,gregorian julian\nTiburtii et Valeriani,feast 4-14,gregorian julian\nMarci,f\
+east 4-25,gregorian julian\nPhilippi et Jacobi,feast 5-1,gregorian julian\nWalpurgis,feast 5-1,gregorian julian\nWalbur\
+gis,feast 5-1,gregorian julian\nInventionis crucis,feast 5-3,gregorian julian\nKreuzauffindung,feast 5-3,gregorian juli\
+an\nUrbani,feast 5-25,gregorian julian\nViti,feast 6-15,gregorian julian\nJohannistag,feast 6-24,gregorian julian\nJoha\
+nnis Baptistae,feast 6-24,gregorian julian\nJohannis Baptiste,feast 6-24,gregorian julian\nNativitatis Johannis Baptist\
+ae,feast 6-24,gregorian julian\nMidsummer Day,feast 6-24,gregorian julian\nla Saint-Jean,feast 6-24,gregorian julian\nJ\
+ohannis et Pauli,feast 6-26,gregorian julian\nPetri et Pauli,feast 6-29,gregorian julian\nPeter und Paul,feast 6-29,gre\
+gorian julian\nVisitationis Mariae,feast 7-2,gregorian julian\nMariä Heimsuchung,feast 7-2,gregorian julian\nKiliani,f\
+east 7-8,gregorian julian\nDivisionis apostolorum,feast 7-15,gregorian julian\nMariae Magdalenae,feast 7-22,gregorian j\
+ulian\nMarie Magdalene,feast 7-22,gregorian julian\nJacobi,feast 7-25,gregorian julian\nJakobi,feast 7-25,gregorian jul\
+ian\nAnnae,feast 7-26,gregorian julian\nPetri ad vincula,feast 8-1,gregorian julian\nPetri Kettenfeier,feast 8-1,gregor\
+ian julian\nLammas,feast 8-1,gregorian julian\nLaurentii,feast 8-10,gregorian julian\nAssumptionis Mariae,feast 8-15,gr\
+egorian julian\nMariä Himmelfahrt,feast 8-15,gregorian julian\nAssomption,feast 8-15,gregorian julian\nBartholomaei,fe\
+ast 8-24,gregorian julian\nBartholomäi,feast 8-24,gregorian julian\nBartholomei,feast 8-24,gregorian julian\nDecollati\
+onis Johannis,feast 8-29,gregorian julian\nAegidii,feast 9-1,gregorian julian\nEgidii,feast 9-1,gregorian julian\nNativ\
+itatis Mariae,feast 9-8,gregorian julian\nMariä Geburt,feast 9-8,gregorian julian\nExaltationis crucis,feast 9-14,greg\
+orian julian\nKreuzerhöhung,feast 9-14,gregorian julian\nHoly Cross Day,feast 9-14,gregorian julian\nLamberti,feast 9-\
+17,gregorian julian\nMatthaei,feast 9-21,gregorian julian\nMatthäi,feast 9-21,gregorian julian\nMauritii,feast 9-22,gr\
+egorian julian\nMichaelis,feast 9-29,gregorian julian\nMichael,feast 9-29,gregorian julian\nMichaelmas,feast 9-29,grego\
+rian julian\nSaint-Michel,feast 9-29,gregorian julian\nRemigii,feast 10-1,gregorian julian\nFrancisci,feast 10-4,gregor\
+ian julian\nDionysii,feast 10-9,gregorian julian\nGalli,feast 10-16,gregorian julian\nLucae,feast 10-18,gregorian julia\
+n\nUndecim milium virginum,feast 10-21,gregorian julian\nCrispini et Crispiniani,feast 10-25,gregorian julian\nSimonis \
+et Judae,feast 10-28,gregorian julian\nSimonis et Jude,feast 10-28,gregorian julian\nAllerheiligen,feast 11-1,gregoria\
+n julian\nOmnium Sanctorum,feast 11-1,gregorian julian\nAll Saints,feast 11-1,gregorian julian\nToussaint,feast 11-1,gr\
+egorian julian\nAllerseelen,feast 11-2,gregorian julian\nAnimarum,feast 11-2,gregorian julian\nAll Souls,feast 11-2,gre\
+gorian julian\nLeonhardi,feast 11-6,gregorian julian\nMartini,feast 11-11,gregorian julian\nMartinmas,feast 11-11,grego\
+rian julian\nSaint-Martin,feast 11-11,gregorian julian\nElisabethae,feast 11-19,gregorian julian\nPraesentationis Maria\
+e,feast 11-21,gregorian julian\nCaeciliae,feast 11-22,gregorian julian\nClementis,feast 11-23,gregorian julian\nCathari\
+nae,feast 11-25,gregorian julian\nKatharinae,feast 11-25,gregorian julian\nKatherine,feast 11-25,gregorian julian\nAndr\
+eae,feast 11-30,gregorian julian\nAndree,feast 11-30,gregorian julian\nBarbarae,feast 12-4,gregorian julian\nNicolai,fe\
+ast 12-6,gregorian julian\nNikolai,feast 12-6,gregorian julian\nConceptionis Mariae,feast 12-8,gregorian julian\nMari\
+ä Empfängnis,feast 12-8,gregorian julian\nLuciae,feast 12-13,gregorian julian\nLucie,feast 12-13,gregorian julian\nTh\
+omae,feast 12-21,gregorian julian\nThome,feast 12-21,gregorian julian\nHeiligabend,feast 12-24,gregorian julian\nWeihna\
+chten,feast 12-25,gregorian julian\nNativitatis Domini,feast 12-25,gregorian julian\nNativitatis Christi,feast 12-25,gr\
+egorian julian\nNativitatis,feast 12-25,gregorian julian\nChristmas,feast 12-25,gregorian julian\nChristmas Day,feast 1\
+2-25,gregorian julian\nNoël,feast 12-25,gregorian julian\nStephani,feast 12-26,gregorian julian\nJohannis Evangelistae\
+,feast 12-27,gregorian julian\nInnocentum,feast 12-28,gregorian julian\nUnschuldige Kinder,feast 12-28,gregorian julian\
+\nSilvestri,feast 12-31,gregorian julian\nSilvester,feast 12-31,gregorian julian\nPurificationis Mariae virginis,feast \
+2-2,gregorian julian\nPurificationis Marie virginis,feast 2-2,gregorian julian\nPurificationis Marie,feast 2-2,gregoria\
+n julian\nPurificationis beatae Mariae,feast 2-2,gregorian julian\nPurificationis beate Marie,feast 2-2,gregorian julia\
+n\nPurificationis beatae Mariae virginis,feast 2-2,gregorian julian\nPurificationis beate Marie virginis,feast 2-2,greg\
+orian julian\nPurificationis B M V,feast 2-2,gregorian julian\nAnnunciationis Mariae virginis,feast 3-25,gregorian juli\
+an\nAnnunciationis Marie virginis,feast 3-25,gregorian julian\nAnnunciationis Marie,feast 3-25,gregorian julian\nAnnunc\
+iationis beatae Mariae,feast 3-25,gregorian julian\nAnnunciationis beate Marie,feast 3-25,gregorian julian\nAnnunciatio\
+nis beatae Mariae virginis,feast 3-25,gregorian julian\nAnnunciationis beate Marie virginis,feast 3-25,gregorian julian\
+\nAnnunciationis B M V,feast 3-25,gregorian julian\nAnnuntiationis Mariae virginis,feast 3-25,gregorian julian\nAnnunti\
+ationis Marie virginis,feast 3-25,gregorian julian\nAnnuntiationis Marie,feast 3-25,gregorian julian\nAnnuntiationis be\
+atae Mariae,feast 3-25,gregorian julian\nAnnuntiationis beate Marie,feast 3-25,gregorian julian\nAnnuntiationis beatae \
+Mariae virginis,feast 3-25,gregorian julian\nAnnuntiationis beate Marie virginis,feast 3-25,gregorian julian\nAnnuntiat\
+ionis B M V,feast 3-25,gregorian julian\nVisitationis Mariae virginis,feast 7-2,gregorian julian\nVisitationis Marie vi\
+rginis,feast 7-2,gregorian julian\nVisitationis Marie,feast 7-2,gregorian julian\nVisitationis beatae Mariae,feast 7-2,\
+gregorian julian\nVisitationis beate Marie,feast 7-2,gregorian julian\nVisitationis beatae Mariae virginis,feast 7-2,gr\
+egorian julian\nVisitationis beate Marie virginis,feast 7-2,gregorian julian\nVisitationis B M V,feast 7-2,gregorian ju\
+lian\nAssumptionis Mariae virginis,feast 8-15,gregorian julian\nAssumptionis Marie virginis,feast 8-15,gregorian julian\
+\nAssumptionis Marie,feast 8-15,gregorian julian\nAssumptionis beatae Mariae,feast 8-15,gregorian julian\nAssumptionis \
+beate Marie,feast 8-15,gregorian julian\nAssumptionis beatae Mariae virginis,feast 8-15,gregorian julian\nAssumptionis \
+beate Marie virginis,feast 8-15,gregorian julian\nAssumptionis B M V,feast 8-15,gregorian julian\nNativitatis Mariae vi\
+rginis,feast 9-8,gregorian julian\nNativitatis Marie virginis,feast 9-8,gregorian julian\nNativitatis Marie,feast 9-8,g\
+regorian julian\nNativitatis beatae Mariae,feast 9-8,gregorian julian\nNativitatis beate Marie,feast 9-8,gregorian juli\
+an\nNativitatis beatae Mariae virginis,feast 9-8,gregorian julian\nNativitatis beate Marie virginis,feast 9-8,gregoria\
+n julian\nNativitatis B M V,feast 9-8,gregorian julian\nConceptionis Mariae virginis,feast 12-8,gregorian julian\nConce\
+ptionis Marie virginis,feast 12-8,gregorian julian\nConceptionis Marie,feast 12-8,gregorian julian\nConceptionis beata\
+e Mariae,feast 12-8,gregorian julian\nConceptionis beate Marie,feast 12-8,gregorian julian\nConceptionis beatae Mariae \
+virginis,feast 12-8,gregorian julian\nConceptionis beate Marie virginis,feast 12-8,gregorian julian\nConceptionis B M V\
+,feast 12-8,gregorian julian\nÉpiphanie,feast 1-6,gregorian julian\nTheophaniae,feast 1-6,gregorian julian\nEpiphania\
+e Domini,feast 1-6,gregorian julian\nEpiphanie Domini,feast 1-6,gregorian julian\nThomae martyris,feast 12-29,gregoria\
+n julian\nThome martyris,feast 12-29,gregorian julian\nStephani protomartyris,feast 12-26,gregorian julian\nMichaelista\
+g,feast 9-29,gregorian julian\nMartinstag,feast 11-11,gregorian julian\nMartinitag,feast 11-11,gregorian julian\nWeihna\
+chtstag,feast 12-25,gregorian julian\nChristtag,feast 12-25,gregorian julian\nPaschatis,easter 0,gregorian julian\nPasc\
+hatos,easter 0,gregorian julian\nPfingsttag,easter 49,gregorian julian\nHimmelfahrtstag,easter 39,gregorian julian\nFro\
+nleichnamstag,easter 60,gregorian julian\nChristmas Eve,feast 12-24,gregorian julian\nNew Year's Day,feast 1-1,gregoria\
+n julian\nNew Year’s Day,feast 1-1,gregorian julian\nNeujahrstag,feast 1-1,gregorian julian\nInnocentium,feast 12-28,\
+gregorian julian\ninfra octavam,after,gregorian julian\nEpiphaniam,feast 1-6,gregorian julian\nEpiphania Domini,feast 1\
+-6,gregorian julian\nNativitas Domini,feast 12-25,gregorian julian\nCircumcisio Domini,feast 1-1,gregorian julian\nferi\
+a secunda Paschae,easter 1,gregorian julian\nferia tertia Paschae,easter 2,gregorian julian\nAscensio Domini,easter 39,\
+gregorian julian\nferia secunda Pentecostes,easter 50,gregorian julian\nferia tertia Pentecostes,easter 51,gregorian ju\
+lian\nConversio Pauli,feast 1-25,gregorian julian\nPurificatio Mariae,feast 2-2,gregorian julian\nAnnuntiatio Mariae,fe\
+ast 3-25,gregorian julian\nInventio crucis,feast 5-3,gregorian julian\nNativitas Johannis Baptistae,feast 6-24,gregoria\
+n julian\nVisitatio Mariae,feast 7-2,gregorian julian\nDivisio apostolorum,feast 7-15,gregorian julian\nAssumptio Maria\
+e,feast 8-15,gregorian julian\nDecollatio Johannis,feast 8-29,gregorian julian\nNativitas Mariae,feast 9-8,gregorian ju\
+lian\nExaltatio crucis,feast 9-14,gregorian julian\nPraesentatio Mariae,feast 11-21,gregorian julian\nConceptio Mariae,\
+feast 12-8,gregorian julian\nante,,roman\nante diem,,roman\na,,roman\nden,,\nder,,\ndes,,\ndem,,\nam,,\nvom,,\nim,,\nin\
+,,\nanno,year,\nanno domini,year,\nao,year,\nAD,year,\nA D,year,\nthe,,\nof,,\non,,\nday,day,\nle,,\nla,,\ndu,,\nde,,\n\
+l'an,year,\nl’an,year,\nan,year,\nannée,year,\nl'année,year,\nl’année,year,\nen,,\nil,,\ndel,,\ndell'anno,year,\
+\ndell’anno,year,\nel,,\ndía,day,\ndel año,year,\naño,year,\ndnia,day,\nroku,year,\nr,year,\ndne,day,\ndie,day,\nd\
+e dato,,\nvan,,\nhet,,\ner,,\nère,,\nere,,\nème,,\neme,,\nre,,\nst,,\nnd,,\nrd,,\nth,,\nte,,\nter,,gregorian julian h\
+ebrew islamic french republican\nsten,,\nste,,\ntes,,\nens,,\nº,,\nª,,\no,,\ne,,\nster,,\nyear,year,\nyear of our Lor\
+d,year,\nof our Lord,year,\nour Lord,year,\nJahr,year,\nJahre,year,\nJahres,year,\nnach Christi Geburt,year,\nn Chr,yea\
+r,\nanno Dni,year,\nanno salutis,year,\nanni,year,\nannus,year,\nAo Dni,year,\nA°,year,\nAº,year,\njaar,year,\njaer,y\
+ear,\ndo ano,year,\nano,year,\nannée de grâce,year,\nl'an de grâce,year,\nl’an de grâce,year,\nl'an de grace,year\
+,\nl’an de grace,year,\nгода,year,\nгоду,year,\nгодъ,year,\nгода от Рождества Христо\
+ва,year,\nг,year,\nлета,year,\når,year,\naar,year,\nár,year,\nAnno Christi,year,\nnell'anno,year,\nnell’anno\
+,year,\nго,,\nого,,\nye,,\njour de,day,\nдня,day,\nчисла,day,\ndag,day,\nTag des,day,\ndì,day,\na dì,day\
+,\nadì,day,\naddì,day,\nde la République,,french republican\nde la Republique,,french republican\nde la République \
+française,,french republican\nde la République francaise,,french republican\nde la République françoise,,french rep\
+ublican\nde la Republique francaise,,french republican\nde la Republique françoise,,french republican\nde la Republiqu\
+e francoise,,french republican\nde la République une et indivisible,,french republican\nde la République française u\
+ne et indivisible,,french republican\nder Republik,,french republican\nder fränkischen Republik,,french republican\nde\
+r französischen Republik,,french republican\nder fränk. Republik,,french republican\nder frz. Republik,,french republ\
+ican\nrépublicain,,french republican\nrépublicaine,,french republican\nde l'ère républicaine,,french republican\nd\
+e l’ère républicaine,,french republican\nfestum,,gregorian julian\nfesti,,gregorian julian\nfest,,gregorian julian\
+\nfeast of,,gregorian julian\nfête de,,gregorian julian\ndivi,,gregorian julian\ndivae,,gregorian julian\nbeate,,grego\
+rian julian\nsancte,,gregorian julian\nfesto,,gregorian julian\nin festo,,gregorian julian\nin die,day,gregorian julian\
+\nS,,gregorian julian\nSankt,,gregorian julian\nsancti,,gregorian julian\nsanctae,,gregorian julian\nbeati,,gregorian j\
+ulian\nbeatae,,gregorian julian\napostoli,,gregorian julian\napostolorum,,gregorian julian\nevangelistae,,gregorian jul\
+ian\narchangeli,,gregorian julian\nten jare,year,\nJan y,month 1,gregorian julian\nJan ry,month 1,gregorian julian\nFe\
+b y,month 2,gregorian julian\nFeb ry,month 2,gregorian julian\nMch,month 3,gregorian julian\nAp'l,month 4,gregorian jul\
+ian\nAp’l,month 4,gregorian julian\nAp l,month 4,gregorian julian\nAug't,month 8,gregorian julian\nAug’t,month 8,gr\
+egorian julian\nAug t,month 8,gregorian julian\nSept'r,month 9,gregorian julian\nSept’r,month 9,gregorian julian\nSep\
+t r,month 9,gregorian julian\nSep'r,month 9,gregorian julian\nSep’r,month 9,gregorian julian\nSep r,month 9,gregoria\
+n julian\nOct'r,month 10,gregorian julian\nOct’r,month 10,gregorian julian\nOct r,month 10,gregorian julian\nNov'r,mo\
+nth 11,gregorian julian\nNov’r,month 11,gregorian julian\nNov r,month 11,gregorian julian\nDec'r,month 12,gregorian j\
+ulian\nDec’r,month 12,gregorian julian\nDec r,month 12,gregorian julian\nJanuarie,month 1,gregorian julian\nJanuarye,\
+month 1,gregorian julian\nFebruarie,month 2,gregorian julian\nFebruarye,month 2,gregorian julian\nMarche,month 3,gregor\
+ian julian\nAprill,month 4,gregorian julian\nMaye,month 5,gregorian julian\nMaie,month 5,gregorian julian\nIune,month 6\
+,gregorian julian\nIuly,month 7,gregorian julian\nIulie,month 7,gregorian julian\nJulie,month 7,gregorian julian\nJulye\
+,month 7,gregorian julian\nAuguste,month 8,gregorian julian\nSeptemb,month 9,gregorian julian\nOctob,month 10,gregoria\
+n julian\nNovemb,month 11,gregorian julian\nDecemb,month 12,gregorian julian\nLord's Day,weekday 0,\nLord’s Day,weekd\
+ay 0,\nLords Day,weekday 0,\nWeds,weekday 3,\nWednes,weekday 3,\nJanuario,month 1,gregorian julian\nIanuario,month 1,gr\
+egorian julian\nFebruario,month 2,gregorian julian\nMartio,month 3,gregorian julian\nAprili,month 4,gregorian julian\nI\
+unio,month 6,gregorian julian\nIulio,month 7,gregorian julian\nAugusto,month 8,gregorian julian\nSeptembri,month 9,greg\
+orian julian\n7bri,month 9,gregorian julian\nVII bris,month 9,gregorian julian\nOctobri,month 10,gregorian julian\n8bri\
+,month 10,gregorian julian\nVIII bris,month 10,gregorian julian\nNovembri,month 11,gregorian julian\n9bri,month 11,greg\
+orian julian\nIX bris,month 11,gregorian julian\nDecembri,month 12,gregorian julian\n10bri,month 12,gregorian julian\nX\
+bri,month 12,gregorian julian\nX bris,month 12,gregorian julian\nX ber,month 12,gregorian julian\nX bre,month 12,gregor\
+ian julian\nIanuar,month 1,gregorian julian\nSeptembr,month 9,gregorian julian\nNovembr,month 11,gregorian julian\nDece\
+mbr,month 12,gregorian julian\ndie Solis,weekday 0,\ndies Solis,weekday 0,\nferia II,weekday 1,\nfer 2,weekday 1,\nfer \
+II,weekday 1,\nferia III,weekday 2,\nfer 3,weekday 2,\nfer III,weekday 2,\nferia IV,weekday 3,\nferia IIII,weekday 3,\n\
+fer 4,weekday 3,\nfer IV,weekday 3,\nferia V,weekday 4,\nfer 5,weekday 4,\nfer V,weekday 4,\nferia VI,weekday 5,\nfer 6\
+,weekday 5,\nfer VI,weekday 5,\nsabbati,weekday 6,\nsabbathi,weekday 6,\ndie Sabbathi,weekday 6,\nsabbatho,weekday 6,\n\
+іануарій,month 1,gregorian julian\nіануарія,month 1,gregorian julian\nянуарій,month 1,gregorian \
+julian\nянуарія,month 1,gregorian julian\nфев,month 2,gregorian julian\nфевруарій,month 2,gregorian \
+julian\nфевруарія,month 2,gregorian julian\nмартъ,month 3,gregorian julian\nаприлій,month 4,gregor\
+ian julian\nаприлія,month 4,gregorian julian\nмаій,month 5,gregorian julian\nмаія,month 5,gregorian juli\
+an\nмаия,month 5,gregorian julian\nмайя,month 5,gregorian julian\nіуній,month 6,gregorian julian\nіуні\
+я,month 6,gregorian julian\nиюния,month 6,gregorian julian\nіюн,month 6,gregorian julian\nіулій,month 7,g\
+regorian julian\nіулія,month 7,gregorian julian\nиюлия,month 7,gregorian julian\nіюл,month 7,gregorian jul\
+ian\nавгустъ,month 8,gregorian julian\nсептемврій,month 9,gregorian julian\nсептемврія,mont\
+h 9,gregorian julian\nсен,month 9,gregorian julian\nсентебря,month 9,gregorian julian\nоктоврій,mont\
+h 10,gregorian julian\nоктоврія,month 10,gregorian julian\nоктебря,month 10,gregorian julian\nноемв\
+рій,month 11,gregorian julian\nноемврія,month 11,gregorian julian\nноя,month 11,gregorian julian\nдек\
+емврій,month 12,gregorian julian\nдекемврія,month 12,gregorian julian\nвоскресеніе,weekday 0,\
+\nвоскресение,weekday 0,\nвоскр,weekday 0,\nвс,weekday 0,\nпонедѣльникъ,weekday 1,\nпо\
+недѣльник,weekday 1,\nпн,weekday 1,\nвторникъ,weekday 2,\nвт,weekday 2,\nсреду,weekday 3,\nс\
+ереду,weekday 3,\nср,weekday 3,\nчетвергъ,weekday 4,\nчетвертокъ,weekday 4,\nчт,weekday 4,\n\
+пятницу,weekday 5,\nпятокъ,weekday 5,\nпт,weekday 5,\nсубботу,weekday 6,\nсб,weekday 6,\nсїч\
+ень,month 1,gregorian julian\nсїчня,month 1,gregorian julian\nмарець,month 3,gregorian julian\nмарця\
+,month 3,gregorian julian\nкві,month 4,gregorian julian\nцвітень,month 4,gregorian julian\nцвітня,mont\
+h 4,gregorian julian\nтра,month 5,gregorian julian\nчер,month 6,gregorian julian\nжов,month 10,gregorian julia\
+n\nлис,month 11,gregorian julian\nгру,month 12,gregorian julian\nнеділю,weekday 0,\nнд,weekday 0,\nп'я\
+тниця,weekday 5,\nп’ятниця,weekday 5,\nп'ятницю,weekday 5,\nп’ятницю,weekday 5,\nпʼят\
+ницю,weekday 5,\nсуботу,weekday 6,\nJanuárius,month 1,gregorian julian\nFebruárius,month 2,gregorian julian\
+\nMártius,month 3,gregorian julian\nMárczius,month 3,gregorian julian\nMártzius,month 3,gregorian julian\nMarcius,mo\
+nth 3,gregorian julian\nDeczember,month 12,gregorian julian\nDeczber,month 12,gregorian julian\njanuár hó,month 1,gre\
+gorian julian\njanuár hava,month 1,gregorian julian\njanuár havának,month 1,gregorian julian\nfebruár hó,month 2,g\
+regorian julian\nfebruár hava,month 2,gregorian julian\nfebruár havának,month 2,gregorian julian\nmárcius hó,mont\
+h 3,gregorian julian\nmárcius hava,month 3,gregorian julian\nmárcius havának,month 3,gregorian julian\náprilis hó,\
+month 4,gregorian julian\náprilis hava,month 4,gregorian julian\náprilis havának,month 4,gregorian julian\nmájus h\
+ó,month 5,gregorian julian\nmájus hava,month 5,gregorian julian\nmájus havának,month 5,gregorian julian\njúnius h\
+ó,month 6,gregorian julian\njúnius hava,month 6,gregorian julian\njúnius havának,month 6,gregorian julian\njúlius \
+hó,month 7,gregorian julian\njúlius hava,month 7,gregorian julian\njúlius havának,month 7,gregorian julian\nauguszt\
+us hó,month 8,gregorian julian\naugusztus hava,month 8,gregorian julian\naugusztus havának,month 8,gregorian julian\n\
+szeptember hó,month 9,gregorian julian\nszeptember hava,month 9,gregorian julian\nszeptember havának,month 9,gregoria\
+n julian\noktóber hó,month 10,gregorian julian\noktóber hava,month 10,gregorian julian\noktóber havának,month 10,g\
+regorian julian\nnovember hó,month 11,gregorian julian\nnovember hava,month 11,gregorian julian\nnovember havának,mon\
+th 11,gregorian julian\ndecember hó,month 12,gregorian julian\ndecember hava,month 12,gregorian julian\ndecember havá\
+nak,month 12,gregorian julian\nBoldogasszony hava,month 1,gregorian julian\nBöjtelő hava,month 2,gregorian julian\nB\
+öjtmás hava,month 3,gregorian julian\nSzent György hava,month 4,gregorian julian\nPünkösd hava,month 5,gregorian j\
+ulian\nSzent Iván hava,month 6,gregorian julian\nSzent Jakab hava,month 7,gregorian julian\nKisasszony hava,month 8,gr\
+egorian julian\nSzent Mihály hava,month 9,gregorian julian\nMindszent hava,month 10,gregorian julian\nSzent András ha\
+va,month 11,gregorian julian\nKarácsony hava,month 12,gregorian julian\nvasarnap,weekday 0,\nhétfőn,weekday 1,\nhetf\
+o,weekday 1,\nhétf,weekday 1,\nkedden,weekday 2,\nszerdán,weekday 3,\nszerdan,weekday 3,\ncsütörtökön,weekday 4,\
+\ncsutortok,weekday 4,\ncsüt,weekday 4,\npénteken,weekday 5,\npentek,weekday 5,\npént,weekday 5,\nszombaton,weekday \
+6,\nszomb,weekday 6,\nJaneyro,month 1,gregorian julian\nJanro,month 1,gregorian julian\nJan ro,month 1,gregorian julian\
+\nFevereyro,month 2,gregorian julian\nFevro,month 2,gregorian julian\nFev ro,month 2,gregorian julian\nmarso,month 3,gr\
+egorian julian\nSeptembro,month 9,gregorian julian\n7bro,month 9,gregorian julian\nSetbro,month 9,gregorian julian\nOct\
+ubro,month 10,gregorian julian\n8bro,month 10,gregorian julian\nOutbro,month 10,gregorian julian\n9bro,month 11,gregori\
+an julian\nNovbro,month 11,gregorian julian\nDecembro,month 12,gregorian julian\n10bro,month 12,gregorian julian\nXbro,\
+month 12,gregorian julian\nDezbro,month 12,gregorian julian\nmês de janeiro,month 1,gregorian julian\nmez de janeiro,m\
+onth 1,gregorian julian\ndo mês de janeiro,month 1,gregorian julian\ndo mez de janeiro,month 1,gregorian julian\nmês \
+de fevereiro,month 2,gregorian julian\nmez de fevereiro,month 2,gregorian julian\ndo mês de fevereiro,month 2,gregoria\
+n julian\ndo mez de fevereiro,month 2,gregorian julian\nmês de março,month 3,gregorian julian\nmez de março,month 3,\
+gregorian julian\ndo mês de março,month 3,gregorian julian\ndo mez de março,month 3,gregorian julian\nmês de abril,\
+month 4,gregorian julian\nmez de abril,month 4,gregorian julian\ndo mês de abril,month 4,gregorian julian\ndo mez de a\
+bril,month 4,gregorian julian\nmês de maio,month 5,gregorian julian\nmez de maio,month 5,gregorian julian\ndo mês de \
+maio,month 5,gregorian julian\ndo mez de maio,month 5,gregorian julian\nmês de junho,month 6,gregorian julian\nmez de \
+junho,month 6,gregorian julian\ndo mês de junho,month 6,gregorian julian\ndo mez de junho,month 6,gregorian julian\nm\
+ês de julho,month 7,gregorian julian\nmez de julho,month 7,gregorian julian\ndo mês de julho,month 7,gregorian julian\
+\ndo mez de julho,month 7,gregorian julian\nmês de agosto,month 8,gregorian julian\nmez de agosto,month 8,gregorian ju\
+lian\ndo mês de agosto,month 8,gregorian julian\ndo mez de agosto,month 8,gregorian julian\nmês de setembro,month 9,g\
+regorian julian\nmez de setembro,month 9,gregorian julian\ndo mês de setembro,month 9,gregorian julian\ndo mez de sete\
+mbro,month 9,gregorian julian\nmês de outubro,month 10,gregorian julian\nmez de outubro,month 10,gregorian julian\ndo \
+mês de outubro,month 10,gregorian julian\ndo mez de outubro,month 10,gregorian julian\nmês de novembro,month 11,grego\
+rian julian\nmez de novembro,month 11,gregorian julian\ndo mês de novembro,month 11,gregorian julian\ndo mez de novemb\
+ro,month 11,gregorian julian\nmês de dezembro,month 12,gregorian julian\nmez de dezembro,month 12,gregorian julian\nd\
+o mês de dezembro,month 12,gregorian julian\ndo mez de dezembro,month 12,gregorian julian\nseg,weekday 1,\n2ª feira,w\
+eekday 1,\nterca-feira,weekday 2,\n3ª feira,weekday 2,\nqua,weekday 3,\n4ª feira,weekday 3,\nqui,weekday 4,\n5ª feir\
+a,weekday 4,\n6ª feira,weekday 5,\nsáb,weekday 6,\nsabado,weekday 6,\nsab,weekday 6,\nenº,month 1,gregorian julian\n\
+en.º,month 1,gregorian julian\nhenero,month 1,gregorian julian\nfebº,month 2,gregorian julian\nhebrero,month 2,gregor\
+ian julian\nfebro,month 2,gregorian julian\nmço,month 3,gregorian julian\nmzo,month 3,gregorian julian\nabl,month 4,gr\
+egorian julian\njunº,month 6,gregorian julian\njulº,month 7,gregorian julian\nagto,month 8,gregorian julian\nagº,mon\
+th 8,gregorian julian\nag to,month 8,gregorian julian\nseptbre,month 9,gregorian julian\nsetbre,month 9,gregorian julia\
+n\noctbre,month 10,gregorian julian\notubre,month 10,gregorian julian\nnobiembre,month 11,gregorian julian\nnovbre,mont\
+h 11,gregorian julian\nnovre,month 11,gregorian julian\ndiziembre,month 12,gregorian julian\ndeziembre,month 12,gregori\
+an julian\ndicbre,month 12,gregorian julian\ndizbre,month 12,gregorian julian\ndel mes de enero,month 1,gregorian julia\
+n\ndel mes de febrero,month 2,gregorian julian\ndel mes de marzo,month 3,gregorian julian\ndel mes de abril,month 4,gre\
+gorian julian\ndel mes de mayo,month 5,gregorian julian\ndel mes de junio,month 6,gregorian julian\ndel mes de julio,mo\
+nth 7,gregorian julian\ndel mes de agosto,month 8,gregorian julian\ndel mes de septiembre,month 9,gregorian julian\nde\
+l mes de octubre,month 10,gregorian julian\ndel mes de noviembre,month 11,gregorian julian\ndel mes de diciembre,month \
+12,gregorian julian\nmié,weekday 3,\nmiercoles,weekday 3,\nmie,weekday 3,\njue,weekday 4,\nvie,weekday 5,\nKânunusani\
+,month 1,gregorian julian\nKanunusani,month 1,gregorian julian\nKânun-ı sani,month 1,gregorian julian\nKanun-ı sani,\
+month 1,gregorian julian\nİkincikânun,month 1,gregorian julian\nİkinci Kânun,month 1,gregorian julian\nSonkânun,mo\
+nth 1,gregorian julian\nSonkanun,month 1,gregorian julian\nKânunisani,month 1,gregorian julian\nsubat,month 2,gregoria\
+n julian\nNİSAN,month 4,gregorian julian\nmayis,month 5,gregorian julian\nHAZİRAN,month 6,gregorian julian\nagustos,m\
+onth 8,gregorian julian\neylul,month 9,gregorian julian\nEylûl,month 9,gregorian julian\nEKİM,month 10,gregorian juli\
+an\nTeşrinievvel,month 10,gregorian julian\nTeşrin-i evvel,month 10,gregorian julian\nTesrinievvel,month 10,gregoria\
+n julian\nBirinciteşrin,month 10,gregorian julian\nBirinci Teşrin,month 10,gregorian julian\nİlkteşrin,month 10,gre\
+gorian julian\nkasim,month 11,gregorian julian\nTeşrinisani,month 11,gregorian julian\nTeşrin-i sani,month 11,gregori\
+an julian\nTesrinisani,month 11,gregorian julian\nİkinciteşrin,month 11,gregorian julian\nİkinci Teşrin,month 11,gr\
+egorian julian\nSonteşrin,month 11,gregorian julian\nSontesrin,month 11,gregorian julian\naralik,month 12,gregorian ju\
+lian\nKânunuevvel,month 12,gregorian julian\nKanunuevvel,month 12,gregorian julian\nKânun-ı evvel,month 12,gregoria\
+n julian\nKanun-ı evvel,month 12,gregorian julian\nBirincikânun,month 12,gregorian julian\nBirinci Kânun,month 12,gr\
+egorian julian\nİlkkânun,month 12,gregorian julian\nKânunievvel,month 12,gregorian julian\nPaz,weekday 0,\nPzt,weekd\
+ay 1,\nsali,weekday 2,\nÇar,weekday 3,\ncarsamba,weekday 3,\npersembe,weekday 4,\nCmt,weekday 6,\nPazar günü,weekda\
+y 0,\nPazartesi günü,weekday 1,\nSalı günü,weekday 2,\nÇarşamba günü,weekday 3,\nPerşembe günü,weekday 4,\n\
+Cuma günü,weekday 5,\nCumartesi günü,weekday 6,\nΙανουαριος,month 1,gregorian julian\nΦεβρουαρι\
+ος,month 2,gregorian julian\nΜαρτιος,month 3,gregorian julian\nΑπριλιος,month 4,gregorian julian\nΜα\
+ιος,month 5,gregorian julian\nΙουνιος,month 6,gregorian julian\nΙουλιος,month 7,gregorian julian\nΑυ\
+γουστος,month 8,gregorian julian\nΣεπτεμβριος,month 9,gregorian julian\nΟκτωβριος,month 10,g\
+regorian julian\nΝοεμβριος,month 11,gregorian julian\nΔεκεμβριος,month 12,gregorian julian\nΙανο\
+υαριου,month 1,gregorian julian\nΦεβρουαριου,month 2,gregorian julian\nΜαρτιου,month 3,gregoria\
+n julian\nΑπριλιου,month 4,gregorian julian\nΜαιου,month 5,gregorian julian\nΙουνιου,month 6,gregor\
+ian julian\nΙουλιου,month 7,gregorian julian\nΑυγουστου,month 8,gregorian julian\nΣεπτεμβριο\
+υ,month 9,gregorian julian\nΟκτωβριου,month 10,gregorian julian\nΝοεμβριου,month 11,gregorian julian\
+\nΔεκεμβριου,month 12,gregorian julian\nἸανουάριος,month 1,gregorian julian\nἸανουαρίου\
+,month 1,gregorian julian\nἈπρίλιος,month 4,gregorian julian\nἈπριλίου,month 4,gregorian julian\nΜά\
+ϊος,month 5,gregorian julian\nἸούνιος,month 6,gregorian julian\nἸουνίου,month 6,gregorian julian\n\
+Ἰούλιος,month 7,gregorian julian\nἸουλίου,month 7,gregorian julian\nΑὔγουστος,month 8,gregori\
+an julian\nΑὐγούστου,month 8,gregorian julian\nὈκτώβριος,month 10,gregorian julian\nὈκτωβρί\
+ου,month 10,gregorian julian\nΓενάρης,month 1,gregorian julian\nΓενάρη,month 1,gregorian julian\nΦλε\
+βάρης,month 2,gregorian julian\nΦλεβάρη,month 2,gregorian julian\nΜάρτης,month 3,gregorian julian\nΜ\
+άρτη,month 3,gregorian julian\nΑπρίλης,month 4,gregorian julian\nΑπρίλη,month 4,gregorian julian\nΜά\
+ης,month 5,gregorian julian\nΜάη,month 5,gregorian julian\nΙούνης,month 6,gregorian julian\nΙούνη,mont\
+h 6,gregorian julian\nΙούλης,month 7,gregorian julian\nΙούλη,month 7,gregorian julian\nΣεπτέμβρης,\
+month 9,gregorian julian\nΣεπτέμβρη,month 9,gregorian julian\nΟκτώβρης,month 10,gregorian julian\nΟκ\
+τώβρη,month 10,gregorian julian\nΝοέμβρης,month 11,gregorian julian\nΝοέμβρη,month 11,gregorian jul\
+ian\nΔεκέμβρης,month 12,gregorian julian\nΔεκέμβρη,month 12,gregorian julian\nΓεναρης,month 1,g\
+regorian julian\nΓεναρη,month 1,gregorian julian\nΦλεβαρης,month 2,gregorian julian\nΦλεβαρη,mont\
+h 2,gregorian julian\nΜαρτης,month 3,gregorian julian\nΜαρτη,month 3,gregorian julian\nΑπριλης,month \
+4,gregorian julian\nΑπριλη,month 4,gregorian julian\nΜαης,month 5,gregorian julian\nΜαη,month 5,gregorian \
+julian\nΙουνης,month 6,gregorian julian\nΙουνη,month 6,gregorian julian\nΙουλης,month 7,gregorian juli\
+an\nΙουλη,month 7,gregorian julian\nΣεπτεμβρης,month 9,gregorian julian\nΣεπτεμβρη,month 9,greg\
+orian julian\nΟκτωβρης,month 10,gregorian julian\nΟκτωβρη,month 10,gregorian julian\nΝοεμβρης,mo\
+nth 11,gregorian julian\nΝοεμβρη,month 11,gregorian julian\nΔεκεμβρης,month 12,gregorian julian\nΔεκ\
+εμβρη,month 12,gregorian julian\nἸαν,month 1,gregorian julian\nΦεβρ,month 2,gregorian julian\nΜάρ,mont\
+h 3,gregorian julian\nΜαρτ,month 3,gregorian julian\nἈπρ,month 4,gregorian julian\nΜάι,month 5,gregorian jul\
+ian\nΜαϊ,month 5,gregorian julian\nΜαι,month 5,gregorian julian\nΙούν,month 6,gregorian julian\nἸουν,mon\
+th 6,gregorian julian\nΙούλ,month 7,gregorian julian\nἸουλ,month 7,gregorian julian\nΑύγ,month 8,gregorian \
+julian\nΑὐγ,month 8,gregorian julian\nΣεπτ,month 9,gregorian julian\nὈκτ,month 10,gregorian julian\nΟκτ\
+ωβρ,month 10,gregorian julian\nΝοέ,month 11,gregorian julian\nΝοεμβρ,month 11,gregorian julian\nΔεκεμ\
+βρ,month 12,gregorian julian\nΚυριακη,weekday 0,\nΔευτερα,weekday 1,\nΤριτη,weekday 2,\nΤεταρ\
+τη,weekday 3,\nΠεμπτη,weekday 4,\nΠαρασκευη,weekday 5,\nΣαββατο,weekday 6,\nΚυρ,weekday 0,\n\
+Κυριακήν,weekday 0,\nΔευ,weekday 1,\nΔευτέραν,weekday 1,\nΤρί,weekday 2,\nΤρι,weekday 2,\nΤρ\
+ίτην,weekday 2,\nΤετ,weekday 3,\nΤετάρτην,weekday 3,\nΠέμ,weekday 4,\nΠεμ,weekday 4,\nΠέμπτη\
+ν,weekday 4,\nΠαρ,weekday 5,\nΠαρασκευήν,weekday 5,\nΣάβ,weekday 6,\nΣαβ,weekday 6,\nΣάββατο\
+ν,weekday 6,\ntammi,month 1,gregorian julian\ntammik,month 1,gregorian julian\ntammikuun,month 1,gregorian julian\nhel\
+mi,month 2,gregorian julian\nhelmik,month 2,gregorian julian\nhelmikuun,month 2,gregorian julian\nmaalis,month 3,gregor\
+ian julian\nmaalisk,month 3,gregorian julian\nmaaliskuun,month 3,gregorian julian\nhuhti,month 4,gregorian julian\nhuht\
+ik,month 4,gregorian julian\nhuhtikuun,month 4,gregorian julian\ntouko,month 5,gregorian julian\ntoukok,month 5,gregori\
+an julian\ntoukokuun,month 5,gregorian julian\nkesä,month 6,gregorian julian\nkesäk,month 6,gregorian julian\nkesäku\
+un,month 6,gregorian julian\nheinä,month 7,gregorian julian\nheinäk,month 7,gregorian julian\nheinäkuun,month 7,greg\
+orian julian\nelo,month 8,gregorian julian\nelok,month 8,gregorian julian\nelokuun,month 8,gregorian julian\nsyys,mont\
+h 9,gregorian julian\nsyysk,month 9,gregorian julian\nsyyskuun,month 9,gregorian julian\nloka,month 10,gregorian julian\
+\nlokak,month 10,gregorian julian\nlokakuun,month 10,gregorian julian\nmarras,month 11,gregorian julian\nmarrask,month \
+11,gregorian julian\nmarraskuun,month 11,gregorian julian\njoulu,month 12,gregorian julian\njouluk,month 12,gregorian j\
+ulian\njoulukuun,month 12,gregorian julian\nkesakuu,month 6,gregorian julian\nkesakuuta,month 6,gregorian julian\nkesak\
+uun,month 6,gregorian julian\nheinakuu,month 7,gregorian julian\nheinakuuta,month 7,gregorian julian\nheinakuun,month 7\
+,gregorian julian\nsu,weekday 0,\nsunnuntaina,weekday 0,\nmaanantaina,weekday 1,\ntiistaina,weekday 2,\nke,weekday 3,\n\
+keskiviikkona,weekday 3,\ntorstaina,weekday 4,\npe,weekday 5,\nperjantaina,weekday 5,\nlauantaina,weekday 6,\nsön,week\
+day 0,\nsöndagen,weekday 0,\nsondag,weekday 0,\nmån,weekday 1,\nmåndagen,weekday 1,\ntis,weekday 2,\ntisdagen,weekda\
+y 2,\nons,weekday 3,\nonsdagen,weekday 3,\ntors,weekday 4,\ntorsdagen,weekday 4,\nthorsdag,weekday 4,\nfre,weekday 5,\n\
+fredagen,weekday 5,\nlör,weekday 6,\nlördagen,weekday 6,\nlordag,weekday 6,\nsøn,weekday 0,\nsøndagen,weekday 0,\ns\
+undag,weekday 0,\nman,weekday 1,\nmandagen,weekday 1,\ntirs,weekday 2,\ntirsdagen,weekday 2,\ntysdag,weekday 2,\ntys,we\
+ekday 2,\ntor,weekday 4,\nlør,weekday 6,\nlørdagen,weekday 6,\nløverdag,weekday 6,\nlaurdag,weekday 6,\nlau,weekday \
+6,\nniedz,weekday 0,\npon,weekday 1,\nwt,weekday 2,\nśr,weekday 3,\ngio,weekday 4,\nczw,weekday 4,\nčt,weekday 4,\npt\
+,weekday 5,\npá,weekday 5,\nsob,weekday 6,\nsze,weekday 3,\nçrş,weekday 3,\ncs,weekday 4,\nprş,weekday 4,\nszo,week\
+day 6,\ncts,weekday 6,\nέτος,year,\nέτους,year,\nἔτος,year,\nἔτους,year,\nvuonna,year,\névi,year,\
+\név,year,\nesztendő,year,\nesztendőben,year,\nроку,year,\nрік,year,\nyılı,year,\npäivänä,day,\npäivä,\
+day,\npäivää,day,\nnapján,day,\nnapja,day,\nnapjan,day,\nnap,day,\nчислѣ,day,\nчисле,day,\ndias,day,\ndia\
+,day,\nр,year,\nén,,\nán,,\njén,,\nik,,\ndik,,\nikén,,\ndikén,,\nkén,,\nkán,,\nй,,\nе,,\nое,,\nаго,,\nη\
+ν,,\nης,,\nτη,,\nτῇ,,\nτην,,\nτὴν,,\nτου,,\nτοῦ,,\naos,,\nв воскресенье,weekday 0,\n\
+въ воскресенье,weekday 0,\nвъ воскресеніе,weekday 0,\nв понедельник,weekday 1,\n\
+въ понедѣльникъ,weekday 1,\nво вторник,weekday 2,\nво вторникъ,weekday 2,\nв сред\
+у,weekday 3,\nвъ среду,weekday 3,\nв середу,weekday 3,\nвъ середу,weekday 3,\nв четверг,\
+weekday 4,\nвъ четвергъ,weekday 4,\nв пятницу,weekday 5,\nвъ пятницу,weekday 5,\nв субб\
+оту,weekday 6,\nвъ субботу,weekday 6,\ngregor.,gregorian,\ngregor,gregorian,\ngrég.,gregorian,\ngrég,greg\
+orian,\nst. n.,gregorian,\nst.n.,gregorian,\nst. nov.,gregorian,\nst. novi,gregorian,\nstili novi,gregorian,\nstyli nov\
+i,gregorian,\nnovo stilo,gregorian,\nnovo stylo,gregorian,\ngregorianska kalendern,gregorian,\nnya stilen,gregorian,\nn\
+y stil,gregorian,\nnya stil,gregorian,\ngregorianske kalender,gregorian,\nden gregorianske kalender,gregorian,\nden gre\
+gorianske kalenderen,gregorian,\ngregorianske,gregorian,\ngregoriaaninen,gregorian,\ngregoriaaninen kalenteri,gregorian\
+,\nuutta lukua,gregorian,\nuusi luku,gregorian,\nGergely-naptár,gregorian,\nGergely-féle naptár,gregorian,\ngergely-\
+féle,gregorian,\nGergely-naptár szerint,gregorian,\núj naptár,gregorian,\ncalendário gregoriano,gregorian,\nestil\
+o novo,gregorian,\nmiladi,gregorian,\nmilâdî,gregorian,\nmiladî,gregorian,\nmiladi takvim,gregorian,\nGregoryen,greg\
+orian,\nGregoryen takvimi,gregorian,\nΓρηγοριανό,gregorian,\nΓρηγοριανό ημερολόγιο,gregor\
+ian,\nΓρηγοριανόν,gregorian,\nνέο ημερολόγιο,gregorian,\nνέον ἡμερολόγιον,grego\
+rian,\nν. ημ.,gregorian,\nν.ημ.,gregorian,\nн.ст.,gregorian,\nнов. ст.,gregorian,\nн. стиль,gregori\
+an,\nновый ст.,gregorian,\nнового стиля,gregorian,\nноваго стиля,gregorian,\nгригор\
+ианский календарь,gregorian,\nгригор.,gregorian,\nгригоріанський,gregorian,\nгри\
+горіанський календар,gregorian,\nновий стиль,gregorian,\nнового стилю,gregorian\
+,\nза новим стилем,gregorian,\ngregorianus,gregorian,\ncalendarium Gregorianum,gregorian,\nst. v.,julian,\
+\nst.v.,julian,\nst. vet.,julian,\nst. veteris,julian,\nstili veteris,julian,\nstyli veteris,julian,\nstilo veteri,juli\
+an,\nstylo vetere,julian,\nveteri stilo,julian,\nveteri stylo,julian,\nv. st.,julian,\nO. St.,julian,\njulianska kalend\
+ern,julian,\ngamla stilen,julian,\ngammal stil,julian,\ngamla stil,julian,\ngammel stil,julian,\njulianske kalender,jul\
+ian,\nden julianske kalender,julian,\nden julianske kalenderen,julian,\njulianske,julian,\njuliaaninen,julian,\njuliaan\
+inen kalenteri,julian,\nvanhaa lukua,julian,\nvanha luku,julian,\nJulianus,julian,\nJulianus-naptár,julian,\nJulián-n\
+aptár,julian,\nJulián-naptár szerint,julian,\nónaptár,julian,\nó-naptár,julian,\nrégi naptár,julian,\ncalendá\
+rio juliano,julian,\nestilo antigo,julian,\nestilo velho,julian,\nestilo viejo,julian,\nviejo estilo,julian,\nJülyen,j\
+ulian,\nJülyen takvimi,julian,\nJulyen,julian,\nΙουλιανό,julian,\nΙουλιανό ημερολόγιο,julian\
+,\nΙουλιανόν,julian,\nπαλαιό ημερολόγιο,julian,\nπαλαιόν ἡμερολόγιον,julian\
+,\nπαλιό ημερολόγιο,julian,\nπ. ημ.,julian,\nπ.ημ.,julian,\nс. ст.,julian,\nс.ст.,julian,\n\
+ст.ст.,julian,\nстар. ст.,julian,\nст. стиль,julian,\nс. стиль,julian,\nстарого стил\
+я,julian,\nстараго стиля,julian,\nюлианский календарь,julian,\nюл.,julian,\nюліан\
+ський,julian,\nюліанський календар,julian,\nстарий стиль,julian,\nстарого ст\
+илю,julian,\nза старим стилем,julian,\ncalendarium Julianum,julian,\nеврейский,hebrew,\nиу\
+дейский,hebrew,\nевр.,hebrew,\nєврейський,hebrew,\nhéber,hebrew,\nzsidó,hebrew,\nhebraico,hebrew,\
+\njudaico,hebrew,\ncalendário hebraico,hebrew,\ncalendario hebreo,hebrew,\ncalendario judío,hebrew,\nİbrani,hebrew,\
+\nMusevi,hebrew,\nMusevî,hebrew,\nΕβραϊκό,hebrew,\nἙβραϊκό,hebrew,\nΙουδαϊκό,hebrew,\nheprealai\
+nen,hebrew,\njuutalainen,hebrew,\nhebreisk,hebrew,\nhebreiska,hebrew,\njudisk,hebrew,\njudiska,hebrew,\nhebraisk,hebrew\
+,\nhebraiske,hebrew,\njødisk,hebrew,\njødiske,hebrew,\nhebraicus,hebrew,\njudaicus,hebrew,\nмусульмански\
+й,islamic,\nисламский,islamic,\nхиджра,islamic,\nхиджры,islamic,\nмусульманський,is\
+lamic,\nісламський,islamic,\nгіджра,islamic,\niszlám,islamic,\nmohamedán,islamic,\nhidzsra,islamic,\n\
+islâmico,islamic,\nmuçulmano,islamic,\nhégira,islamic,\nhicri takvim,islamic,\nΙσλαμικό,islamic,\nΜουσο\
+υλμανικό,islamic,\nΕγίρα,islamic,\nislamilainen,islamic,\nislamisk,islamic,\nislamiska,islamic,\nmuslimsk,\
+islamic,\nmuslimska,islamic,\nislamiske,islamic,\nmuslimske,islamic,\nrep.,republican,\nrep,republican,\nrép,republica\
+n,\nrépub.,republican,\nrépubl.,republican,\nrepub.,republican,\nrepubl.,republican,\ncalendario republicano,republic\
+an,\ncalendário republicano,republican,\nреспубликанский,republican,\nфранцузский респу\
+бликанский,republican,\nреспубліканський,republican,\nköztársasági,republican,\nforradalmi\
+,republican,\nrepublikansk,republican,\nrepublikanska,republican,\nrepublikanske,republican,\ntasavaltalainen,republica\
+n,\ncopt.,coptic,\ncopt,coptic,\nкоптский,coptic,\nкоптський,coptic,\ncopta,coptic,\nKıpti,coptic,\nK\
+ıptî,coptic,\nΚοπτικό,coptic,\nkoptilainen,coptic,\nkoptisk,coptic,\nkoptiska,coptic,\nkoptiske,coptic,\neth.,\
+ethiopic,\nэфиопский,ethiopic,\nефіопський,ethiopic,\netióp,ethiopic,\netíope,ethiopic,\nHabeş,et\
+hiopic,\nΑιθιοπικό,ethiopic,\netiopialainen,ethiopic,\netiopisk,ethiopic,\netiopiska,ethiopic,\netiopiske,ethi\
+opic,\nегипетский,egyptian,\nєгипетський,egyptian,\negyiptomi,egyptian,\negípcio,egyptian,\nΑι\
+γυπτιακό,egyptian,\negyptiläinen,egyptian,\negyptisk,egyptian,\negyptiska,egyptian,\negyptiske,egyptian,\nægy\
+ptisk,egyptian,\nармянский,armenian,\nвірменський,armenian,\nörmény,armenian,\narmênio,armenian,\
+\narménio,armenian,\nErmeni,armenian,\nΑρμενικό,armenian,\narmenialainen,armenian,\narmenisk,armenian,\narmeni\
+ska,armenian,\narmensk,armenian,\narmenske,armenian,\nримский,roman,\nримський,roman,\nrómai,roman,\nΡ\
+ωμαϊκό,roman,\nroomalainen,roman,\nromersk,roman,\nromerska,roman,\nromerske,roman,\n\
 "
 );

@@ -1,10 +1,10 @@
 -- When what is asked of a sheet is a choice, and which.
 use Rattle.std.proofs.Common.{◌≡◌, ◌≢◌, ◌↔◌, List, ℕ, false, length, map, refl, subst, sym, true}
 use Rattle.std.specs.Prelude.{Err, IfErr, IfOk, Ok, Result, nat_lt}
-use Rattle.date_texts.specs.declared.calendar.Calendar.{Calendar}
 use Rattle.register_records.specs.Entries.{Fields}
 use Rattle.register_records.specs.SetupRules.{is_delimiter}
 use Rattle.written_dates.specs.Fields.{bare_name, entries}
+use Rattle.written_dates.specs.declared.fields.CalendarMeaning.{CalendarMeaning}
 use Rattle.written_dates.specs.declared.fields.CalendarName.{CalendarName}
 use Rattle.written_dates.specs.declared.meanings.Name.{Name}
 use Rattle.register_sheets.specs.AskedOfSheets.{HasHeadings, IsChoice, IsChoiceBy, IsChoiceOf, IsListedChoice}
@@ -42,7 +42,7 @@ no_choice choice fault.Headings r is dates many twice delimiter headings ok =
     let (dated, once, right, other) = headings.0 is in other ok.headed
 
 -- the choice is the same by what is the same
-same_choice : (a b : SheetAsked) (m n : List Name) (p q : List (List ℕ × Calendar)) (x y : Fields)
+same_choice : (a b : SheetAsked) (m n : List Name) (p q : List (List ℕ × CalendarMeaning)) (x y : Fields)
     (choice : SheetChoice) → a ≡ b → m ≡ n → p ≡ q → x ≡ y → IsChoiceOf a m p x choice → IsChoiceOf b n q y choice
 same_choice a b m n p q x y choice ea em ep ex is = rw (ea, em, ep, ex) at is
 

@@ -1,9 +1,9 @@
 -- What is asked of a sheet, and the choice that it makes with names and headings.
 use Rattle.std.specs.Prelude.{◌≡◌, ℕ, true, List, [], get_or, length, map}
-use Rattle.date_texts.specs.declared.calendar.Calendar.{Calendar}
 use Rattle.register_records.specs.Entries.{Fields, text_records}
 use Rattle.register_records.specs.SetupRules.{is_delimiter}
 use Rattle.written_dates.specs.Fields.{bare_name, entries}
+use Rattle.written_dates.specs.declared.fields.CalendarMeaning.{CalendarMeaning}
 use Rattle.written_dates.specs.declared.fields.CalendarName.{CalendarName}
 use Rattle.written_dates.specs.declared.meanings.Name.{Name}
 use Rattle.written_dates.specs.declared.written.Choice.{Choice}
@@ -30,7 +30,7 @@ pub record SheetAsked : Type 0 where
   pub columns : List AskedColumn
 
 -- the choice is what is asked of a sheet, with these names in dates, these of calendars, and these headings
-pub record IsChoiceOf (asked : SheetAsked) (names : List Name) (calendars : List (List ℕ × Calendar))
+pub record IsChoiceOf (asked : SheetAsked) (names : List Name) (calendars : List (List ℕ × CalendarMeaning))
     (headings : Fields) (choice : SheetChoice) : Type 0 where
   pub delimiter : choice.delimiter ≡ asked.delimiter
   pub above : choice.above ≡ asked.above

@@ -12,7 +12,7 @@ use Rattle.date_texts.specs.declared.target.TheConstants.{MAX_TARGETS}
 use Rattle.register_records.specs.Entries.{Fields, Numbered, body_of}
 use Rattle.register_records.specs.SetupRules.{NamesTwice}
 use Rattle.register_records.specs.declared.setups.Form.TheVariants.{Plain}
-use Rattle.written_dates.specs.Fields.{entries, written_calendar}
+use Rattle.written_dates.specs.Fields.{calendar_meant, entries, is_both, written_calendar}
 use Rattle.written_dates.specs.declared.fields.CalendarNames.{CalendarNames}
 use Rattle.register_sheets.specs.declared.choices.AskedColumn.{AskedColumn}
 use Rattle.register_sheets.specs.declared.choices.AskedColumn.TheVariants.{Cells, Church, DayNumber, Weekday}
@@ -77,6 +77,11 @@ id_text (id.Column place) number fields = get_or fields place []
 abbrev pub calendar_text : CalendarNames → CalendarField → Fields → List ℕ
 calendar_text names (calendar.All calendar) fields = calendar_name calendar
 calendar_text names (calendar.Column place) fields = written_calendar (entries names) (get_or fields place [])
+
+-- the field of the calendar says that dates stand in both styles, by the names
+abbrev pub in_both_styles : CalendarNames → CalendarField → Fields → Bool
+in_both_styles names (calendar.All calendar) fields = false
+in_both_styles names (calendar.Column place) fields = is_both (calendar_meant (entries names) (get_or fields place []))
 
 -- the calendar that a text of a register names
 abbrev pub is_name : List ℕ → Calendar → Bool

@@ -4,6 +4,7 @@ use Rattle.std.specs.Prelude.{◌++◌, Option, codes, get_or, length}
 use Rattle.std.specs.Result.{result_ok}
 use Rattle.date_texts.specs.declared.calendar.Calendar.{Calendar}
 use Rattle.date_spans.specs.Spans.{IsSpan, marks}
+use Rattle.date_spans.specs.Styles.{IsWrittenInBoth}
 use Rattle.date_spans.specs.declared.sayings.Kind.{Kind}
 use Rattle.date_spans.specs.declared.sayings.Kind.TheVariants as kinds
 use Rattle.date_spans.specs.declared.spans.Marks.{Marks}
@@ -14,7 +15,7 @@ use Rattle.register_records.specs.Outcomes.{IsRowOf, TableRow}
 use Rattle.written_dates.specs.Written.{written}
 use Rattle.written_dates.specs.declared.meanings.Name.{Name}
 use Rattle.written_dates.specs.declared.written.Choice.{Choice}
-use Rattle.register_sheets.specs.Choices.{asked_targets, called_for, register_entry}
+use Rattle.register_sheets.specs.Choices.{asked_targets, called_for, in_both_styles, register_entry}
 use Rattle.register_sheets.specs.declared.choices.DateColumn.{DateColumn}
 use Rattle.register_sheets.specs.declared.choices.End.{End}
 use Rattle.register_sheets.specs.declared.choices.End.TheVariants as ends
@@ -35,11 +36,18 @@ AreEndsBy spans.Ends reading calendar names field first last found = IsSpan read
 AreEndsBy spans.EndsAndEdtf reading calendar names field first last found =
     IsSpan reading calendar names field first last found
 
--- those of a record's date in a column, by the rules of dates in the calendar that was found
+-- in both styles it is one day: the Gregorian date that is written for it
+abbrev pub AreEndsIn : Bool → Spans → Choice → Option Calendar → List Name → List ℕ → List ℕ → List ℕ → Marks → Type 0
+AreEndsIn true kind reading calendar names field first last found =
+    IsWrittenInBoth reading names field first × (last ≡ first) × (found ≡ day_marks)
+AreEndsIn false kind reading calendar names field first last found =
+    AreEndsBy kind reading calendar names field first last found
+
+-- those of a record's date in a column, in both styles or by the rules of dates in the calendar that was found
 abbrev pub AreEnds : SheetChoice → DateColumn → Fields → List ℕ → List ℕ → Marks → Type 0
 AreEnds choice column fields first last found =
-    AreEndsBy choice.spans choice.reading (called_for choice column fields) choice.names.now.listed.now
-    (get_or fields column.date []) first last found
+    AreEndsIn (in_both_styles choice.calendars.now column.calendar fields) choice.spans choice.reading
+    (called_for choice column fields) choice.names.now.listed.now (get_or fields column.date []) first last found
 
 -- one of them
 abbrev pub end_text : End → List ℕ → List ℕ → List ℕ

@@ -1,6 +1,6 @@
 -- Lists of names: a CSV text with the columns `name`, `means` and `in`, by a form of this project.
 use Rattle.std.specs.Prelude.{◌≡◌, ◌≢◌, ◌+◌, ◌==◌, ◌++◌, ℕ, Bool, true, false, List, [], ◌∷◌, ⊤, All, Any, codes}
-use Rattle.std.specs.Prelude.{get_or, length, map}
+use Rattle.std.specs.Prelude.{get_or, length, map, Option, None, Some}
 use Rattle.std.specs.Prelude.{IsUtf8}
 use Rattle.std.specs.List.{flat_map, list_any, slice_split}
 use Rattle.std.specs.Str.{bytes_eq, str_to_ascii_lowercase}
@@ -9,6 +9,8 @@ use Rattle.date_texts.specs.Names.{IsNamed}
 use Rattle.date_texts.specs.Trimmed.{trimmed}
 use Rattle.date_texts.specs.declared.calendar.Calendar.{Calendar}
 use Rattle.register_records.specs.Entries.{Fields}
+use Rattle.written_dates.specs.declared.fields.CalendarMeaning.{CalendarMeaning}
+use Rattle.written_dates.specs.declared.fields.CalendarMeaning.TheVariants as meant
 use Rattle.written_dates.specs.declared.fields.CalendarName.{CalendarName}
 use Rattle.written_dates.specs.declared.meanings.Calendars.{Calendars}
 use Rattle.written_dates.specs.declared.meanings.Meaning.{Meaning}
@@ -128,13 +130,19 @@ in_dates line other = []
 abbrev pub names_in_dates : List NameLine → List (List ℕ × Meaning × Calendars)
 names_in_dates lines = flat_map (λ line. in_dates line line.means) lines
 
-abbrev pub calendar_seen : CalendarName → List ℕ × Calendar
-calendar_seen name = (name.text.now, name.calendar)
+abbrev pub calendar_seen : CalendarName → List ℕ × CalendarMeaning
+calendar_seen name = (name.text.now, name.meaning)
 
-abbrev pub of_calendar : NameLine → Means → List (List ℕ × Calendar)
-of_calendar line (means.Calendar calendar) = (line.text.items, calendar) ∷ []
-of_calendar line other = []
+-- what a name means in the field of a calendar, if it does
+abbrev pub calendar_in : Means → Option CalendarMeaning
+calendar_in (means.Calendar calendar) = Some (meant.One calendar)
+calendar_in means.Both = Some meant.Both
+calendar_in other = None
 
--- the names of a list that mean a calendar
-abbrev pub calendar_names_in : List NameLine → List (List ℕ × Calendar)
-calendar_names_in lines = flat_map (λ line. of_calendar line line.means) lines
+abbrev pub of_calendar : NameLine → Option CalendarMeaning → List (List ℕ × CalendarMeaning)
+of_calendar line None = []
+of_calendar line (Some meaning) = (line.text.items, meaning) ∷ []
+
+-- the names of a list that mean a calendar or both styles
+abbrev pub calendar_names_in : List NameLine → List (List ℕ × CalendarMeaning)
+calendar_names_in lines = flat_map (λ line. of_calendar line (calendar_in line.means)) lines

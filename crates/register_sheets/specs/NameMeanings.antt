@@ -110,4 +110,5 @@ SaysMeaning field (meaning.Word word) = field ≡ word_name word
 abbrev pub Says : List ℕ → Means → Type 0
 Says field (means.InDates meaning) = SaysMeaning field meaning
 Says field (means.Calendar calendar) = IsNamed field (calendar_name calendar)
+Says field means.Both = field ≡ codes "both"
 Says field means.Open = field ≡ codes "?"

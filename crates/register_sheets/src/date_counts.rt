@@ -3,11 +3,10 @@
 ghost use Rattle.std.specs.Prelude.{◌≡◌, ◌∷◌, [], ◌≤◌, List, length, map};
 ghost use Rattle.csv.specs.Records.{fields_of};
 ghost use Rattle.register_records.specs.Entries.{record_limit};
-ghost use Rattle.register_records.specs.Seen.{outcome_seen};
 ghost use Rattle.register_sheets.specs.CountViews.{AreUpTo, CountsDates, CountsRecord, IsUpTo};
 ghost use Rattle.register_sheets.specs.DateCounts.{AreDateCounts, AreSheetCounts};
 ghost use Rattle.register_sheets.specs.DateCounts.{is_blank as blank_spec, is_blank_record as record_spec};
-ghost use Rattle.register_sheets.specs.DateCounts.{is_of_empty as of_empty_spec, is_one_day as one_spec};
+ghost use Rattle.register_sheets.specs.DateCounts.{is_of_empty as of_empty_spec};
 ghost use Rattle.register_sheets.specs.SheetRecords.{dated_seen};
 ghost use Rattle.register_sheets.specs.declared.choices.DateColumn.{DateColumn as DateColumnValue};
 
@@ -16,7 +15,6 @@ use crate::reading::field_at;
 use crate::sheet_records::ColumnDates;
 use csv::ByteRecord;
 use date_texts::Refusal;
-use day_numbers::Day;
 use register_records::RefusalCounts;
 use written_dates::without_blanks;
 
@@ -71,16 +69,6 @@ fn is_of_empty(refusal: Refusal) -> bool
     matches!(refusal, Refusal::UnknownCalendar | Refusal::DateText)
 }
 
-/// Whether two outcomes are one day.
-fn is_one_day(first: Result<Day, Refusal>, last: Result<Day, Refusal>) -> bool
-    ensures { result ≡ one_spec (outcome_seen first) (outcome_seen last) }
-{
-    match (first, last) {
-        (Ok(first), Ok(last)) => first.number() == last.number(),
-        _ => false,
-    }
-}
-
 impl DateCounts {
     /// None yet.
     pub fn none() -> DateCounts
@@ -100,7 +88,7 @@ impl DateCounts {
         ensures { CountsDates ((field.now, dated_seen dates.now) ∷ []) self.old self.new }
     {
         match dates.told().row.outcome() {
-            Ok(_) if is_one_day(dates.first.row.outcome(), dates.last().row.outcome()) => {}
+            Ok(_) if dates.is_one_day() => {}
             Ok(_) => self.spans += 1,
             Err(refusal) if is_blank(field) && is_of_empty(refusal) => self.empty += 1,
             Err(refusal) => {

@@ -5,7 +5,8 @@ ghost use Rattle.csv.specs.Records.{fields_of};
 ghost use Rattle.register_records.specs.Entries.{text_records};
 ghost use Rattle.register_sheets.specs.NameLists.{IsFaultOf, IsLine, IsListOf, IsRefused, columns};
 ghost use Rattle.register_sheets.specs.NameLists.{can_mean as can_mean_spec};
-ghost use Rattle.register_sheets.specs.NameLists.{calendar_names_in, calendar_seen, name_seen, names_in_dates};
+ghost use Rattle.register_sheets.specs.NameLists.{calendar_in as calendar_spec, calendar_names_in, calendar_seen};
+ghost use Rattle.register_sheets.specs.NameLists.{name_seen, names_in_dates};
 ghost use Rattle.register_sheets.specs.Reading.{IsReading, left_of};
 ghost use Rattle.register_sheets.specs.Sheets.{chosen};
 
@@ -15,7 +16,7 @@ use crate::reading::{field_at, read_next, records_of};
 use csv::{ByteRecord, Reader};
 use std::alloc::{AllocError, Global};
 use std::str;
-use written_dates::{CalendarName, Calendars, Name, is_name};
+use written_dates::{CalendarMeaning, CalendarName, Calendars, Name, is_name};
 
 /// A name, and what it means.
 #[derive(Drop)]
@@ -28,7 +29,7 @@ pub struct NameLine {
     pub calendars: Calendars,
 }
 
-/// A list of names: what each means in dates, or which calendar it means.
+/// A list of names: what each means in dates, or where the calendar of a date stands.
 #[derive(Drop)]
 pub struct NameList {
     /// The names, in order.
@@ -80,6 +81,17 @@ fn can_mean(text: &[u8], means: Means) -> bool
     }
 }
 
+/// What a name means where the calendar of a date stands, if it does.
+fn calendar_in(means: Means) -> Option<CalendarMeaning>
+    ensures { result ≡ calendar_spec means }
+{
+    match means {
+        Means::Calendar(calendar) => Some(CalendarMeaning::One(calendar)),
+        Means::Both => Some(CalendarMeaning::Both),
+        _ => None,
+    }
+}
+
 /// The line of a record with this number.
 fn line_of(alloc: Global, record: &ByteRecord, number: usize) -> Result<NameLine, NameListFault>
     ensures line { IfOk result (IsLine (fields_of record.now)) }
@@ -112,10 +124,10 @@ impl NameList {
     /// Reads a list: CSV with commas, of which the first record is the header `name,means,in`, with any columns behind
     /// these. `means` is `month 1` to `month 13`, a number up to 999999999, the mark `K`, `N` or `I`, `weekday 0` for Sunday
     /// to `weekday 6`, `decade 1` to `decade 10`, `after`, `before`, `eve`, `morrow`, `octave`, a feast as `easter -28`,
-    /// `feast 9-29`, `feast 3-1 -5` or `sunday advent 3`, Sundays as `sundays lent`, a calendar, nothing, or `?`, by which a
-    /// name stays open. `in` has the calendars in which the name means this, with a space between two; all where it is
-    /// empty. `name` is any text where it means a calendar or stays open; else it has a number or a word, and no
-    /// character that no date has.
+    /// `feast 9-29`, `feast 3-1 -5` or `sunday advent 3`, Sundays as `sundays lent`, a calendar, `both` styles, nothing, or
+    /// `?`, by which a name stays open. `in` has the calendars in which the name means this, with a space between two; all
+    /// where it is empty. `name` is any text where it means a calendar or both styles, or stays open; else it has a number
+    /// or a word, and no character that no date has.
     ///
     /// # Errors
     ///
@@ -175,16 +187,16 @@ impl NameList {
         Ok(names)
     }
 
-    /// The names that mean a calendar, in order.
+    /// The names that mean a calendar or both styles, in order.
     pub fn calendar_names(&self, alloc: Global) -> Result<Vec<CalendarName<'_>>, AllocError>
         ensures { IfOk result (λ names. map calendar_seen names.items ≡ calendar_names_in self.now.lines.items) }
     {
         let mut names = Vec::new(alloc);
         'lines: for line in &self.lines {
-            if let Means::Calendar(calendar) = line.means {
+            if let Some(meaning) = calendar_in(line.means) {
                 names.push(CalendarName {
                     text: line.text.as_slice(),
-                    calendar,
+                    meaning,
                 })?;
             }
         }

@@ -24,6 +24,8 @@ pub enum Means {
     InDates(Meaning),
     /// This calendar.
     Calendar(Calendar),
+    /// Both styles, where the calendar of a date stands.
+    Both,
     /// That is not said yet.
     Open,
 }
@@ -183,6 +185,8 @@ pub(crate) fn means_said(field: &str) -> Option<Means>
 {
     if field == "?" {
         Some(Means::Open)
+    } else if field == "both" {
+        Some(Means::Both)
     } else if let Some(meaning) = meaning_said(field) {
         Some(Means::InDates(meaning))
     } else {

@@ -7,7 +7,8 @@ ghost use Rattle.register_records.specs.Outcomes.{IsRowOf};
 ghost use Rattle.register_records.specs.Seen.{outcome_seen};
 ghost use Rattle.register_records.specs.Views.{row_seen};
 ghost use Rattle.register_sheets.specs.Choices.{asked_targets};
-ghost use Rattle.register_sheets.specs.DateEnds.{AreEndsBy, IsEdtfOf, asks_edtf as asks_spec, end_text};
+ghost use Rattle.register_sheets.specs.DateCounts.{is_one_day as one_day_spec};
+ghost use Rattle.register_sheets.specs.DateEnds.{AreEndsBy, AreEndsIn, IsEdtfOf, asks_edtf as asks_spec, end_text};
 ghost use Rattle.register_sheets.specs.DateEnds.{has_edtf as has_spec, is_failed, is_open};
 ghost use Rattle.register_sheets.specs.DateEnds.{sense_of as sense_spec, telling as telling_spec, told};
 ghost use Rattle.register_sheets.specs.DateViews.{HasRows, entry_of};
@@ -22,7 +23,7 @@ use crate::reasons::Reason;
 use crate::register_fields::{calendar_of, id_of};
 use crate::stops::{DateStop, NameStop, stop_by};
 use csv::ByteRecord;
-use date_spans::{Kind, Marks, write_span};
+use date_spans::{Kind, Marks, write_in_both, write_span};
 use date_texts::{Calendar, Refusal};
 use day_numbers::Day;
 use edtf_texts::{Sense, write_edtf};
@@ -182,6 +183,16 @@ fn telling<'a>(first: &'a ReadEnd, last: &'a ReadEnd) -> &'a ReadEnd
     }
 }
 
+/// Whether two outcomes are one day.
+fn is_one_day(first: Result<Day, Refusal>, last: Result<Day, Refusal>) -> bool
+    ensures { result ≡ one_day_spec (outcome_seen first) (outcome_seen last) }
+{
+    match (first, last) {
+        (Ok(first), Ok(last)) => first.number() == last.number(),
+        _ => false,
+    }
+}
+
 /// The day of an outcome.
 fn day_of(outcome: Result<Day, Refusal>) -> Option<Day>
     ensures { option_map (λ day. day.number) result ≡ result_ok (outcome_seen outcome) }
@@ -247,14 +258,31 @@ impl ColumnDates {
     }
 
     /// The end that tells whether the date was refused.
+    #[tactic(auto, using(crate::proofs::DateLemmas::telling_itself))]
     pub fn told(&self) -> &ReadEnd
         ensures { (end_seen result.now).row ≡ told (dated_seen self.now) }
     {
-        telling(&self.first, self.last())
+        if self.has_last {
+            telling(&self.first, &self.last)
+        } else {
+            &self.first
+        }
     }
 
-    /// Writes the first and the last day that a field can mean, as date texts of registers.
-    fn put_ends(
+    /// Whether the first and the last day are one.
+    #[tactic(auto, using(crate::proofs::DateLemmas::one_day_itself))]
+    pub fn is_one_day(&self) -> bool
+        ensures { result ≡ one_day_spec (dated_seen self.now).first.row.outcome (dated_seen self.now).last.row.outcome }
+    {
+        if self.has_last {
+            is_one_day(self.first.row.outcome(), self.last.row.outcome())
+        } else {
+            self.first.row.outcome().is_ok()
+        }
+    }
+
+    /// Writes the first and the last day that a field can mean in a calendar, as date texts of registers.
+    fn put_in_calendar(
         &mut self,
         choice: &SheetChoice,
         called: Option<Calendar>,
@@ -290,6 +318,27 @@ impl ColumnDates {
                 Ok(())
             }
         }
+    }
+
+    /// Writes them for a field in both styles, or in a calendar.
+    fn put_ends(
+        &mut self,
+        choice: &SheetChoice,
+        called: Option<Calendar>,
+        both: bool,
+        field: &[u8],
+    ) -> Result<(), AllocError>
+        ensures ends { OnOk result (AreEndsIn both choice.now.spans choice.now.reading called
+            choice.now.names.now.listed.now field.now (dated_seen self.new).first.text (dated_seen self.new).last.text
+            self.new.marks) }
+        ensures calendar { self.new.calendar ≡ self.old.calendar }
+    {
+        if !both {
+            return self.put_in_calendar(choice, called, field);
+        }
+        self.has_last = false;
+        self.marks = DAY_MARKS;
+        write_in_both(&mut self.first.text, field, choice.names, &choice.reading)
     }
 
     /// Whether the text of EDTF is asked, and no date was refused.
@@ -345,10 +394,10 @@ impl ColumnDates {
             (IsDateRead setup.now.choice number (fields_of fields.now) column.now (date_seen self.new)) }
     {
         let choice = &setup.choice;
-        let (calendar, called) = calendar_of(choice.calendars, column.calendar, fields);
+        let (calendar, called, both) = calendar_of(choice.calendars, column.calendar, fields);
         copy_text(&mut self.calendar, calendar)?;
         let field = field_at(fields, column.date as usize);
-        self.put_ends(choice, called, field)?;
+        self.put_ends(choice, called, both, field)?;
         let stop = stop_by(choice, column, called, fields, self.first.text.as_slice());
         self.stop.renew(stop)?;
         let mut buffer = Buffer::new();

@@ -16,7 +16,8 @@ use register_sheets::{
 use std::alloc::Global;
 use std::test::Fail;
 use written_dates::{
-    CalendarName, CalendarNames, Calendars, Choice, Meaning, Name, Names, Order, Short,
+    CalendarMeaning, CalendarName, CalendarNames, Calendars, Choice, Meaning, Name, Names, Order,
+    Short,
 };
 
 /// What a name means in dates.
@@ -29,7 +30,7 @@ const NAMES: [Name<'static>; 1] = [Name {
 /// A name of a calendar.
 const CALENDARS: [CalendarName<'static>; 1] = [CalendarName {
     text: b"a. St.",
-    calendar: Calendar::Julian,
+    meaning: CalendarMeaning::One(Calendar::Julian),
 }];
 
 /// How dates are read in these tests.

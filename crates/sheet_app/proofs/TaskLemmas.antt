@@ -18,7 +18,6 @@ use Rattle.std.proofs.lemmas.Option.{unwrap_or-slice_get}
 use Rattle.clap.specs.Words.{Text}
 use Rattle.date_texts.specs.Calendars.{target_name}
 use Rattle.command_lines.specs.Values.{IsValueOf, delimiter_option}
-use Rattle.date_texts.specs.declared.calendar.Calendar.{Calendar}
 use Rattle.date_texts.specs.declared.calendar.Calendar.TheVariants as calendar
 use Rattle.date_texts.specs.declared.target.Target.{Target}
 use Rattle.date_texts.specs.declared.target.Target.TheVariants as target
@@ -39,6 +38,7 @@ use Rattle.sheet_arguments.specs.CommandLine.{Values}
 use Rattle.sheet_arguments.specs.Faults.{Fault, column_twice, unknown_column}
 use Rattle.sheet_arguments.specs.Requests.{Ask, Task}
 use Rattle.sheet_arguments.specs.WordLists.{all_columns, column_named, columns_asked, is_among, names_in, or_fault, with_columns}
+use Rattle.written_dates.specs.declared.fields.CalendarMeaning.{CalendarMeaning}
 use Rattle.written_dates.specs.declared.meanings.Name.{Name}
 use Rattle.sheet_app.specs.SheetViews.{IsTask}
 use Rattle.sheet_app.specs.Sheets.{IsAskedOf}
@@ -282,7 +282,7 @@ wanted_long several own kind columns (date ∷ dates) =
     ∙ grind (arith, here, rest)
 
 pub is_choice : (task : Task) (names headings : Fields) (asked : SheetAsked) (sheet : List ℕ) (in_dates : List Name)
-    (of_calendars : List (List ℕ × Calendar)) (choice : SheetChoice) → IsTask task → IsAskedOf task names asked
+    (of_calendars : List (List ℕ × CalendarMeaning)) (choice : SheetChoice) → IsTask task → IsAskedOf task names asked
     → HasHeadings asked sheet headings → IsChoiceOf asked in_dates of_calendars headings choice → IsChoice choice
 is_choice task names headings asked sheet in_dates of_calendars choice task_is is headed of =
     let own = get_or (text_records asked.delimiter sheet) asked.above [] in

@@ -12,6 +12,7 @@ use Rattle.written_dates.proofs.FrontLemmas.{first_blank, not_behind}
 use Rattle.written_dates.proofs.KindLemmas.{has_kind, none_of_kind}
 use Rattle.written_dates.proofs.KeyLemmas.{drop_drop}
 use Rattle.date_texts.specs.declared.calendar.Calendar.TheVariants.{Gregorian}
+use Rattle.written_dates.specs.declared.fields.CalendarMeaning.TheVariants.{One}
 use Rattle.written_dates.specs.declared.fields.CalendarName.{CalendarName}
 use Rattle.written_dates.specs.Fields.{bare_end, is_blank, kept_end, spelling, without_blanks}
 
@@ -84,7 +85,7 @@ drops_more text rest after x place e f =
 
 -- what a read past the end gives
 abbrev pub no_name : CalendarName
-no_name = record { text = record { ref_ptr = (0, 0); now = [] }; calendar = Gregorian }
+no_name = record { text = record { ref_ptr = (0, 0); now = [] }; meaning = One Gregorian }
 
 -- ---- a text without a byte that may be of a blank
 bare_whole : (ts : List Piece) → has_kind is_blank ts ≡ false → bare ts ≡ ts

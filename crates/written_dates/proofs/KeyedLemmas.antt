@@ -37,5 +37,5 @@ meant_next text names place next name there none keyed at =
 
 pub meant_here : (text : List ℕ) (names : List CalendarName) (place : ℕ) (name : CalendarName)
     → slice_get names place ≡ Some name → same_word name.text.now text ≡ true
-    → Some name.calendar ≡ meant_by (map entry (drop place names)) text
+    → Some name.meaning ≡ meant_by (map entry (drop place names)) text
 meant_here text names place name there h = rw (at_place names place name there, h) refl

@@ -4,6 +4,9 @@ use Rattle.std.specs.Prelude.{Option, Some, None}
 use Rattle.written_dates.specs.declared.tokens.Kind.{Kind}
 use Rattle.written_dates.specs.declared.tokens.Kind.TheVariants.{Blank}
 use Rattle.date_texts.specs.declared.calendar.Calendar.{Calendar}
+use Rattle.date_texts.specs.declared.calendar.Calendar.TheVariants.{Gregorian}
+use Rattle.written_dates.specs.declared.fields.CalendarMeaning.{CalendarMeaning}
+use Rattle.written_dates.specs.declared.fields.CalendarMeaning.TheVariants.{One, Both}
 use Rattle.written_dates.specs.declared.fields.CalendarName.{CalendarName}
 use Rattle.written_dates.specs.declared.fields.CalendarNames.{CalendarNames}
 use Rattle.date_texts.specs.Calendars.{calendar_name}
@@ -33,30 +36,40 @@ spelling (p ∷ rest) = p.text ++ spelling rest
 unfoldable pub without_blanks : List ℕ → List ℕ
 without_blanks text = spelling (bare_end (bare (tokens 0 text)))
 
--- a name without the blanks at its ends, and the calendar that it means
-abbrev pub bare_name : CalendarName → List ℕ × Calendar
-bare_name name = (without_blanks name.text.now, name.calendar)
+-- a name without the blanks at its ends, and what it means
+abbrev pub bare_name : CalendarName → List ℕ × CalendarMeaning
+bare_name name = (without_blanks name.text.now, name.meaning)
 
-abbrev pub entry : CalendarName → List ℕ × Calendar
-entry name = (name.text.now, name.calendar)
+abbrev pub entry : CalendarName → List ℕ × CalendarMeaning
+entry name = (name.text.now, name.meaning)
 
 -- the names, without blanks at their ends
-abbrev pub entries : CalendarNames → List (List ℕ × Calendar)
+abbrev pub entries : CalendarNames → List (List ℕ × CalendarMeaning)
 entries names = map entry names.bare.names.items
 
--- the calendar that the first of the names means which are the same as a text
-abbrev pub meant_by : List (List ℕ × Calendar) → List ℕ → Option Calendar
+-- what the first of the names means which are the same as a text
+abbrev pub meant_by : List (List ℕ × CalendarMeaning) → List ℕ → Option CalendarMeaning
 meant_by [] text = None
 meant_by (e ∷ rest) text = if same_word e.0 text then Some e.1 else meant_by rest text
 
--- the calendar that a field means
-abbrev pub calendar_meant : List (List ℕ × Calendar) → List ℕ → Option Calendar
+-- what a field means
+abbrev pub calendar_meant : List (List ℕ × CalendarMeaning) → List ℕ → Option CalendarMeaning
 calendar_meant names field = meant_by names (without_blanks field)
 
-abbrev pub or_field : List ℕ → Option Calendar → List ℕ
+-- the calendar of dates in it; of those in both styles the Gregorian one
+abbrev pub calendar_of : CalendarMeaning → Calendar
+calendar_of (One calendar) = calendar
+calendar_of Both = Gregorian
+
+abbrev pub or_field : List ℕ → Option CalendarMeaning → List ℕ
 or_field field None = field
-or_field field (Some calendar) = calendar_name calendar
+or_field field (Some meaning) = calendar_name (calendar_of meaning)
 
 -- what a register gets for a field: the calendar that it means by the names, or else the field as it is
-abbrev pub written_calendar : List (List ℕ × Calendar) → List ℕ → List ℕ
+abbrev pub written_calendar : List (List ℕ × CalendarMeaning) → List ℕ → List ℕ
 written_calendar names field = or_field field (calendar_meant names field)
+
+-- dates stand in both styles
+abbrev pub is_both : Option CalendarMeaning → Bool
+is_both (Some Both) = true
+is_both other = false

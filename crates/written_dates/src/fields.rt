@@ -3,7 +3,8 @@
 ghost use Rattle.std.specs.Prelude.{◌≡◌, map, IfOk};
 ghost use Rattle.std.specs.List.{list_any};
 ghost use Rattle.written_dates.specs.Fields.{without_blanks as without_spec, bare_name, entry, entries};
-ghost use Rattle.written_dates.specs.Fields.{calendar_meant, meant_by as meant_spec, written_calendar};
+ghost use Rattle.written_dates.specs.Fields.{calendar_meant, calendar_of, is_both as both_spec, meant_by as meant_spec};
+ghost use Rattle.written_dates.specs.Fields.{written_calendar};
 ghost use Rattle.written_dates.specs.SignViews.{may_be_blank as may_be_blank_spec};
 
 use crate::keyed_names::KeyedNames;
@@ -14,16 +15,47 @@ use crate::words::is_same_word;
 use date_texts::Calendar;
 use std::alloc::{AllocError, Global};
 
-/// A name that means a calendar.
+/// What a name in the field of a calendar means.
+#[derive(Clone, Copy, PartialEq, Eq)]
+pub enum CalendarMeaning {
+    /// This calendar.
+    One(Calendar),
+    /// Both styles: a date has the Julian day before a slash, and the Gregorian one behind it.
+    Both,
+}
+
+impl CalendarMeaning {
+    /// The calendar of dates in it; of those in both styles the Gregorian one.
+    pub fn calendar(self) -> Calendar
+        ensures { result ≡ calendar_of self }
+    {
+        match self {
+            CalendarMeaning::One(calendar) => calendar,
+            CalendarMeaning::Both => Calendar::Gregorian,
+        }
+    }
+}
+
+/// Whether dates stand in both styles.
+pub fn is_both(meaning: Option<CalendarMeaning>) -> bool
+    ensures { result ≡ both_spec meaning }
+{
+    match meaning {
+        Some(CalendarMeaning::Both) => true,
+        _ => false,
+    }
+}
+
+/// A name in the field of a calendar.
 #[derive(Clone, Copy)]
 pub struct CalendarName<'a> {
     /// The name: any text. Blanks at its ends do not matter.
     pub text: &'a [u8],
-    /// The calendar.
-    pub calendar: Calendar,
+    /// What it means.
+    pub meaning: CalendarMeaning,
 }
 
-/// Names that mean calendars.
+/// Names in the fields of calendars.
 #[derive(Drop)]
 pub struct CalendarNames<'a> {
     bare: KeyedNames<'a>,
@@ -58,8 +90,8 @@ pub fn without_blanks(text: &[u8]) -> &[u8]
     kept
 }
 
-/// The calendar that the first of these names means which a text is.
-fn meant_by(names: &KeyedNames, text: &[u8]) -> Option<Calendar>
+/// What the first of these names means which a text is.
+fn meant_by(names: &KeyedNames, text: &[u8]) -> Option<CalendarMeaning>
     ensures { result ≡ meant_spec (map entry names.now.names.items) text.now }
 {
     let listed = names.as_slice();
@@ -67,7 +99,7 @@ fn meant_by(names: &KeyedNames, text: &[u8]) -> Option<Calendar>
     'names: while place < listed.len() {
         let name = &listed[place];
         if is_same_word(name.text, text) {
-            return Some(name.calendar);
+            return Some(name.meaning);
         }
         place = names.next_behind(place);
     }
@@ -86,7 +118,7 @@ impl<'a> CalendarNames<'a> {
         'names: for name in listed {
             bare.push(CalendarName {
                 text: without_blanks(name.text),
-                calendar: name.calendar,
+                meaning: name.meaning,
             })?;
         }
         Ok(CalendarNames {
@@ -94,8 +126,8 @@ impl<'a> CalendarNames<'a> {
         })
     }
 
-    /// The calendar that a field means; `None` where it is none of the names.
-    pub fn meant(&self, field: &[u8]) -> Option<Calendar>
+    /// What a field means; `None` where it is none of the names.
+    pub fn meant(&self, field: &[u8]) -> Option<CalendarMeaning>
         ensures { result ≡ calendar_meant (entries self.now) field.now }
     {
         meant_by(&self.bare, without_blanks(field))
@@ -106,7 +138,7 @@ impl<'a> CalendarNames<'a> {
         ensures { result.now ≡ written_calendar (entries self.now) field.now }
     {
         match self.meant(field) {
-            Some(calendar) => calendar.name().as_bytes(),
+            Some(meaning) => meaning.calendar().name().as_bytes(),
             None => field,
         }
     }

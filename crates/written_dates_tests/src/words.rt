@@ -3,8 +3,8 @@
 use date_texts::Calendar;
 use std::alloc::Global;
 use written_dates::{
-    CalendarName, CalendarNames, Calendars, Choice, Meaning, Name, Names, Order, Short,
-    is_same_word, write_date,
+    CalendarMeaning, CalendarName, CalendarNames, Calendars, Choice, Meaning, Name, Names, Order,
+    Short, is_same_word, write_date,
 };
 
 /// Two words, and whether they are the same. Those of more than 64 characters are so by their bytes alone.
@@ -112,7 +112,7 @@ fn is_read(alloc: Global, name: &str, month: &str) -> bool {
 fn is_named(alloc: Global, name: &str, field: &str) -> bool {
     let listed = [CalendarName {
         text: name.as_bytes(),
-        calendar: Calendar::Hebrew,
+        meaning: CalendarMeaning::One(Calendar::Hebrew),
     }];
     match CalendarNames::layered(alloc, &listed) {
         Ok(names) => names.meant(field.as_bytes()).is_some(),

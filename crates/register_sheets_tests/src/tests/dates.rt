@@ -56,7 +56,20 @@ const DAY_FIRST_HEBREW_5000: Choice = Choice {
     charters: false,
 };
 
-const CASES: [Case; 39] = [
+const CASES: [Case; 40] = [
+    Case {
+        delimiter: b';',
+        above: 0,
+        dates: &DATE_0_IN_1,
+        columns: &DAY_AND_GREGORIAN,
+        spans: Spans::Unread,
+        reading: DAY_FIRST,
+        sheet: "D;C\n10/22 stycznia 1863;stary/nowy\n10/23 stycznia 1863;stary/nowy\n",
+        wanted: "D;C;rd;gregorian;refusal\n10/22 stycznia 1863;stary/nowy;680103;1863-01-22;\n\
+            10/23 stycznia 1863;stary/nowy;;;5\n",
+        rows: 2,
+        counts: &[(1, 0)],
+    },
     Case {
         delimiter: b';',
         above: 0,

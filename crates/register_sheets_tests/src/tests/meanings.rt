@@ -44,7 +44,8 @@ const SAID: [(&str, Meaning); 17] = [
 ];
 
 /// Texts that say nothing.
-const NOT_SAID: [&str; 14] = [
+const NOT_SAID: [&str; 15] = [
+    "both styles",
     "weekday 7",
     "weekday",
     "decade 0",
@@ -78,6 +79,18 @@ fn meanings_are_said(rt: HostRuntime) -> Result<(), Fail> {
                 .is_some_and(|line| line.means == Means::InDates(meaning)))
         );
     }
+    Ok(())
+}
+
+#[test]
+fn both_styles_are_said(rt: HostRuntime) -> Result<(), Fail> {
+    let list = list_of(rt.alloc(), "both")?;
+    assert!(rt;
+        list.is_ok_and(|list| list
+            .lines
+            .first()
+            .is_some_and(|line| line.means == Means::Both))
+    );
     Ok(())
 }
 

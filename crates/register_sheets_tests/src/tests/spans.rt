@@ -47,6 +47,27 @@ const WITH_EDTF: Case = Case {
     counts: &[(1, 1)],
 };
 
+/// Dates in both styles: of one day, of one in the order of numbers, of two days, of one style, and none.
+const BOTH_STYLES: Case = Case {
+    delimiter: b';',
+    above: 0,
+    dates: &DATE_0_IN_1,
+    columns: &DAY_AND_GREGORIAN,
+    spans: Spans::Ends,
+    reading: DAY_FIRST,
+    sheet: "D;C\n10/22 stycznia 1863;stary/nowy\n29.12.1863/10.1.1864; STARY/nowy\n\
+        10/23 stycznia 1863;stary/nowy\n10 stycznia 1863;stary/nowy\n;stary/nowy\n10/22 stycznia 1863;gregorian\n",
+    wanted: "D;C;first rd;first gregorian;last rd;last gregorian;mark;refusal\n\
+        10/22 stycznia 1863;stary/nowy;680103;1863-01-22;680103;1863-01-22;;\n\
+        29.12.1863/10.1.1864; STARY/nowy;680456;1864-01-10;680456;1864-01-10;;\n\
+        10/23 stycznia 1863;stary/nowy;;;;;;5\n\
+        10 stycznia 1863;stary/nowy;;;;;;5\n\
+        ;stary/nowy;;;;;;5\n\
+        10/22 stycznia 1863;gregorian;;;;;;5\n",
+    rows: 6,
+    counts: &[(3, 1)],
+};
+
 /// How many dates of the first column are no single day.
 fn spans_of(end: SheetEnd) -> usize {
     match end {
@@ -60,6 +81,14 @@ fn first_and_last_days(rt: HostRuntime) -> Result<(), Fail> {
     let (text, end) = converted(rt.alloc(), &ENDS)?;
     assert!(rt; text.as_slice() == ENDS.wanted.as_bytes());
     assert!(rt; is_whole(end, &ENDS) && spans_of(end) == 5);
+    Ok(())
+}
+
+#[test]
+fn dates_in_both_styles(rt: HostRuntime) -> Result<(), Fail> {
+    let (text, end) = converted(rt.alloc(), &BOTH_STYLES)?;
+    assert!(rt; text.as_slice() == BOTH_STYLES.wanted.as_bytes());
+    assert!(rt; is_whole(end, &BOTH_STYLES) && spans_of(end) == 0);
     Ok(())
 }
 

@@ -14,6 +14,7 @@ use written_dates::{CalendarName, CalendarNames, Choice, Name, Names, Order, Sho
 /// The names that hold in these tests.
 const NAMES: &str = "name,means,in
 Januar,month 1,
+stycznia,month 1,
 Februar,month 2,
 février,month 2,
 März,month 3,
@@ -33,6 +34,7 @@ an,,
 grégorien,gregorian,
 n. St.,gregorian,
 a. St.,julian,
+stary/nowy,both,
 vor,before,
 nach,after,
 ca.,about,

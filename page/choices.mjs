@@ -17,11 +17,12 @@ const KIND = 'choices of a sheet';
  * Columns are places, from 0. `date` is '' where none is chosen yet, and `calendar` too, which is a column or the name of
  * one calendar for all. An `id` of '-1' is the number of the record. Short years are `refuse`, `keep`, or what is added.
  * A name says what it means: a calendar, `month 1` to `month 13`, `number N`, `K`, `N`, `I` or `nothing`; `where` is the
- * calendar in whose dates it stands, or '' for a name of a calendar. `spans` are months, years and ranges, whose text of EDTF
- * is put beside them where `edtf`.
+ * calendar in whose dates it stands, or '' for a name of a calendar. `spans` are months, years and ranges, whose texts of
+ * EDTF are put beside them where `edtf`.
  * @typedef {{ date: string, calendar: string }} DateColumn
  * @typedef {{ name: string, where: string, means: string }} Name
- * @typedef {{ order: string, short: string, hebrew: string, charters: boolean, spans: boolean, edtf: boolean, names: Name[] }} Rules
+ * @typedef {{ order: string, short: string, hebrew: string, charters: boolean, spans: boolean, edtf: boolean,
+ *   names: Name[] }} Rules
  * @typedef {Rules & { id: string, dates: DateColumn[] }} Picks
  */
 

@@ -16,7 +16,8 @@ function cellPart(cell, end) {
   return cell === '' ? element('dd', WORDS.noCell, { className: 'none' }) : element('dd', cell);
 }
 
-// The cells of a calendar, and below them their words: of what is no single day those of its last day beside those of its first.
+// The cells of a calendar, and below them their words: of what is no single day, those of its last day beside those of its
+// first.
 function drawnCells([name, ...cells]) {
   const part = element('div', '', { className: cells.length > 2 ? 'pair' : '' }), ends = cells.filter((_, i) => i % 2 === 0);
   const words = cells.filter((_, i) => i % 2 === 1);

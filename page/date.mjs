@@ -51,7 +51,7 @@ export function replied(state, key, reply) {
 const cellOf = ({ columns, ends }, end, name) => ends[end][columns.indexOf(name)];
 const isOpen = (answer, end) => cellOf(answer, end, 'rd') === '';
 
-// The cells of a date in each calendar, each with its words; of what is no single day those of its first and of its last day.
+// The cells of a date in each calendar, each with its words; of what is no single day those of its first and of its last.
 function cellsOf(answer, shownEnds) {
   const { columns, ends, isLeap } = answer, ofEnd = (name, i) => (end) =>
     (isOpen(answer, end) ? [null, ''] : [ends[end][i], WORDS.inWords(name, ends[end][i], isLeap[end])]);
@@ -86,8 +86,8 @@ function stopWords({ reason, blamed, weekday }, text) {
 }
 
 /**
- * What is shown: a line, what kind of line it is, and the cells, each with its name and its date in words; of what is no single
- * day twice, of which the first are null where it has no first day.
+ * What is shown: a line, what kind of line it is, and the cells, each with its name and its date in words; of what is no
+ * single day those of its first and of its last day, which are null where it has none.
  */
 export function shown(state) {
   if (isEmpty(state)) return { line: WORDS.waits, kind: 'empty', cells: [] };

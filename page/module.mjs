@@ -390,7 +390,7 @@ export class Module {
   }
 
   /**
-   * The register of the column of dates of this place in the choice, from 0: of first days, or for an `end` of 1 of last ones.
+   * The register of the column of dates of this place in the choice, from 0: of first days, or for the `end` 1 of last ones.
    * @param {Part} text
    */
   sheetRegister(text, choice, column, names, end = 0) {

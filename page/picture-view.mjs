@@ -6,8 +6,8 @@ import { WORDS } from './language.mjs';
 const SPACE = 'http://www.w3.org/2000/svg';
 // What is drawn stands between names and what was refused; so high are a row, and in it the highest bar.
 const LINE_AT = 200, LINE = 600, WIDTH = 960, ROW = 36, BAR = 26, MARKS = 30;
-// So high is a lane, in which lines of what is no single day stand below the bars, and what is left free beside these; so many
-// lanes a row can have. An arrow is so long.
+// So high is a lane, in which strokes stand below the bars for what is no single day, and what is left free above them; so
+// many lanes a row can have; so long is an arrow.
 const LANE = 5, FREE = 5, MOST_LANES = 6, ARROW = 5;
 const FAR_COLOR = '#b3210d';
 
@@ -44,9 +44,7 @@ function farMarks(row, bottom) {
   });
 }
 
-/**
- * Lines in lanes, each in the first in which it has room. Those that have none lie over one another in the last lane, as one.
- */
+/** Strokes in lanes, each in the first in which it has room; those that have none are one stroke in the last. */
 export function lanesOf(lines) {
   const lanes = [];
   for (const line of lines) {
@@ -62,7 +60,7 @@ export function lanesOf(lines) {
   return lanes;
 }
 
-// The lines of a row below its bars, with an arrow at an end that is open.
+// The strokes of a row below its bars, with an arrow at an end that is open.
 function spans(lanes, bottom, parts) {
   const path = lanes.flatMap((lines, k) => lines.flatMap(({ begin, end, isBefore, isBehind }) => {
     const y = bottom + FREE + LANE * k, [x, to] = [begin, end].map((part) => LINE_AT + part * LINE / parts);
@@ -102,7 +100,8 @@ export function pictureOf(report) {
   });
   return shape('svg', {
     xmlns: SPACE, viewBox: `0 0 ${WIDTH} ${high}`, width: WIDTH, height: high, 'font-family': 'sans-serif', 'font-size': 14,
-  }, shape('title', {}, textOf(report.title)), ...lines, ...holes, ...rows.flatMap((row, i) => drawnRow(row, tops[i], most)));
+  }, shape('title', {}, textOf(report.title)), ...lines, ...holes,
+  ...rows.flatMap((row, i) => drawnRow(row, tops[i], most)));
 }
 
 // The picture as a file has it: black on white, with no links.

@@ -270,7 +270,8 @@ function pictureReport(picture, { id, make, title, name }) {
     id, title, name, isMade: true, from, to, marks, gaps,
     rows: answer.rows.map((row) => pictureRow(id, row, far, answer)), lines: pictureLines(answer, gaps),
     tables: farTable(id, far, allFar),
-    hints: [WORDS.yearsAre, ...(answer.rows.some(({ spans }) => spans) ? [WORDS.linesAre] : []), ...(gaps.length ? [WORDS.gapIs] : []), ...(far.length ? [WORDS.farIs] : [])],
+    hints: [WORDS.yearsAre, ...(answer.rows.some(({ spans }) => spans) ? [WORDS.strokesAre] : []),
+      ...(gaps.length ? [WORDS.gapIs] : []), ...(far.length ? [WORDS.farIs] : [])],
   };
 }
 
@@ -524,7 +525,8 @@ export function sheetOrder(state) {
     ...names.map((name, k) => [String(k), WORDS.byDayOf(name)])];
   if (sorted === null) return { choices, chosen: '', words: '' };
   const sortedBy = state.picks.spans ? WORDS.sortedByFirst : WORDS.sortedBy;
-  const words = sorted.reply === null ? WORDS.sorting : sorted.reply.answer ? sortedBy(names[sorted.place]) : sheetFault(sorted.reply, '');
+  const words = sorted.reply === null ? WORDS.sorting : sorted.reply.answer ? sortedBy(names[sorted.place])
+    : sheetFault(sorted.reply, '');
   return { choices, chosen: String(sorted.place), words };
 }
 

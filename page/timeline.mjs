@@ -72,7 +72,8 @@ const emptyRow = (calendar) =>
 
 /**
  * The first and the last day of each entry, which are one where an end is open; none of one that is refused.
- * @typedef {{ firsts: Uint32Array, lasts: Uint32Array, calendars: Uint8Array, empty: Uint8Array | null, isHalf: Uint8Array | null }} Entries
+ * @typedef {{ firsts: Uint32Array, lasts: Uint32Array, calendars: Uint8Array, empty: Uint8Array | null,
+ *   isHalf: Uint8Array | null }} Entries
  * @returns {{ lows: Uint32Array, highs: Uint32Array }}
  */
 function endsOf(/** @type {Entries} */ { firsts, lasts, isHalf }) {
@@ -170,8 +171,8 @@ function pointsOf({ lows, highs }) {
   return points;
 }
 
-// The days of entries that are near, in order, and beside each the last one that an entry that begins on it reaches; `points`
-// are all days in order.
+// The days of entries that are near, in order, and beside each the last one that an entry that begins on it reaches;
+// `points` are all days in order.
 function reachesOf({ lows, highs }, near, points) {
   if (lows === highs) {
     const sorted = points.subarray(points[0] < near[0] ? placeOf(points, near[0] - 1) + 1 : 0, placeOf(points, near[1]) + 1);
@@ -211,7 +212,8 @@ function drawn(entries, years, fieldsOf) {
   };
   const withYears = (row) => (row.count ? { ...row, years: [years.of(row.first), years.of(row.last)] } : row);
   return {
-    rows: binned(entries, ends, [from, to]).map(withYears), from, to, marks: marksOf(years, first, Math.min(final + 1, LAST_YEAR)),
+    rows: binned(entries, ends, [from, to]).map(withYears), from, to,
+    marks: marksOf(years, first, Math.min(final + 1, LAST_YEAR)),
     far: far.map(entryOf), allFar, gaps: gaps.map((pair) => pair.map(entryOf)),
   };
 }
@@ -227,9 +229,9 @@ function toldOf(module, register, delimiter, places) {
 const bothEnds = (first, last) => (first === last ? first : `${first} – ${last}`.trim());
 
 /**
- * What a picture shows of a register, whose records have these days and calendars, or of two, of their first and of their last
- * days: those that are told one by one are read by the module. The header stands before the first one. `empty` says which have
- * no date, and so are not refused, and `isHalf` which have an end that is refused.
+ * What a picture shows of a register, whose records have these days and calendars, or of two, of their first and of their
+ * last days: those that are told one by one are read by the module. The header stands before the first one. `empty` says
+ * which have no date, and so are not refused, and `isHalf` which have an end that is refused.
  * @param {import('./module.mjs').Part[]} registers
  * @param {Entries} entries
  */

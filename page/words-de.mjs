@@ -75,8 +75,8 @@ export const WORDS = {
   },
   marked: (marks) => marks.map((mark) => `; ${WORDS.spanMarks[mark]}`).join(''),
   spanMarks: {
-    about: 'ungefähr dann', uncertain: 'unsicher', between: 'ein Tag dazwischen', before: 'irgendwann davor', after: 'irgendwann danach',
-    from: 'von da an', to: 'bis dahin',
+    about: 'ungefähr dann', uncertain: 'unsicher', between: 'ein Tag dazwischen', before: 'irgendwann davor',
+    after: 'irgendwann danach', from: 'von da an', to: 'bis dahin',
   },
   noEnds: ['kein erster Tag', 'kein letzter Tag'],
   church: 'Sonntag oder Fest',
@@ -361,8 +361,8 @@ export const WORDS = {
   pictureHeads: { row: 'Zeile', id: 'Kennung', calendar: 'Kalender', date: 'Datum', year: 'Jahr' },
   yearsAre: 'Jahre sind gregorianisch; das Jahr 0 ist 1 v. Chr. Ein viermal so hoher Balken steht für sechzehnmal so ' +
     'viele Einträge.',
-  linesAre: 'Eine Linie unter den Balken steht für etwas, das kein einzelner Tag ist, von seinem ersten Tag bis zu seinem letzten; ' +
-    'ein Pfeil für ein Ende, das offen ist oder weit von den anderen liegt.',
+  strokesAre: 'Ein Strich unter den Balken steht für etwas, das kein einzelner Tag ist, von seinem ersten Tag bis zu ' +
+    'seinem letzten; ein Pfeil für ein Ende, das offen ist oder weit von den anderen liegt.',
   gapIs: 'Eine Lücke ist länger als ein Jahr und mehr als fünfmal so lang wie der mittlere Abstand zweier Einträge; ' +
     'höchstens fünf werden gezeigt.',
   farIs: 'Weit von den anderen liegt ein Eintrag, der von den mittleren vier Fünfteln weiter entfernt ist, als diese ' +
@@ -453,7 +453,8 @@ export const WORDS = {
   decides: ', wie hier zu sehen ist: ',
   takeOrder: { year: 'Jahr zuerst', day: 'Tag zuerst', month: 'Monat zuerst' },
   withSpans: 'auch Monate, Jahre und Zeiträume',
-  moreBySpans: (n) => `Als ${n === 1 ? 'Monat, Jahr oder Zeitraum' : 'Monate, Jahre oder Zeiträume'} ${WORDS.moreDates(n)} mehr lesbar`,
+  moreBySpans: (n) =>
+    `Als ${n === 1 ? 'Monat, Jahr oder Zeitraum' : 'Monate, Jahre oder Zeiträume'} ${WORDS.moreDates(n)} mehr lesbar`,
   takeSpans: 'Auch Monate, Jahre und Zeiträume',
   pageNamed: (name) => ['das Blatt „', own(name), '“'],
   pageOfWorkbook: 'Blatt der Arbeitsmappe',
@@ -531,8 +532,8 @@ export const WORDS = {
   shortRules: { refuse: 'solche Datumsangaben weglassen', keep: 'wie geschrieben: 82 ist das Jahr 82' },
   shortAdds: (n) => `${n} dazuzählen: 82 ist ${n + 82}`,
   spans: 'Auch Monate, Jahre und Zeiträume',
-  spansIs: 'Wie `Mai 1806`, `1750-1755`, `ca. 1750`, `vor 12.5.1806`: Jede solche Angabe hat einen ersten und einen letzten Tag, und ' +
-    'ebenso jede Spalte hinter dem Tabellenblatt.',
+  spansIs: 'Wie `Mai 1806`, `1750-1755`, `ca. 1750`, `vor 12.5.1806`: Jede solche Angabe hat einen ersten und einen letzten ' +
+    'Tag, und ebenso jede Spalte hinter dem Tabellenblatt.',
   edtf: 'Mit einem Text in EDTF (ISO 8601-2)',
   edtfIs: 'Wie `1806-05`, `1750/1755`, `1750~`, `../1806-05-11`.',
   otherYears: 'Jahre hebräischer und römischer Datumsangaben',
@@ -590,8 +591,8 @@ export const WORDS = {
   byDayOf: (name) => ['nach dem Tag aus ', name],
   sorting: 'Die Einträge werden sortiert.',
   sortedBy: (name) => ['Die Einträge sind nach dem Tag aus ', name, ' sortiert; die ohne Tag stehen am Ende.'],
-  sortedByFirst: (name) => ['Die Einträge sind nach dem ersten Tag aus ', name, ' sortiert, oder nach dem letzten, wo dieser offen ' +
-    'ist; die ohne Tag stehen am Ende.'],
+  sortedByFirst: (name) => ['Die Einträge sind nach dem ersten Tag aus ', name, ' sortiert, oder nach dem letzten, wo dieser ' +
+    'offen ist; die ohne Tag stehen am Ende.'],
   sheetJoined: (n) => `Das Tabellenblatt mit seinen Tagen, ${WORDS.first(n)}`,
   sheetBack: (n) => `Das Tabellenblatt, wie es zurückkommt, ${WORDS.first(n)}`,
   why: 'abgelehnt, denn',

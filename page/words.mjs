@@ -72,8 +72,8 @@ export const WORDS = {
   },
   marked: (marks) => marks.map((mark) => `; ${WORDS.spanMarks[mark]}`).join(''),
   spanMarks: {
-    about: 'about then', uncertain: 'uncertain', between: 'a day between these', before: 'some time before', after: 'some time after',
-    from: 'from then on', to: 'up to then',
+    about: 'about then', uncertain: 'uncertain', between: 'a day between these', before: 'some time before',
+    after: 'some time after', from: 'from then on', to: 'up to then',
   },
   noEnds: ['no first day', 'no last day'],
   church: 'Sunday or feast',
@@ -350,8 +350,8 @@ export const WORDS = {
   pictureHeads: { row: 'Row', id: 'Id', calendar: 'Calendar', date: 'Date', year: 'Year' },
   yearsAre: 'Years are Gregorian; the year 0 is 1 BC. A bar four times as high stands for sixteen times as many ' +
     'entries.',
-  linesAre: 'A line below the bars stands for what is no single day, from its first day to its last; an arrow for an end that is ' +
-    'open, or far from the others.',
+  strokesAre: 'A stroke below the bars stands for what is no single day, from its first day to its last; an arrow for an ' +
+    'end that is open, or far from the others.',
   gapIs: 'A gap is longer than a year, and five times as long as lies between two entries on the average; at most ' +
     'five are shown.',
   farIs: 'An entry is far from the others that is further from the middle four fifths of them than these are long, ' +
@@ -429,7 +429,8 @@ export const WORDS = {
   decides: ', as this one shows: ',
   takeOrder: { year: 'Year first', day: 'Day first', month: 'Month first' },
   withSpans: 'months, years and ranges too',
-  moreBySpans: (n) => `${WORDS.moreDates(n)} can be read as ${n === 1 ? 'a month, a year or a range' : 'months, years or ranges'}`,
+  moreBySpans: (n) =>
+    `${WORDS.moreDates(n)} can be read as ${n === 1 ? 'a month, a year or a range' : 'months, years or ranges'}`,
   takeSpans: 'Months, years and ranges too',
   pageNamed: (name) => ['the sheet “', own(name), '”'],
   pageOfWorkbook: 'Sheet of the workbook',
@@ -507,8 +508,8 @@ export const WORDS = {
   shortRules: { refuse: 'leave such dates out', keep: 'as written: 82 is the year 82' },
   shortAdds: (n) => `add ${n}: 82 is ${n + 82}`,
   spans: 'Months, years and ranges too',
-  spansIs: 'As `Mai 1806`, `1750-1755`, `ca. 1750`, `vor 12.5.1806`: each has a first and a last day, and so has each column behind ' +
-    'the sheet.',
+  spansIs: 'As `Mai 1806`, `1750-1755`, `ca. 1750`, `vor 12.5.1806`: each has a first and a last day, and so has each ' +
+    'column behind the sheet.',
   edtf: 'With a text of EDTF (ISO 8601-2)',
   edtfIs: 'As `1806-05`, `1750/1755`, `1750~`, `../1806-05-11`.',
   otherYears: 'Years of Hebrew and Roman dates',
@@ -563,8 +564,8 @@ export const WORDS = {
   byDayOf: (name) => ['by the day of ', name],
   sorting: 'The records are being sorted.',
   sortedBy: (name) => ['The records stand by the day of ', name, '; those without a day stand at the end.'],
-  sortedByFirst: (name) => ['The records stand by the first day of ', name, ', or the last one where that is open; those without ' +
-    'a day stand at the end.'],
+  sortedByFirst: (name) => ['The records stand by the first day of ', name, ', or the last one where that is open; those ' +
+    'without a day stand at the end.'],
   sheetJoined: (n) => `The sheet with its dates, ${WORDS.first(n)}`,
   sheetBack: (n) => `The sheet as it comes back, ${WORDS.first(n)}`,
   why: 'refused because',

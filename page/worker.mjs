@@ -423,7 +423,7 @@ async function unknownNames({ choice, names, ...source }) {
 // How many dates another order of numbers reads, of which the first is decided by a number over 12: a proposal, for which
 // so much of a text is looked at, and so many dates of it.
 const ORDERS_LOOKED_AT = 2 ** 21, DATES_LOOKED_AT = 20000, ORDER_AT = 3, MONTHS = 12;
-const THREE_NUMBERS = /^\D*(\d{1,2})\D+(\d{1,2})\D+\d{3,4}\D*$/;
+const THREE_NUMBERS = /^\D*(\d{1,2})[^\d\p{L}]+(\d{1,2})[^\d\p{L}]+\d{3,4}\D*$/u;
 
 // Which order a date in numbers with the year last has, where one of its numbers is no month: 1 for the day first, 2 for the
 // month first; else 0.
@@ -569,7 +569,8 @@ function checkEnding(name, ending) {
 
 /** The register of one column of dates of the sheet that was converted last, and of one end of these. */
 async function sheetRegister({ choice, place, end = 0, names, ...source }) {
-  const { module, text } = await sheetOf(source), { ending, table } = module.sheetRegister(text, choice, place, namesWith(names), end);
+  const { module, text } = await sheetOf(source);
+  const { ending, table } = module.sheetRegister(text, choice, place, namesWith(names), end);
   if (ending !== 0) return { ending, register: null };
   const made = await blobOf(module, table);
   module.free(table);
@@ -624,7 +625,8 @@ function halfRefused(module, delimiter, ends) {
 // The days of one column of dates, by which its records stand in order, and what a picture of them shows, by its registers.
 function gathered(own, words) {
   const { module, text } = own, { choice, place, delimiter, above } = words;
-  const ends = endsBy(choice).map((end) => endOf(own, words, end)), [{ register, calendars }] = ends, last = ends[ends.length - 1];
+  const ends = endsBy(choice).map((end) => endOf(own, words, end)), last = ends[ends.length - 1];
+  const [{ register, calendars }] = ends;
   const days = ends.length === 1 ? last.days : module.spanDays(ends[0].days, last.days);
   const hasEmpty = ends.every(({ hasBlank }) => hasBlank), column = choice[DATES_AT + 3 * place];
   const empty = hasEmpty ? emptyAmong(module, text, delimiter, column, above + 1, days.length) : null;

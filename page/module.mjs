@@ -314,27 +314,10 @@ export class Module {
       use(this.bytes(bytes), new Uint32Array(this.exports.memory.buffer, lengths.pointer, count))).used;
   }
 
-  /** A date, as it is typed in the calendar of this number, as registers have it; `names` is the text of a list of names. */
-  writeDate(text, calendar, names) {
-    const [typed, list] = [text, names].map((it) => this.put(new TextEncoder().encode(it)));
-    let buffer = this.malloc(typed.length + 64);
-    for (;;) {
-      const [ending, length] = this.call('date_write', 2, [typed, calendar, DAY_FIRST, list, buffer]);
-      if (ending === 1) throw new NoMemory();
-      if (ending !== 0) throw new Error(`date_write: ${ending}`);
-      if (length <= buffer.length) {
-        const written = new TextDecoder().decode(this.bytes({ ...buffer, length }));
-        this.free(buffer, list, typed);
-        return written;
-      }
-      this.free(buffer);
-      buffer = this.malloc(length);
-    }
-  }
-
   /**
-   * Why a date is not read: the number of what stops it, which is 0 for nothing, 1 to 8 for a reason of `REASONS`, and 9 for a
-   * name that is not known; and what is to blame, which is that name, or the date beside another weekday.
+   * Why a date, as it is typed in the calendar of this number, is not read: the number of what stops it, which is 0 for nothing,
+   * 1 to 8 for a reason of `REASONS`, and 9 for a name that is not known; and what is to blame, which is that name, or the date
+   * beside another weekday. `names` is the text of a list of names.
    */
   dateStop(text, calendar, names) {
     const [typed, list] = [text, names].map((it) => this.put(new TextEncoder().encode(it)));

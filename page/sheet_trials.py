@@ -420,7 +420,7 @@ class SheetTrials:
         self.drawn_spans()
         self.choose("#sheet-sorted", "0")
         wait_for("the order", lambda: "stand by the first day of Datum" in self.text("#sheet-results [role=status]"))
-        numbers = "return [...document.querySelectorAll('#sheet-results .rows:not(.picture) tbody tr:not(.below)')].map((it) => it.firstChild.innerText)"
+        numbers = "return [...document.querySelectorAll('#sheet-results .rows:not(.picture) tbody tr:not(.below)')].map((it) => it.children[0].innerText)"
         self.check("spans by their days", ["3", "4", "1", "2", "5"], self.page.run(numbers)[:5])
         self.audited("spans")
         self.click("#languages [lang=de]")

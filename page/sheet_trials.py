@@ -395,6 +395,7 @@ class SheetTrials:
     def try_spans(self):
         """Months, years and ranges are proposed and read; both ends come back, are saved, sorted and drawn; in each language."""
         self.open()
+        self.date_spans()
         self.choose_sheet(self.file("spans.csv", "Nr,Datum\n1,Mai 1806\n2,12.5.1806\n3,vor 1800\n4,1803-1805\n5,x\n"))
         self.wait_for_sheet()
         self.choose("#sheet-calendar-0", "gregorian")
@@ -416,18 +417,19 @@ class SheetTrials:
         self.check("both registers before", re.compile("with the first days[^\n]*\n[^\n]*\n1\tgregorian\t1806-5-1\n[\\s\\S]*with the last days[^\n]*"
             "\n[^\n]*\n1\tgregorian\t1806-5-31\n"), self.text("#sheet-made"))
         self.check("what came of spans", re.compile("5 rows, 1 refused, 3 are no single day"), self.convert_sheet())
-        self.saved_spans()
         self.drawn_spans()
         self.choose("#sheet-sorted", "0")
         wait_for("the order", lambda: "stand by the first day of Datum" in self.text("#sheet-results [role=status]"))
         numbers = "return [...document.querySelectorAll('#sheet-results .rows:not(.picture) tbody tr:not(.below)')].map((it) => it.children[0].innerText)"
         self.check("spans by their days", ["3", "4", "1", "2", "5"], self.page.run(numbers)[:5])
         self.audited("spans")
+        self.choose("#sheet-sorted", "")
+        wait_for("as it stands", lambda: self.text("#sheet-results [role=status]") == "")
+        self.saved_spans()
         self.click("#languages [lang=de]")
         self.check("the tick in German", "Auch Monate, Jahre und Zeiträume", self.labels("#sheet-spans")[0])
         self.click("#sheet-spans")
         wait_for("a proposal in German", lambda: "Als Monate, Jahre oder Zeiträume" in (self.text("#sheet-orders") or ""))
-        self.date_spans()
         self.open()
 
     def saved_spans(self):
@@ -466,6 +468,7 @@ class SheetTrials:
 
     def date_spans(self):
         """One date of no single day has two cells beside one another in each calendar; a feast is told; in German and in English."""
+        self.click("#languages [lang=de]")
         said = self.date("gregorian", "Mai 1806")
         wanted = "31 Tage, Tagesnummern 659383 bis 659413; EDTF 1806-05; gelesen als 1806-5-1 – 1806-5-31\nGregorianisch\n1806-05-01\n1806-05-31\n"
         self.check("a month in German", re.compile(f"^{wanted}1. Mai 1806\n31. Mai 1806"), said)
@@ -484,6 +487,7 @@ class SheetTrials:
         self.check("no last day", re.compile("no last day[\\s\\S]*Gregorian\n1801-01-01\nno last day"), self.retyped("nach 1800"))
         self.check("a day again has one cell", re.compile("Gregorian\n1806-05-12\n12 May 1806\nISO week"), self.retyped("12.5.1806"))
         self.check("a feast", re.compile("Sunday or feast\nDominica Oculi$"), self.date("julian", "Dom. Oculi 1699"))
+        self.retyped(" ")
 
     def paste(self, text):
         """Pastes by keys what was copied by keys."""

@@ -68,7 +68,7 @@ function marksOf(years, from, to) {
 }
 
 const emptyRow = (calendar) =>
-  ({ calendar, count: 0, spans: 0, refused: 0, first: NO_DAY, last: 0, bins: Array(BINS).fill(0), lines: new Map() });
+  ({ calendar, count: 0, spans: 0, refused: 0, first: NO_DAY, last: 0, bins: Array(BINS).fill(0), lines: new Set() });
 
 /**
  * The first and the last day of each entry, which are one where an end is open; none of one that is refused.
@@ -96,16 +96,14 @@ function addLine(row, { firsts, lasts }, i, low, high, /** @type {number[]} */ [
   const binOf = (day) => Math.floor((day - from) / (to - from) * BINS);
   const isBefore = firsts[i] === NO_DAY || low < from, isBehind = lasts[i] === NO_DAY || high >= to;
   const begin = isBefore ? 0 : binOf(low), end = isBehind ? BINS : binOf(high) + 1;
-  const key = 4 * (begin * (BINS + 1) + end) + (isBefore ? BEFORE : 0) + (isBehind ? BEHIND : 0);
-  row.lines.set(key, (row.lines.get(key) || 0) + 1);
+  row.lines.add(4 * (begin * (BINS + 1) + end) + (isBefore ? BEFORE : 0) + (isBehind ? BEHIND : 0));
 }
 
-// The lines of a row: those that begin first, and of these the longest, stand first.
+// The lines of a row, each once: those that begin first, and of these the longest, stand first.
 function linesOf(lines) {
-  const all = [...lines].map(([key, count]) => {
-    const parts = Math.floor(key / 4);
-    return { begin: Math.floor(parts / (BINS + 1)), end: parts % (BINS + 1), isBefore: (key & BEFORE) > 0,
-      isBehind: (key & BEHIND) > 0, count };
+  const all = [...lines].map((line) => {
+    const parts = Math.floor(line / 4), [begin, end] = [Math.floor(parts / (BINS + 1)), parts % (BINS + 1)];
+    return { begin, end, isBefore: (line & BEFORE) > 0, isBehind: (line & BEHIND) > 0 };
   });
   return all.sort((one, other) => one.begin - other.begin || other.end - one.end);
 }

@@ -426,7 +426,7 @@ export class Module {
     const lent = [first, last].map((days) => this.putNumbers(days));
     const room = { ...this.malloc(4 * first.length), items: first.length };
     const [ending] = this.call('span_days', 2, [...lent, room]);
-    if (ending !== 0) throw new Error(`span_days: ${ending}`);
+    if (ending !== 0) throw new NoMemory();
     const days = this.numbersOf(room, first.length);
     this.free(room, ...lent.reverse());
     return days;

@@ -7,6 +7,9 @@ export const MOST_DATES = 8;
 const NONE = 2 ** 32 - 1;
 const ORDERS = ['year', 'day', 'month'];
 const DELIMITERS = [['comma', 44], ['semicolon', 59], ['tab', 9]];
+// Where the numbers of a choice say whether spans are read, and where those of its columns of dates begin.
+const SPANS_AT = 7;
+export const DATES_AT = 8;
 // What the file of choices begins with.
 const KIND = 'choices of a sheet';
 
@@ -14,18 +17,27 @@ const KIND = 'choices of a sheet';
  * Columns are places, from 0. `date` is '' where none is chosen yet, and `calendar` too, which is a column or the name of
  * one calendar for all. An `id` of '-1' is the number of the record. Short years are `refuse`, `keep`, or what is added.
  * A name says what it means: a calendar, `month 1` to `month 13`, `number N`, `K`, `N`, `I` or `nothing`; `where` is the
- * calendar in whose dates it stands, or '' for a name of a calendar.
+ * calendar in whose dates it stands, or '' for a name of a calendar. `spans` are months, years and ranges, whose texts of
+ * EDTF are put beside them where `edtf`.
  * @typedef {{ date: string, calendar: string }} DateColumn
  * @typedef {{ name: string, where: string, means: string }} Name
- * @typedef {{ id: string, dates: DateColumn[], order: string, short: string, hebrew: string, charters: boolean,
- *   names: Name[] }} Picks
+ * @typedef {{ order: string, short: string, hebrew: string, charters: boolean, spans: boolean, edtf: boolean,
+ *   names: Name[] }} Rules
+ * @typedef {Rules & { id: string, dates: DateColumn[] }} Picks
  */
 
 /** @returns {Picks} */
 export const noPicks = () => ({
   id: '-1', dates: [{ date: '', calendar: '' }], order: 'year', short: 'refuse', hebrew: 'refuse', charters: false,
-  names: [],
+  spans: false, edtf: false, names: [],
 });
+
+/**
+ * How dates are read, whatever columns they stand in.
+ * @returns {Rules}
+ */
+export const rulesOf = ({ order, short, hebrew, charters, spans, edtf, names }) =>
+  ({ order, short, hebrew, charters, spans, edtf, names });
 
 export const isColumn = (calendar) => /^\d+$/.test(calendar);
 
@@ -34,12 +46,24 @@ export const isColumn = (calendar) => /^\d+$/.test(calendar);
 const yearRule = (rule) => ({ refuse: 0, keep: 1 })[rule] ?? Number(rule);
 
 /** The choice as the module takes it. */
-export function numbersOf({ delimiter, above }, { id, dates, order, short, hebrew, charters }) {
+export function numbersOf({ delimiter, above }, { id, dates, order, short, hebrew, charters, spans, edtf }) {
   const triples = dates.flatMap(({ date, calendar }) => (isColumn(calendar) ? [Number(date), Number(calendar), 0]
     : [Number(date), NONE, CALENDARS.indexOf(calendar)]));
   return [delimiter, above, Number(id) < 0 ? NONE : Number(id), ORDERS.indexOf(order), yearRule(short), yearRule(hebrew),
-    charters ? 1 : 0, ...triples];
+    charters ? 1 : 0, spans ? 1 + Number(edtf) : 0, ...triples];
 }
+
+/** Whether months, years and ranges are read by a choice: 0, 1, or 2 with their texts of EDTF. */
+export const spansIn = (choice) => choice[SPANS_AT];
+
+/** A choice by which months, years and ranges are read too. */
+export const withSpans = (choice) => choice.map((number, i) => (i === SPANS_AT ? Math.max(1, number) : number));
+
+/** The ends of a date, each with a register of its own: with spans its first day and its last. */
+export const endsOf = ({ spans }) => (spans ? ['first', 'last'] : [null]);
+
+/** So many columns come behind a sheet for each column of dates, where so many are asked: with spans those of both ends. */
+export const widthOf = (choice, asked) => (spansIn(choice) === 0 ? asked + 1 : 2 * asked + 1 + spansIn(choice));
 
 /** Columns that are put behind a sheet, as the module numbers them. */
 export const columnNumbers = (columns) => columns.map((name) => BESIDE.indexOf(name));
@@ -69,13 +93,14 @@ function calendarCalled(heading, calendar) {
 
 /** The choices as a text that can be read and kept. */
 export function choicesText({ encoding, delimiter, above }, heading, picks, columns) {
-  const { id, dates, order, short, hebrew, charters, names } = picks;
+  const { id, dates, order, short, hebrew, charters, spans, edtf, names } = picks;
   return `${JSON.stringify({
     what: KIND, encoding, delimiter: DELIMITERS.find(([, byte]) => byte === delimiter)[0], 'records above the names': above,
     dates: dates.filter(({ date }) => date !== '').map(({ date, calendar }) =>
       ({ ...columnCalled(heading, date), ...calendarCalled(heading, calendar) })),
     id: Number(id) < 0 ? 'number of the record' : columnCalled(heading, id),
-    order, 'short years': short, 'short Hebrew years': hebrew, 'charter years': charters, columns,
+    order, 'short years': short, 'short Hebrew years': hebrew, 'charter years': charters,
+    'months, years and ranges': spans, EDTF: edtf, columns,
     names: names.map(({ name, where, means }) => ({ name, means, in: where })),
   }, null, 2)}\n`;
 }
@@ -107,6 +132,8 @@ export function choicesOf(text) {
     short: either(kept['short years'], isRule, own.short),
     hebrew: either(kept['short Hebrew years'], isRule, own.hebrew),
     charters: kept['charter years'] === true,
+    spans: kept['months, years and ranges'] === true,
+    edtf: kept.EDTF === true,
     columns: listOf(kept.columns).filter((it, i, all) => BESIDE.includes(it) && all.indexOf(it) === i),
     names: listOf(kept.names).filter((it) => Boolean(it) && isText(it.name) && isWhere(it.in) && isMeaning(it.means))
       .map(({ name, means, in: where }) => ({ name, where, means })),
@@ -137,6 +164,5 @@ export function fitted(kept, heading, proposed) {
     return date === null ? [] : [{ date, calendar: isColumn(calendar) || CALENDARS.includes(calendar) ? calendar : '' }];
   });
   const id = kept.id === null ? '-1' : fit(kept.id) || '-1';
-  const { order, short, hebrew, charters, names } = kept;
-  return { picks: { id, dates: dates.length ? dates : proposed.dates, order, short, hebrew, charters, names }, absent };
+  return { picks: { id, dates: dates.length ? dates : proposed.dates, ...rulesOf(kept) }, absent };
 }

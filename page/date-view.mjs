@@ -8,6 +8,24 @@ import { WORDS } from './language.mjs';
 // What is read aloud, and what is wrong, waits until the typing rests.
 const REST = 700;
 
+const isPair = ([, , , ...more]) => more.length > 0;
+
+// A cell of a date in a calendar: none before that begins, nor of an end that is open.
+function cellPart(cell, end) {
+  if (cell === null) return element('dd', WORDS.noEnds[end], { className: 'none' });
+  return cell === '' ? element('dd', WORDS.noCell, { className: 'none' }) : element('dd', cell);
+}
+
+// The cells of a calendar, and below them their words: of what is no single day, those of its last day beside those of its
+// first.
+function drawnCells([name, ...cells]) {
+  const part = element('div', '', { className: cells.length > 2 ? 'pair' : '' }), ends = cells.filter((_, i) => i % 2 === 0);
+  const words = cells.filter((_, i) => i % 2 === 1);
+  part.append(element('dt', name), ...ends.map(cellPart));
+  if (words.some(Boolean)) part.append(...words.map((it) => element('dd', it, { className: 'words' })));
+  return part;
+}
+
 /** The answer draws the state. */
 export function dateView(step) {
   byId('date-calendar').append(...CALENDARS.map((name) => option(WORDS.calendars[name], name)));
@@ -40,12 +58,7 @@ export function dateView(step) {
     if (kind === 'wrong') typing = setTimeout(() => drawLine(line, kind), REST);
     say(kind === 'empty' ? '' : textOf(line));
     byId('date-cells').hidden = cells.length === 0;
-    byId('date-cells').replaceChildren(...cells.map(([name, cell, words]) => {
-      const part = element('div');
-      const day = cell === '' ? element('dd', WORDS.noCell, { className: 'none' }) : element('dd', cell);
-      part.append(element('dt', name), day);
-      if (words) part.append(element('dd', words, { className: 'words' }));
-      return part;
-    }));
+    byId('date-cells').className = cells.some(isPair) ? 'cells pairs' : 'cells';
+    byId('date-cells').replaceChildren(...cells.map(drawnCells));
   });
 }

@@ -3,8 +3,8 @@
 import { NO_TARGETS } from './calendars.mjs';
 import { WORDS } from './language.mjs';
 
-// The refusal of a field that is too long; here that can only be the date.
-const TOO_LONG = 2;
+// The refusal of a field that is too long; here that can only be the date. What is said of a day beside its cells.
+const TOO_LONG = 2, CHURCH = 'church', NO_CELLS = [...NO_TARGETS, CHURCH];
 
 /**
  * `result` is what came of `choice`, or null.
@@ -47,9 +47,35 @@ export function replied(state, key, reply) {
   return { ...state, result: { choice: state.choice, reply } };
 }
 
-function cellsOf(heading, row, isLeap) {
-  return heading.flatMap((name, i) => (NO_TARGETS.includes(name) ? []
-    : [[WORDS.calendars[name] || name, row[i], WORDS.inWords(name, row[i], isLeap)]]));
+// What an end of a date has in a column: nothing at all where it is open.
+const cellOf = ({ columns, ends }, end, name) => ends[end][columns.indexOf(name)];
+const isOpen = (answer, end) => cellOf(answer, end, 'rd') === '';
+
+// The cells of a date in each calendar, each with its words; of what is no single day those of its first and of its last.
+function cellsOf(answer, shownEnds) {
+  const { columns, ends, isLeap } = answer, ofEnd = (name, i) => (end) =>
+    (isOpen(answer, end) ? [null, ''] : [ends[end][i], WORDS.inWords(name, ends[end][i], isLeap[end])]);
+  return columns.flatMap((name, i) => (NO_CELLS.includes(name) ? []
+    : [[WORDS.calendars[name] || name, ...shownEnds.flatMap(ofEnd(name, i))]]));
+}
+
+// The texts of a register as they are shown: where these are not what was typed.
+function readOf({ written: [first, last] }, typed) {
+  const read = first === last ? [first] : [first, last].filter(Boolean);
+  return read.length === 1 && read[0] === typed.trim() ? '' : read.join('` – `');
+}
+
+function shownDay(answer, read) {
+  const of = (name) => cellOf(answer, 0, name), church = of(CHURCH), marks = answer.mark.split(' ').filter(Boolean);
+  const cells = cellsOf(answer, [0]);
+  return { line: WORDS.isDay(of('weekday'), of('rd'), read, marks), kind: 'day',
+    cells: church ? [...cells, [WORDS.church, church, '']] : cells };
+}
+
+function shownSpan(answer, read) {
+  const [first, last] = [0, 1].map((end) => cellOf(answer, end, 'rd')), marks = answer.mark.split(' ').filter(Boolean);
+  const days = first === '' || last === '' ? 0 : Number(last) - Number(first) + 1;
+  return { line: WORDS.isSpan(days, first, last, answer.edtf, marks, read), kind: 'day', cells: cellsOf(answer, [0, 1]) };
 }
 
 // Why a date is not read: letters between digits, as in `18o6`, are told first where nothing else is known of it.
@@ -59,24 +85,23 @@ function stopWords({ reason, blamed, weekday }, text) {
   return reason === null ? WORDS.unknownInDate(blamed) : WORDS.dateStops[reason](blamed, WORDS.weekdays[weekday]);
 }
 
-/** What is shown: a line, what kind of line it is, and the cells, each with its name and its date in words. */
+/**
+ * What is shown: a line, what kind of line it is, and the cells, each with its name and its date in words; of what is no
+ * single day those of its first and of its last day, which are null where it has none.
+ */
 export function shown(state) {
   if (isEmpty(state)) return { line: WORDS.waits, kind: 'empty', cells: [] };
   if (!hasResult(state)) return { line: '', kind: 'empty', cells: [] };
-  const { answer, fault, why } = state.result.reply;
+  const { answer, fault, why } = state.result.reply, { text } = state.choice;
   if (fault) return { line: WORDS.fault(why), kind: 'wrong', cells: [] };
-  const { ending, heading, row, written, isLeap, stop } = answer;
-  // The date as it was read, where that is not how it was typed.
-  const read = written === state.choice.text.trim() ? '' : written;
-  if (ending !== 0) {
-    return { line: WORDS.isNoDay(WORDS.causes[ending] || WORDS.faults[ending]), kind: 'wrong', cells: [] };
+  if (answer.ending !== 0) {
+    return { line: WORDS.isNoDay(WORDS.sheetFaults[answer.ending] || WORDS.noMemory), kind: 'wrong', cells: [] };
   }
-  const of = (name) => row[heading.indexOf(name)];
-  const refusal = Number(of('refusal'));
+  const read = readOf(answer, text), refusal = Number(answer.refusal);
   if (refusal) {
-    const why = stop ? stopWords(stop, state.choice.text) : WORDS.refusals[refusal - 1];
+    const why = answer.stop ? stopWords(answer.stop, text) : WORDS.refusals[refusal - 1];
     const reason = refusal === TOO_LONG ? WORDS.isTooLong : why;
     return { line: WORDS.isNoDay(reason, read), kind: 'wrong', cells: [] };
   }
-  return { line: WORDS.isDay(of('weekday'), of('rd'), read), kind: 'day', cells: cellsOf(heading, row, isLeap) };
+  return cellOf(answer, 0, 'rd') === cellOf(answer, 1, 'rd') ? shownDay(answer, read) : shownSpan(answer, read);
 }

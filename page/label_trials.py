@@ -71,7 +71,7 @@ class LabelTrials:
             self.open()
             self.click(f"#languages [lang={language}]")
             self.page.run("document.querySelector('#sheet-fold').open = true")
-            for part in (self.calendars, self.orders, self.years, self.signs, self.meanings, self.columns, self.lines):
+            for part in (self.calendars, self.orders, self.years, self.spans, self.signs, self.meanings, self.columns, self.lines):
                 part(language)
         self.open()
 
@@ -129,6 +129,15 @@ class LabelTrials:
             self.check(f"the year of a Roman date, {language}, {year}", f"{year}-12-17", self.cell_back("julian"))
             self.press_label("#sheet-charters", 0)
             self.wait_for_counts_in_each()
+
+    def spans(self, language):
+        which = "#sheet-choices input[type=checkbox]"
+        self.given("spans.csv", "D\nMai 1806\n", "Gregorian")
+        for label, name, cell in (("months, years|Monate, Jahre", "first gregorian", "1806-05-01"), ("EDTF", "edtf", "1806-05")):
+            self.check(f"no {name} before its tick, {language}", None, self.cell_back(name))
+            self.press_label(which, next(place for place, it in enumerate(self.labels(which)) if re.search(label, it, re.IGNORECASE)))
+            wait_for(name, lambda: self.cell_back(name))
+            self.check(f"{label}, {language}", (cell, ["1806-5-1", "1806-5-31"]), (self.cell_back(name), self.register_of()))
 
     def tick(self, name):
         self.page.run("[...document.querySelectorAll('#sheet-columns label')].find((it) => it.innerText.trim() === arguments[0]).click()", name)

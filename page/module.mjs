@@ -15,7 +15,7 @@ export const NO_CALENDAR = 255;
 // Of three numbers the day stands first.
 const DAY_FIRST = 1;
 // The columns of dates that a sheet can have, and the numbers of each in a report: how many dates were refused, how many by
-// each reason, how many are empty, and how many are no single day, of which the page knows nothing.
+// each reason, how many are empty, and how many are no single day.
 const MOST_DATES = 8, COUNTS = FACTS.refusals.length + 3;
 /** Why dates stay as they are written, in the order of the module's counts, from number 1 on. */
 export const REASONS = ['noCalendar', 'character', 'minus', 'otherWeekday', 'noDay', 'noYear', 'noSuchYear', 'noDate'];
@@ -25,9 +25,9 @@ function unreadOf(/** @type {number[]} */ [stopped, short, ...counts]) {
   return { stopped, short, reasons: Object.fromEntries(REASONS.map((reason, i) => [reason, counts[i]])) };
 }
 
-// How many dates of a column were refused, by the reason, and how many are empty.
+// How many dates of a column were refused, by the reason, how many are empty, and how many are no single day.
 function dateCountsOf(/** @type {number[]} */ [refused, ...counts]) {
-  return { refused, counts: counts.slice(0, -2), empty: counts[COUNTS - 3] };
+  return { refused, counts: counts.slice(0, -2), empty: counts[COUNTS - 3], spans: counts[COUNTS - 2] };
 }
 
 /** Memory ran out: what the module answers by an ending 1, and what the heap of this script throws. */
@@ -314,27 +314,10 @@ export class Module {
       use(this.bytes(bytes), new Uint32Array(this.exports.memory.buffer, lengths.pointer, count))).used;
   }
 
-  /** A date, as it is typed in the calendar of this number, as registers have it; `names` is the text of a list of names. */
-  writeDate(text, calendar, names) {
-    const [typed, list] = [text, names].map((it) => this.put(new TextEncoder().encode(it)));
-    let buffer = this.malloc(typed.length + 64);
-    for (;;) {
-      const [ending, length] = this.call('date_write', 2, [typed, calendar, DAY_FIRST, list, buffer]);
-      if (ending === 1) throw new NoMemory();
-      if (ending !== 0) throw new Error(`date_write: ${ending}`);
-      if (length <= buffer.length) {
-        const written = new TextDecoder().decode(this.bytes({ ...buffer, length }));
-        this.free(buffer, list, typed);
-        return written;
-      }
-      this.free(buffer);
-      buffer = this.malloc(length);
-    }
-  }
-
   /**
-   * Why a date is not read: the number of what stops it, which is 0 for nothing, 1 to 8 for a reason of `REASONS`, and 9 for a
-   * name that is not known; and what is to blame, which is that name, or the date beside another weekday.
+   * Why a date, as it is typed in the calendar of this number, is not read: the number of what stops it, which is 0 for nothing,
+   * 1 to 8 for a reason of `REASONS`, and 9 for a name that is not known; and what is to blame, which is that name, or the date
+   * beside another weekday. `names` is the text of a list of names.
    */
   dateStop(text, calendar, names) {
     const [typed, list] = [text, names].map((it) => this.put(new TextEncoder().encode(it)));
@@ -390,13 +373,13 @@ export class Module {
   }
 
   /**
-   * The register of the column of dates of this place in the choice, from 0.
+   * The register of the column of dates of this place in the choice, from 0: of first days, or for the `end` 1 of last ones.
    * @param {Part} text
    */
-  sheetRegister(text, choice, column, names) {
+  sheetRegister(text, choice, column, names, end = 0) {
     const list = this.put(new TextEncoder().encode(names)), numbers = this.putNumbers(choice);
     const { ending, text: table } = this.makeFrom('sheet_register', 0,
-      [text, numbers, BigInt(column), list], [numbers, list], text.length + PAGE);
+      [text, numbers, BigInt(column), end, list], [numbers, list], text.length + PAGE);
     return { ending, table };
   }
 
@@ -432,6 +415,21 @@ export class Module {
     const found = isWhole ? { ending, days: own, calendars: this.bytes({ ...calendars, length }).slice() } : null;
     this.free(calendars, days);
     return found || this.registerDays(text, delimiter, sealed, length);
+  }
+
+  /**
+   * The days by which entries with these first and last days stand in order.
+   * @param {Uint32Array} first
+   * @param {Uint32Array} last
+   */
+  spanDays(first, last) {
+    const lent = [first, last].map((days) => this.putNumbers(days));
+    const room = { ...this.malloc(4 * first.length), items: first.length };
+    const [ending] = this.call('span_days', 2, [...lent, room]);
+    if (ending !== 0) throw new NoMemory();
+    const days = this.numbersOf(room, first.length);
+    this.free(room, ...lent.reverse());
+    return days;
   }
 
   /**

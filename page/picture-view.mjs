@@ -6,6 +6,9 @@ import { WORDS } from './language.mjs';
 const SPACE = 'http://www.w3.org/2000/svg';
 // What is drawn stands between names and what was refused; so high are a row, and in it the highest bar.
 const LINE_AT = 200, LINE = 600, WIDTH = 960, ROW = 36, BAR = 26, MARKS = 30;
+// So high is a lane, in which strokes stand below the bars for what is no single day, and what is left free above them; so
+// many lanes a row can have; so long is an arrow.
+const LANE = 5, FREE = 5, MOST_LANES = 6, ARROW = 5;
 const FAR_COLOR = '#b3210d';
 
 function shape(name, attributes, ...children) {
@@ -41,17 +44,48 @@ function farMarks(row, bottom) {
   });
 }
 
-function drawnRow(row, i, most) {
-  const bottom = ROW * (i + 1), [before] = farMarks(row, bottom);
+/** Strokes in lanes, each in the first in which it has room; those that have none are one stroke in the last. */
+export function lanesOf(lines) {
+  const lanes = [];
+  for (const line of lines) {
+    const lane = lanes.find((own) => own[own.length - 1].end <= line.begin);
+    if (lane) lane.push({ ...line });
+    else if (lanes.length < MOST_LANES) lanes.push([{ ...line }]);
+    else {
+      const all = lanes[MOST_LANES - 1], last = all[all.length - 1];
+      last.end = Math.max(last.end, line.end);
+      last.isBehind ||= line.isBehind;
+    }
+  }
+  return lanes;
+}
+
+// The strokes of a row below its bars, with an arrow at an end that is open.
+function spans(lanes, bottom, parts) {
+  const path = lanes.flatMap((lines, k) => lines.flatMap(({ begin, end, isBefore, isBehind }) => {
+    const y = bottom + FREE + LANE * k, [x, to] = [begin, end].map((part) => LINE_AT + part * LINE / parts);
+    const arrows = [[isBefore, x, ARROW], [isBehind, to, -ARROW]].filter(([isOpen]) => isOpen);
+    return [`M${x} ${y - 1}H${to}v2H${x}z`, ...arrows.map(([, at, back]) => `M${at} ${y}l${back} -3v6z`)];
+  }));
+  return path.length === 0 ? [] : [shape('path', { d: path.join(''), fill: 'currentColor', class: 'spans' })];
+}
+
+const heightOf = ({ lanes }) => ROW + (lanes.length === 0 ? 0 : LANE * lanes.length + FREE);
+
+function drawnRow(row, top, most) {
+  const bottom = top + ROW, [before] = farMarks(row, bottom);
   const refused = label(WIDTH, bottom - 4, row.refused, { 'text-anchor': 'end', 'font-size': 13 });
   const name = label(0, bottom - (before ? 16 : 4), textOf(row.label), { 'font-size': 14 });
   const under = shape('path', { d: `M${LINE_AT} ${bottom}h${LINE}`, stroke: 'currentColor', 'stroke-opacity': 0.3 });
-  return [name, under, bars(row.bins, bottom, most), ...farMarks(row, bottom), refused];
+  const drawn = [bars(row.bins, bottom, most), ...spans(row.lanes, bottom, row.bins.length)];
+  return [name, under, ...drawn, ...farMarks(row, bottom), refused];
 }
 
 /** The picture of what a report says. */
 export function pictureOf(report) {
-  const { rows, marks, gaps } = report, bottom = ROW * rows.length, high = bottom + MARKS;
+  const { marks, gaps } = report, rows = report.rows.map((row) => ({ ...row, lanes: lanesOf(row.lines) }));
+  const tops = rows.map((_, i) => rows.slice(0, i).reduce((sum, row) => sum + heightOf(row), 0));
+  const bottom = rows.reduce((sum, row) => sum + heightOf(row), 0), high = bottom + MARKS;
   const most = Math.max(1, ...rows.flatMap(({ bins }) => bins));
   const lines = marks.flatMap(({ day, year }) => {
     const x = placeOf(day, report);
@@ -66,7 +100,8 @@ export function pictureOf(report) {
   });
   return shape('svg', {
     xmlns: SPACE, viewBox: `0 0 ${WIDTH} ${high}`, width: WIDTH, height: high, 'font-family': 'sans-serif', 'font-size': 14,
-  }, shape('title', {}, textOf(report.title)), ...lines, ...holes, ...rows.flatMap((row, i) => drawnRow(row, i, most)));
+  }, shape('title', {}, textOf(report.title)), ...lines, ...holes,
+  ...rows.flatMap((row, i) => drawnRow(row, tops[i], most)));
 }
 
 // The picture as a file has it: black on white, with no links.

@@ -1,7 +1,7 @@
 // What is shown of registers and sheets, in words and rows, for the view to draw.
 
 import { CALENDARS } from './calendars.mjs';
-import { choicesText, isColumn } from './choices.mjs';
+import { choicesText, endsOf, isColumn } from './choices.mjs';
 import { CHOICES, canBeOther, choicesOf, isTextSheet } from './door.mjs';
 import { textOf } from './elements.mjs';
 import * as registers from './registers.mjs';
@@ -234,9 +234,9 @@ const rowId = (id, { row }) => `${id}-row-${row}`;
 const calendarWords = ({ calendar }) => WORDS.calendars[CALENDARS[calendar]] || WORDS.noCalendar;
 
 function pictureRow(id, row, far, { from }) {
-  const { bins, refused } = row, own = far.filter(({ calendar }) => calendar === row.calendar);
+  const { bins, lines, refused } = row, own = far.filter(({ calendar }) => calendar === row.calendar);
   return {
-    label: calendarWords(row), bins, refused: refused === 0 ? '' : WORDS.refused(refused),
+    label: calendarWords(row), bins, lines, refused: refused === 0 ? '' : WORDS.refused(refused),
     far: own.map((it) => ({ id: rowId(id, it), year: it.year, side: it.day < from ? 'before' : 'behind' })),
   };
 }
@@ -244,7 +244,7 @@ function pictureRow(id, row, far, { from }) {
 // What the picture shows, in words: each calendar, and each gap, which the picture leads to.
 function pictureLines({ rows }, gaps) {
   const ofRows = rows.map((row) =>
-    ({ words: WORDS.entriesOf(calendarWords(row), row.count, row.years, row.refused) }));
+    ({ words: WORDS.entriesOf(calendarWords(row), row.count, row.years, row.refused, row.spans) }));
   return [...ofRows, ...gaps];
 }
 
@@ -270,7 +270,8 @@ function pictureReport(picture, { id, make, title, name }) {
     id, title, name, isMade: true, from, to, marks, gaps,
     rows: answer.rows.map((row) => pictureRow(id, row, far, answer)), lines: pictureLines(answer, gaps),
     tables: farTable(id, far, allFar),
-    hints: [WORDS.yearsAre, ...(gaps.length ? [WORDS.gapIs] : []), ...(far.length ? [WORDS.farIs] : [])],
+    hints: [WORDS.yearsAre, ...(answer.rows.some(({ spans }) => spans) ? [WORDS.strokesAre] : []),
+      ...(gaps.length ? [WORDS.gapIs] : []), ...(far.length ? [WORDS.farIs] : [])],
   };
 }
 
@@ -359,7 +360,8 @@ export function sheetSummary(state) {
   const how = first.isOfTree ? [WORDS.aTree] : [...form, source.above > 0 && WORDS.titleLines(source.above)].filter(Boolean);
   const dates = sheet.missing(state) ? [WORDS.chooseDates.replace(/\.$/, '')]
     : datesInWords(state, dateNames(state), first.heading);
-  const parts = [...how, ...dates, WORDS.orders[picks.order], WORDS.behindThem(columns)];
+  const rules = [WORDS.orders[picks.order], ...(picks.spans ? [WORDS.withSpans] : [])];
+  const parts = [...how, ...dates, ...rules, WORDS.behindThem(columns)];
   return [{ own: source.file.name }, ': ', ...parts.flatMap((it, i) => (i === 0 ? [it] : [', ', it]))];
 }
 
@@ -369,15 +371,22 @@ function orderWords(order, { more, decides }) {
   return decides ? [words, WORDS.decides, { own: decides }, '. '] : [words, '. '];
 }
 
-/** Orders of numbers that read more dates than the one that is chosen, or that a date decides for. */
-export function sheetOrders(state) {
-  const reply = sheet.shownOrders(state), names = ['year', 'day', 'month'], chosen = names.indexOf(state.picks.order);
-  if (!reply || !reply.answer || sheet.shownRun(state) !== null) return [];
-  const { orders } = reply.answer, isDecided = orders.some(({ decides }) => decides);
+// Orders of numbers that read more dates than the one that is chosen, or that a date decides for.
+function proposedOrders({ orders }, { order: own }) {
+  const names = ['year', 'day', 'month'], chosen = names.indexOf(own), isDecided = orders.some(({ decides }) => decides);
   const isNeeded = ({ more, decides }) => (isDecided ? decides && (more || !orders[chosen].decides) : more > 0);
   const isOffered = (it, i) => i !== chosen && isNeeded(it);
-  return names.flatMap((order, i) => (isOffered(orders[i], i)
-    ? [{ order, words: orderWords(order, orders[i]), button: WORDS.takeOrder[order] }] : []));
+  return names.flatMap((order, i) => (isOffered(orders[i], i) ? [{ id: `sheet-order-${order}`, change: { order },
+    words: orderWords(order, orders[i]), button: WORDS.takeOrder[order] }] : []));
+}
+
+/** Choices that read more dates than those that are made, or that a date decides for, each with what takes it. */
+export function sheetProposals(state) {
+  const reply = sheet.shownOrders(state);
+  if (!reply || !reply.answer || sheet.shownRun(state) !== null) return [];
+  const { answer } = reply, ofSpans = { id: 'sheet-take-spans', change: { spans: true } };
+  return [...proposedOrders(answer, state.picks),
+    ...(answer.spans ? [{ ...ofSpans, words: [WORDS.moreBySpans(answer.spans), '. '], button: WORDS.takeSpans }] : [])];
 }
 
 /** What became of choices that were kept. */
@@ -437,11 +446,15 @@ const previewAnswer = (state) => {
   return reply && reply.answer && reply.answer.ending === 0 ? reply.answer : null;
 };
 
+// The name of each column of dates, for each end that has a register of its own.
+const namesOfEnds = (state) => dateNames(state).flatMap((name) =>
+  endsOf(state.picks).map((end) => (end === null ? name : [name, WORDS.ofEnds[end]])));
+
 /** How the registers begin that would be made. */
 export function madeTables(state) {
   const answer = previewAnswer(state);
   if (answer === null) return [];
-  const names = dateNames(state);
+  const names = namesOfEnds(state);
   return answer.registers.map((register, k) => plainTable(WORDS.registerRows(names[k], register.rows.length), register));
 }
 
@@ -467,16 +480,22 @@ function refusedDatesTable({ refused, refusedDates }, { dates }, names) {
   return [{ caption: WORDS.refusedDates(rows.length, all), heading, rows }];
 }
 
-// The register of each column of dates: it is made when it is wanted, and then saved.
-function registerLinks({ registers }, names, stem) {
+// How the files of registers are called behind the name of the sheet.
+function registerFiles({ dates, ...picks }) {
+  const ends = endsOf(picks).map((end) => (end === null ? '' : WORDS.endSuffixes[end]));
+  return dates.flatMap((_, k) => ends.map((end) => `${dates.length === 1 ? '' : `.${k + 1}`}${end}${WORDS.registerSuffix}`));
+}
+
+// The register of each end of each column of dates: it is made when it is wanted, and then saved.
+function registerLinks({ registers, picks }, names, stem) {
+  const files = registerFiles(picks);
   return names.map((name, place) => {
     const reply = registers[place] && registers[place].reply;
     if (!registers[place]) return { place, words: WORDS.makeRegister(name), isMade: false };
     if (reply === null) return { place, words: WORDS.makingRegister(name), isMade: false };
     const { answer } = reply;
     if (!answer || answer.ending !== 0) return { place, words: sheetFault(reply, ''), isMade: false };
-    const file = `${stem}${names.length === 1 ? '' : `.${place + 1}`}${WORDS.registerSuffix}`;
-    const words = WORDS.saveRegister(file, WORDS.bytes(answer.register.size));
+    const file = `${stem}${files[place]}`, words = WORDS.saveRegister(file, WORDS.bytes(answer.register.size));
     return { place, words, blob: answer.register, name: file, isTable: false };
   });
 }
@@ -502,10 +521,11 @@ const sortedAnswer = ({ sorted }) => sorted && sorted.reply && sorted.reply.answ
 export function sheetOrder(state) {
   const run = sheet.shownRun(state);
   if (run === null || run.status !== 'ended' || !run.reply.answer || run.reply.answer.ending !== 0) return null;
-  const { sorted } = run, byDays = dateNames(state).map((name, k) => [String(k), WORDS.byDayOf(name)]);
-  const choices = [['', WORDS.asItStands], ...byDays];
+  const { sorted } = run, names = dateNames(state), choices = [['', WORDS.asItStands],
+    ...names.map((name, k) => [String(k), WORDS.byDayOf(name)])];
   if (sorted === null) return { choices, chosen: '', words: '' };
-  const words = sorted.reply === null ? WORDS.sorting : sorted.reply.answer ? WORDS.sortedBy(dateNames(state)[sorted.place])
+  const sortedBy = state.picks.spans ? WORDS.sortedByFirst : WORDS.sortedBy;
+  const words = sorted.reply === null ? WORDS.sorting : sorted.reply.answer ? sortedBy(names[sorted.place])
     : sheetFault(sorted.reply, '');
   return { choices, chosen: String(sorted.place), words };
 }
@@ -523,18 +543,18 @@ export function sheetReport(state) {
   if (run === null || run.status !== 'ended') return null;
   const title = run.source.file.name, { answer } = run.reply;
   if (!answer || answer.ending !== 0) return { title, ...brokenSheet(run.reply, encodingOf(state)) };
-  const { rows, refused, empty, blank, counts } = answer, names = dateNames(state);
+  const { rows, refused, empty, spans, blank, counts } = answer, names = dateNames(state);
   const { first, table } = sortedAnswer(run) || answer;
   const stem = stemOf(title), name = `${stem}${WORDS.sheetSuffix}`;
-  const ofEach = names.map((it, k) => [it, refused[k], empty[k]]), said = rows - blank;
-  const words = names.length === 1 ? WORDS.whole(said, refused[0], empty[0]) : WORDS.wholeSheet(said, ofEach);
+  const ofEach = names.map((it, k) => [it, refused[k], empty[k], spans[k]]), said = rows - blank;
+  const words = names.length === 1 ? WORDS.whole(said, refused[0], empty[0], spans[0]) : WORDS.wholeSheet(said, ofEach);
   return {
     title, number: 0, kind: 'done', words, advice: keptDates(answer), counts: dateCountRows(state, counts, names),
     countsOf: 'dates',
     tables: [joinedTable(WORDS.sheetJoined(first.rows.length), first, names, run.picks),
       ...refusedDatesTable(answer, run.picks, names)],
     links: [{ words: WORDS.save(name, WORDS.bytes(table.size)), blob: table, name, isTable: true },
-      ...registerLinks(run, names, stem)],
+      ...registerLinks(run, namesOfEnds(state), stem)],
     caution: cautionOf(answer), hint: WORDS.sheetSaved,
   };
 }

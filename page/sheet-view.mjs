@@ -8,8 +8,8 @@ import {
 } from './elements.mjs';
 import { pictureBox } from './picture-view.mjs';
 import {
-  keptChoices, madeTables, previewTable, sheetChosen, sheetCounts, sheetFit, sheetOrder, sheetOrders, sheetPictures, sheetReport,
-  sheetStatus, sheetSummary, sheetTable, sheetTitles,
+  keptChoices, madeTables, previewTable, sheetChosen, sheetCounts, sheetFit, sheetOrder, sheetPictures, sheetProposals,
+  sheetReport, sheetStatus, sheetSummary, sheetTable, sheetTitles,
 } from './reports.mjs';
 import {
   beginning, columnsChosen, dateAdded, datePicked, dateRemoved, isRunning, missing, namePicked, picked, pictureWanted,
@@ -20,6 +20,8 @@ import { WORDS } from './language.mjs';
 // What is added to short years, and what becomes of those of Hebrew dates.
 const CENTURIES = [...Array(20).keys()].map((i) => String(100 * (20 - i)));
 const YEAR_RULES = ['refuse', 'keep', '5000'];
+// What is chosen by a tick.
+const TICKS = ['charters', 'spans', 'edtf'];
 const NO_RUN = { reply: null, registers: null, sorted: null };
 const MONTHS = [...Array(13).keys()].map((i) => i + 1);
 
@@ -163,7 +165,9 @@ function takeRules(step) {
   for (const name of ['id', 'short', 'hebrew']) {
     byId(`sheet-${name}`).addEventListener('change', ({ target }) => step(picked, { [name]: target.value }));
   }
-  byId('sheet-charters').addEventListener('change', ({ target }) => step(picked, { charters: target.checked }));
+  for (const name of TICKS) {
+    byId(`sheet-${name}`).addEventListener('change', ({ target }) => step(picked, { [name]: target.checked }));
+  }
   onCheck('sheet-order', (order) => step(picked, { order }));
 }
 
@@ -205,13 +209,14 @@ function drawBeginning(state) {
   }
 }
 
-function drawPicks({ id, dates, order, short, hebrew, charters }) {
+function drawPicks({ id, dates, order, short, hebrew, ...ticks }) {
   dates.forEach(({ date, calendar }, place) => {
     byId(`sheet-date-${place}`).value = date;
     byId(`sheet-calendar-${place}`).value = calendar;
   });
   Object.entries({ id, short, hebrew }).forEach(([name, value]) => { byId(`sheet-${name}`).value = value; });
-  byId('sheet-charters').checked = charters;
+  for (const name of TICKS) byId(`sheet-${name}`).checked = ticks[name];
+  byId('sheet-edtf-field').hidden = !ticks.spans;
   check('sheet-order', order);
 }
 
@@ -229,20 +234,19 @@ function namesView() {
   };
 }
 
-// Other orders of numbers that read more, each with a button; the answer draws them, anew only where they are others.
-function ordersView(step) {
+// Choices that read more, each with a button; the answer draws them, anew only where they are others.
+function proposalsView(step) {
   const box = byId('sheet-orders');
   let drawn = '';
-  return (orders) => {
-    const now = JSON.stringify(orders);
+  return (proposals) => {
+    const now = JSON.stringify(proposals);
     if (now === drawn) return;
     drawn = now;
     const had = box.contains(document.activeElement);
-    box.replaceChildren(...orders.map(({ order, words, button }) => {
+    box.replaceChildren(...proposals.map(({ id, change, words, button }) => {
       const line = element('p', words, { className: 'order' });
-      const own = { type: 'button', className: 'second small', id: `sheet-order-${order}` };
-      const take = line.appendChild(element('button', button, own));
-      take.addEventListener('click', () => step(picked, { order }));
+      const take = line.appendChild(element('button', button, { type: 'button', className: 'second small', id }));
+      take.addEventListener('click', () => step(picked, change));
       return line;
     }));
     if (had) byId('sheet-start').focus();
@@ -253,7 +257,7 @@ function ordersView(step) {
 function choicesView(step) {
   const drawColumns = whenChanged(columnTicks(byId('sheet-columns'), BESIDE, WORDS.noneBehind,
     (columns) => step(columnsChosen, columns)));
-  const drawNames = namesView(), drawCounts = wordsIn('sheet-counts'), drawOrders = ordersView(step);
+  const drawNames = namesView(), drawCounts = wordsIn('sheet-counts'), drawProposals = proposalsView(step);
   let drawn = { begins: undefined, count: 0, more: undefined, preview: undefined };
   return (state) => {
     const { picks, columns, listed } = state, first = beginning(state), unknown = shownUnknown(state);
@@ -265,7 +269,7 @@ function choicesView(step) {
     drawNames(listed, picks.names);
     if (more !== drawn.more) setText(byId('sheet-more'), more ? WORDS.tooManyNames(more) : '').hidden = !more;
     drawCounts(sheetCounts(state));
-    drawOrders(sheetOrders(state));
+    drawProposals(sheetProposals(state));
     if (preview !== drawn.preview) {
       byId('sheet-made').replaceChildren(...madeTables(state).map((table) => tableBox(table)));
       byId('sheet-register').replaceChildren(...previewTable(state).map((table) => tableBox(table)));

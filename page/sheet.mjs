@@ -1,7 +1,9 @@
 // A sheet: which file is chosen and how it is to be read, what its columns are, what was found in it, and what came of
 // its conversion. Each step takes the state and gives the next.
 
-import { MOST_DATES, choicesOf, choicesText, fitted, isColumn, namesText, noPicks, numbersOf } from './choices.mjs';
+import {
+  MOST_DATES, choicesOf, choicesText, endsOf, fitted, isColumn, namesText, noPicks, numbersOf, rulesOf, widthOf,
+} from './choices.mjs';
 import { isSameFile } from './files.mjs';
 import { likelyPicks } from './heads.mjs';
 import { WORDS } from './language.mjs';
@@ -250,7 +252,7 @@ const isOfNow = (state, it) => it !== null && it.begins === state.begins && it.p
 /** What is not known in the columns that are chosen, or null. */
 export const shownUnknown = (state) => (isOfNow(state, state.unknown) ? state.unknown.reply : null);
 
-/** What other orders of numbers would read, or null. */
+/** What other orders of numbers would read, and months, years and ranges, or null. */
 export const shownOrders = (state) => (isOfNow(state, state.orders) ? state.orders.reply : null);
 
 /** How the registers begin that would be made, and the sheet that would come back, or null. */
@@ -306,7 +308,8 @@ function partWanted(state, part, place, found = null) {
 }
 
 /**
- * The register of a column of dates is wanted too.
+ * The register of a column of dates is wanted too. They are numbered through: of each column one, or with spans two, of its
+ * first and of its last days.
  * @param {SheetState} state
  * @returns {SheetState}
  */
@@ -365,7 +368,8 @@ function wantedParts(state) {
 function partTasks(state, task) {
   return wantedParts(state).map(({ part, place, key }) => {
     if (part === 'pictures') return daysTask(state, state.run, key, PARTS[part], Number(place));
-    return task(key, PARTS[part], { ...wordsOf(state), place: Number(place) });
+    const ends = endsOf(state.picks).length;
+    return task(key, PARTS[part], { ...wordsOf(state), place: Math.floor(Number(place) / ends), end: Number(place) % ends });
   });
 }
 
@@ -375,7 +379,8 @@ const isSorting = (run) => run !== null && run.sorted !== null && run.sorted.rep
 function sortTasks(state) {
   const run = shownRun(state);
   if (!isSorting(run)) return [];
-  const { table } = run.reply.answer, behind = run.picks.dates.length * (run.columns.length + 1);
+  const { picks: { dates }, columns } = run, { table } = run.reply.answer;
+  const behind = dates.length * widthOf(numbersOf(run.source, run.picks), columns.length);
   return [daysTask(state, run, sortKey(run), 'sortedSheet', run.sorted.place, { table, behind })];
 }
 
@@ -442,13 +447,12 @@ const listedNames = ({ names }) => names.map(({ name, where }) => ({ name, where
 // The columns, as they are proposed by their names or were kept. What was chosen for the dates of this file stays. In a
 // family tree the day stands first.
 function columnsProposed(state, { heading, encoding, delimiter, isOfTree }) {
-  const { kept, picks } = state, { order, short, hebrew, charters, names } = picks, proposed = likelyPicks(heading);
+  const { kept, picks } = state, rules = rulesOf(picks), proposed = likelyPicks(heading);
   if (kept === null) {
-    const own = { ...proposed, order: isOfTree ? 'day' : order, short, hebrew, charters, names };
+    const own = { ...proposed, ...rules, order: isOfTree ? 'day' : rules.order };
     return { ...state, picks: own, listed: listedNames(own), fit: null };
   }
-  const { picks: fit, absent } = fitted(kept.choices, heading, proposed);
-  const own = kept.isFilled ? { ...fit, order, short, hebrew, charters, names } : fit;
+  const { picks: fit, absent } = fitted(kept.choices, heading, proposed), own = kept.isFilled ? { ...fit, ...rules } : fit;
   const isOther = (name, now) => (kept.choices[name] !== null && kept.choices[name] !== now ? [name] : []);
   const other = [...isOther('encoding', encoding), ...isOther('delimiter', delimiter)];
   return { ...state, picks: own, listed: listedNames(own), kept: { ...kept, isFilled: true }, fit: { absent, other } };

@@ -1,5 +1,5 @@
 """The trials of sheets, a part of page/try-page."""
-import io, os, re, subprocess, time, zipfile
+import datetime, io, os, re, subprocess, time, zipfile
 
 import church
 from browsers import wait_for
@@ -391,6 +391,103 @@ class SheetTrials:
         wait_for("as it stands", lambda: self.text("#sheet-results [role=status]") == "")
         self.check("as it stands again", stands, self.save("#sheet-results", 1)["tree.dates.csv"].decode().split("\n"))
         self.open()
+
+    def try_spans(self):
+        """Months, years and ranges are proposed and read; both ends come back, are saved, sorted and drawn; in each language."""
+        self.open()
+        self.date_spans()
+        self.choose_sheet(self.file("spans.csv", "Nr,Datum\n1,Mai 1806\n2,12.5.1806\n3,vor 1800\n4,1803-1805\n5,x\n"))
+        self.wait_for_sheet()
+        self.choose("#sheet-calendar-0", "gregorian")
+        self.label_of("sheet-order", "day")
+        wait_for("what is proposed", lambda: self.text("#sheet-take-spans"))
+        self.check("spans are proposed", re.compile("^3 more dates can be read as months, years or ranges. *Months, years and ranges too$"),
+            self.text("#sheet-orders"))
+        ticks = ("return ['spans', 'edtf'].map((it) => document.querySelector(`#sheet-${it}`))"
+            ".map((it) => [it.checked, it.checkVisibility()])")
+        self.check("no EDTF before the tick", [[False, True], [False, False]], self.page.run(ticks))
+        self.page.run("document.querySelector('#sheet-take-spans').focus()")
+        self.page.press("\ue007")
+        wait_for("both ends", lambda: "first gregorian" in self.text("#sheet-register"))
+        self.wait_for_counts()
+        self.check("both ticks", [[True, True], [False, True]], self.page.run(ticks))
+        self.check("nothing is proposed then", "", self.text("#sheet-orders"))
+        self.click("#sheet-edtf")
+        wait_for("EDTF", lambda: "edtf" in self.text("#sheet-register"))
+        self.check("both registers before", re.compile("with the first days[^\n]*\n[^\n]*\n1\tgregorian\t1806-5-1\n[\\s\\S]*with the last days[^\n]*"
+            "\n[^\n]*\n1\tgregorian\t1806-5-31\n"), self.text("#sheet-made"))
+        self.check("what came of spans", re.compile("5 rows, 1 refused, 3 are no single day"), self.convert_sheet())
+        self.drawn_spans()
+        self.choose("#sheet-sorted", "0")
+        wait_for("the order", lambda: "stand by the first day of Datum" in self.text("#sheet-results [role=status]"))
+        numbers = "return [...document.querySelectorAll('#sheet-results .rows:not(.picture) tbody tr:not(.below)')].map((it) => it.children[0].innerText)"
+        self.check("spans by their days", ["3", "4", "1", "2", "5"], self.page.run(numbers)[:5])
+        self.audited("spans")
+        self.choose("#sheet-sorted", "")
+        wait_for("as it stands", lambda: self.text("#sheet-results [role=status]") == "")
+        self.saved_spans()
+        self.click("#languages [lang=de]")
+        self.check("the tick in German", "Auch Monate, Jahre und Zeiträume", self.labels("#sheet-spans")[0])
+        self.click("#sheet-spans")
+        wait_for("a proposal in German", lambda: "Als Monate, Jahre oder Zeiträume" in (self.text("#sheet-orders") or ""))
+        self.open()
+
+    def saved_spans(self):
+        """What is saved of spans: the sheet with both ends, and a register of each."""
+        weekday = lambda *day: datetime.date(*day).strftime("%A")
+        self.click("#make-0")
+        wait_for("the register", lambda: self.page.run("return document.querySelector('#make-0').href"))
+        saved = self.save_with_register(1)
+        wanted = (
+            "\ufeffNr,Datum,first weekday,first gregorian,last weekday,last gregorian,edtf,mark,refusal\n"
+            f"1,Mai 1806,{weekday(1806, 5, 1)},1806-05-01,{weekday(1806, 5, 31)},1806-05-31,1806-05,,\n"
+            f"2,12.5.1806,{weekday(1806, 5, 12)},1806-05-12,{weekday(1806, 5, 12)},1806-05-12,1806-05-12,,\n"
+            f"3,vor 1800,,,{weekday(1799, 12, 31)},1799-12-31,../1799-12-31,before,\n"
+            f"4,1803-1805,{weekday(1803, 1, 1)},1803-01-01,{weekday(1805, 12, 31)},1805-12-31,1803/1805,,\n5,x,,,,,,,5\n"
+        )
+        self.check("the sheet with both ends", wanted, saved.get("spans.dates.csv", b"").decode())
+        registers = [saved.get(f"spans.{end}.register.csv", b"").decode().split("\n")[1:4] for end in ("first", "last")]
+        self.check("the register of each end", [["1,gregorian,1806-5-1", "2,gregorian,1806-5-12", "3,gregorian,"],
+            ["1,gregorian,1806-5-31", "2,gregorian,1806-5-12", "3,gregorian,1799-12-31"]], registers)
+
+    def drawn_spans(self):
+        """What is no single day is drawn as a stroke below the bars, with an arrow at an open end."""
+        self.click("#sheet-picture-0-save")
+        wait_for("the picture", lambda: self.page.run("return document.querySelector('.picture svg') !== null"))
+        begin, days = datetime.date(1799, 1, 1), (datetime.date(1807, 1, 1) - datetime.date(1799, 1, 1)).days
+        place = lambda *day: (datetime.date(*day) - begin).days * 200 // days
+        stroke = lambda one, other: f"M{200 + 3 * one} 40H{200 + 3 * other}v2H{200 + 3 * one}z"
+        wanted = (stroke(0, place(1799, 12, 31) + 1) + "M200 41l5 -3v6z" + stroke(place(1803, 1, 1), place(1805, 12, 31) + 1) +
+            stroke(place(1806, 5, 1), place(1806, 5, 31) + 1))
+        drawn = self.page.run("const it = document.querySelector('.picture svg'); return [it.getAttribute('viewBox'),"
+            "(it.querySelector('.spans') || it).getAttribute('d')]")
+        self.check("strokes below the bars", ["0 0 960 76", wanted], drawn)
+        self.check("the same in words", re.compile("Gregorian: 4 entries from 1799 to 1806, 3 are no single day; 1 refused."),
+            self.text("#sheet-results ul"))
+        self.shot("spans")
+
+    def date_spans(self):
+        """One date of no single day has two cells beside one another in each calendar; a feast is told; in German and in English."""
+        self.click("#languages [lang=de]")
+        said = self.date("gregorian", "Mai 1806")
+        wanted = "31 Tage, Tagesnummern 659383 bis 659413; EDTF 1806-05; gelesen als 1806-5-1 – 1806-5-31\nGregorianisch\n1806-05-01\n1806-05-31\n"
+        self.check("a month in German", re.compile(f"^{wanted}1. Mai 1806\n31. Mai 1806"), said)
+        self.check("no first day in German", re.compile("Gregorianisch\nkein erster Tag\n1806-05-11"), self.retyped("vor 12.5.1806"))
+        self.click("#languages [lang=en]")
+        self.check("a month", re.compile("^31 days, day numbers 659383 to 659413; EDTF 1806-05; read as 1806-5-1 – 1806-5-31\nGregorian\n"),
+            self.retyped("Mai 1806"))
+        beside = ("const [one, other] = [...document.querySelectorAll('#date-cells div:first-child dd')].map((it) => it.getBoundingClientRect());"
+            "return [one.top === other.top, one.right <= other.left]")
+        self.check("its ends stand beside one another", [True, True], self.page.run(beside))
+        for width, size in ((320, "100%"), (640, "200%")):
+            self.check(f"a month in {width} points at {size}", [], self.over(width, size))
+        self.page.run("document.documentElement.style.fontSize = ''")
+        self.page.width(1100)
+        self.audited("a month")
+        self.check("no last day", re.compile("no last day[\\s\\S]*Gregorian\n1801-01-01\nno last day"), self.retyped("nach 1800"))
+        self.check("a day again has one cell", re.compile("Gregorian\n1806-05-12\n12 May 1806\nISO week"), self.retyped("12.5.1806"))
+        self.check("a feast", re.compile("Sunday or feast\nDominica Oculi$"), self.date("julian", "Dom. Oculi 1699"))
+        self.retyped(" ")
 
     def paste(self, text):
         """Pastes by keys what was copied by keys."""

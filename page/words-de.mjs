@@ -65,11 +65,25 @@ export const WORDS = {
     Sunday: 'Sonntag', Monday: 'Montag', Tuesday: 'Dienstag', Wednesday: 'Mittwoch', Thursday: 'Donnerstag',
     Friday: 'Freitag', Saturday: 'Samstag',
   },
-  isDay: (weekday, number, read = '') => `${WORDS.weekdays[weekday]}, Tagesnummer ${number}${WORDS.readAs(read)}`,
+  isDay: (weekday, number, read = '', marks = []) =>
+    `${WORDS.weekdays[weekday]}, Tagesnummer ${number}${WORDS.marked(marks)}${WORDS.readAs(read)}`,
+  isSpan: (days, first, last, edtf = '', marks = [], read = '') => {
+    const from = first === '' ? 'Kein erster Tag' : `Erste Tagesnummer ${first}`;
+    const to = last === '' ? 'kein letzter Tag' : `letzte Tagesnummer ${last}`;
+    const both = days ? `${WORDS.number(days)} Tage, Tagesnummern ${first} bis ${last}` : `${from}, ${to}`;
+    return `${both}${WORDS.marked(marks)}${edtf && `; EDTF \`${edtf}\``}${WORDS.readAs(read)}`;
+  },
+  marked: (marks) => marks.map((mark) => `; ${WORDS.spanMarks[mark]}`).join(''),
+  spanMarks: {
+    about: 'ungefähr dann', uncertain: 'unsicher', between: 'ein Tag dazwischen', before: 'irgendwann davor',
+    after: 'irgendwann danach', from: 'von da an', to: 'bis dahin',
+  },
+  noEnds: ['kein erster Tag', 'kein letzter Tag'],
+  church: 'Sonntag oder Fest',
   isNoDay: (reason, read = '') => `Kein Tag: ${reason}${WORDS.readAs(read)}.`,
   readAs: (read) => (read === '' ? '' : `; gelesen als \`${read}\``),
   dateInWords: 'Auch Datumsangaben in Worten werden gelesen, und Zahlen mit dem Tag zuerst: `30. November 1699`, ' +
-    '`30.11.1699`, `15 Ventôse an VI`.',
+    '`30.11.1699`, `15 Ventôse an VI`; Feste, `Dom. Oculi 1699`; Monate, Jahre und Zeiträume, `Mai 1806`, `1750-1755`.',
   unknownInDate: (word) => `„${word}“ ist in einem solchen Datum unbekannt`,
   isNoNumber: (word) => `„${word}“ ist keine Zahl`,
   dateStops: {
@@ -256,8 +270,10 @@ export const WORDS = {
   rows: (n) => (n === 1 ? '1 Zeile' : `${WORDS.number(n)} Zeilen`),
   refused: (n) => (n === 0 ? 'keine abgelehnt' : `${WORDS.number(n)} abgelehnt`),
   empty: (n) => (n ? `, ${WORDS.number(n)} leer` : ''),
+  notDays: (n) => (n ? `, ${WORDS.number(n)} ${n === 1 ? 'ist' : 'sind'} kein einzelner Tag` : ''),
   refusedShort: (refused, empty) => WORDS.number(refused) + WORDS.empty(empty),
-  whole: (rows, refused, empty = 0) => `${WORDS.rows(rows)}, ${WORDS.refused(refused)}${WORDS.empty(empty)}.`,
+  whole: (rows, refused, empty = 0, spans = 0) =>
+    `${WORDS.rows(rows)}, ${WORDS.refused(refused)}${WORDS.empty(empty)}${WORDS.notDays(spans)}.`,
   counts: {
     records: {
       caption: 'Abgelehnte Einträge nach dem Grund', count: 'Einträge', reason: 'Der Eintrag ist abgelehnt, denn',
@@ -334,8 +350,8 @@ export const WORDS = {
   pictureOfDates: (column, name) => ['Die Datumsangaben aus ', column, ' in ', own(name), ' auf einer Zeitleiste'],
   savePicture: 'Das Bild speichern',
   entries: (n) => (n === 1 ? '1 Eintrag' : `${WORDS.number(n)} Einträge`),
-  entriesOf: (name, n, years, refused) => [name, ': ', WORDS.entries(n),
-    n === 0 ? '' : years[0] === years[1] ? ` in ${years[0]}` : ` von ${years[0]} bis ${years[1]}`,
+  entriesOf: (name, n, years, refused, spans = 0) => [name, ': ', WORDS.entries(n),
+    n === 0 ? '' : years[0] === years[1] ? ` in ${years[0]}` : ` von ${years[0]} bis ${years[1]}`, WORDS.notDays(spans),
     refused === 0 ? '' : `; ${WORDS.refused(refused)}`, '.'],
   noCalendar: 'Kein bekannter Kalender',
   gap: (one, other) => ['Kein Eintrag zwischen ', own(one.date), ` (Zeile ${WORDS.number(one.row)}) und `, own(other.date),
@@ -345,6 +361,8 @@ export const WORDS = {
   pictureHeads: { row: 'Zeile', id: 'Kennung', calendar: 'Kalender', date: 'Datum', year: 'Jahr' },
   yearsAre: 'Jahre sind gregorianisch; das Jahr 0 ist 1 v. Chr. Ein viermal so hoher Balken steht für sechzehnmal so ' +
     'viele Einträge.',
+  strokesAre: 'Ein Strich unter den Balken steht für etwas, das kein einzelner Tag ist, von seinem ersten Tag bis zu ' +
+    'seinem letzten; ein Pfeil für ein Ende, das offen ist oder weit von den anderen liegt.',
   gapIs: 'Eine Lücke ist länger als ein Jahr und mehr als fünfmal so lang wie der mittlere Abstand zweier Einträge; ' +
     'höchstens fünf werden gezeigt.',
   farIs: 'Weit von den anderen liegt ein Eintrag, der von den mittleren vier Fünfteln weiter entfernt ist, als diese ' +
@@ -434,6 +452,10 @@ export const WORDS = {
   onlyByOrder: { year: 'Das Jahr steht zuerst', day: 'Der Tag steht zuerst', month: 'Der Monat steht zuerst' },
   decides: ', wie hier zu sehen ist: ',
   takeOrder: { year: 'Jahr zuerst', day: 'Tag zuerst', month: 'Monat zuerst' },
+  withSpans: 'auch Monate, Jahre und Zeiträume',
+  moreBySpans: (n) =>
+    `Als ${n === 1 ? 'Monat, Jahr oder Zeitraum' : 'Monate, Jahre oder Zeiträume'} ${WORDS.moreDates(n)} mehr lesbar`,
+  takeSpans: 'Auch Monate, Jahre und Zeiträume',
   pageNamed: (name) => ['das Blatt „', own(name), '“'],
   pageOfWorkbook: 'Blatt der Arbeitsmappe',
   fileDates: 'Auch Datumsangaben der Datei selbst: aus ihrem Kopf, und wann ihre Einträge geändert wurden',
@@ -509,6 +531,11 @@ export const WORDS = {
   shortIs: 'In gregorianischen und julianischen Datumsangaben, wie `12.5.82`.',
   shortRules: { refuse: 'solche Datumsangaben weglassen', keep: 'wie geschrieben: 82 ist das Jahr 82' },
   shortAdds: (n) => `${n} dazuzählen: 82 ist ${n + 82}`,
+  spans: 'Auch Monate, Jahre und Zeiträume',
+  spansIs: 'Wie `Mai 1806`, `1750-1755`, `ca. 1750`, `vor 12.5.1806`: Jede solche Angabe hat einen ersten und einen letzten ' +
+    'Tag, und ebenso jede Spalte hinter dem Tabellenblatt.',
+  edtf: 'Mit einem Text in EDTF (ISO 8601-2)',
+  edtfIs: 'Wie `1806-05`, `1750/1755`, `1750~`, `../1806-05-11`.',
   otherYears: 'Jahre hebräischer und römischer Datumsangaben',
   hebrew: 'Kurze hebräische Jahre',
   hebrewIs: 'Wie `5 Tischri 507`.',
@@ -542,6 +569,8 @@ export const WORDS = {
     'umgerechnet wurde. church ist der Sonntag oder das Fest, auf Latein, eines gregorianischen oder julianischen Tages.',
   noneBehind: 'Keine Spalten außer der Ablehnung.',
   first: (n) => (n === 1 ? 'erster Eintrag' : `erste ${n} Einträge`),
+  ofEnds: { first: ' mit den ersten Tagen', last: ' mit den letzten Tagen' },
+  endSuffixes: { first: '.erste', last: '.letzte' },
   registerRows: (name, n) => ['Das Register, das aus ', name, ` wird, ${WORDS.first(n)}`],
   chooseDates: 'Wählen Sie eine Datumsspalte und ihren Kalender.',
   keepChoices: 'Einstellungen speichern',
@@ -562,6 +591,8 @@ export const WORDS = {
   byDayOf: (name) => ['nach dem Tag aus ', name],
   sorting: 'Die Einträge werden sortiert.',
   sortedBy: (name) => ['Die Einträge sind nach dem Tag aus ', name, ' sortiert; die ohne Tag stehen am Ende.'],
+  sortedByFirst: (name) => ['Die Einträge sind nach dem ersten Tag aus ', name, ' sortiert, oder nach dem letzten, wo dieser ' +
+    'offen ist; die ohne Tag stehen am Ende.'],
   sheetJoined: (n) => `Das Tabellenblatt mit seinen Tagen, ${WORDS.first(n)}`,
   sheetBack: (n) => `Das Tabellenblatt, wie es zurückkommt, ${WORDS.first(n)}`,
   why: 'abgelehnt, denn',
@@ -570,7 +601,8 @@ export const WORDS = {
   written: 'Wie geschrieben',
   splitSheet: 'Teilen Sie es, jeden Teil mit den Spaltennamen.',
   wholeSheet: (rows, refused) => [`${WORDS.rows(rows)}. `,
-    refused.map(([name, n, empty], i) => [i === 0 ? '' : '; ', name, ': ', WORDS.refused(n), WORDS.empty(empty)]), '.'],
+    refused.map(([name, n, empty, spans = 0], i) =>
+      [i === 0 ? '' : '; ', name, ': ', WORDS.refused(n), WORDS.empty(empty), WORDS.notDays(spans)]), '.'],
   refusedDates: (n, all) =>
     (n < all ? `Die ersten ${n} abgelehnten Datumsangaben` : n === 1 ? 'Das abgelehnte Datum' : `Die ${n} abgelehnten Datumsangaben`),
   makeRegister: (name) => ['Register erstellen aus ', name],

@@ -61,11 +61,26 @@ export const WORDS = {
     Sunday: 'Sunday', Monday: 'Monday', Tuesday: 'Tuesday', Wednesday: 'Wednesday', Thursday: 'Thursday', Friday: 'Friday',
     Saturday: 'Saturday',
   },
-  isDay: (weekday, number, read = '') => `${WORDS.weekdays[weekday]}, day number ${number}${WORDS.readAs(read)}`,
+  isDay: (weekday, number, read = '', marks = []) =>
+    `${WORDS.weekdays[weekday]}, day number ${number}${WORDS.marked(marks)}${WORDS.readAs(read)}`,
+  // What is no single day: how many days it has, and the numbers of the first and of the last; an open end has none.
+  isSpan: (days, first, last, edtf = '', marks = [], read = '') => {
+    const from = first === '' ? 'No first day' : `First day number ${first}`;
+    const to = last === '' ? 'no last day' : `last day number ${last}`;
+    const both = days ? `${WORDS.number(days)} days, day numbers ${first} to ${last}` : `${from}, ${to}`;
+    return `${both}${WORDS.marked(marks)}${edtf && `; EDTF \`${edtf}\``}${WORDS.readAs(read)}`;
+  },
+  marked: (marks) => marks.map((mark) => `; ${WORDS.spanMarks[mark]}`).join(''),
+  spanMarks: {
+    about: 'about then', uncertain: 'uncertain', between: 'a day between these', before: 'some time before',
+    after: 'some time after', from: 'from then on', to: 'up to then',
+  },
+  noEnds: ['no first day', 'no last day'],
+  church: 'Sunday or feast',
   isNoDay: (reason, read = '') => `No day: ${reason}${WORDS.readAs(read)}.`,
   readAs: (read) => (read === '' ? '' : `; read as \`${read}\``),
   dateInWords: 'Dates in words are read too, and numbers with the day first: `30. November 1699`, `30.11.1699`, ' +
-    '`15 Ventôse an VI`.',
+    '`15 Ventôse an VI`; feasts, `Dom. Oculi 1699`; months, years and ranges, `Mai 1806`, `1750-1755`.',
   unknownInDate: (word) => `“${word}” is not known in such a date`,
   isNoNumber: (word) => `“${word}” is no number`,
   dateStops: {
@@ -251,8 +266,10 @@ export const WORDS = {
   rows: (n) => (n === 1 ? '1 row' : `${WORDS.number(n)} rows`),
   refused: (n) => (n === 0 ? 'none refused' : `${WORDS.number(n)} refused`),
   empty: (n) => (n ? `, ${WORDS.number(n)} empty` : ''),
+  notDays: (n) => (n ? `, ${WORDS.number(n)} ${n === 1 ? 'is' : 'are'} no single day` : ''),
   refusedShort: (refused, empty) => WORDS.number(refused) + WORDS.empty(empty),
-  whole: (rows, refused, empty = 0) => `${WORDS.rows(rows)}, ${WORDS.refused(refused)}${WORDS.empty(empty)}.`,
+  whole: (rows, refused, empty = 0, spans = 0) =>
+    `${WORDS.rows(rows)}, ${WORDS.refused(refused)}${WORDS.empty(empty)}${WORDS.notDays(spans)}.`,
   counts: {
     records: {
       caption: 'Refused records, by the reason', count: 'Records', reason: 'The record is refused because',
@@ -322,8 +339,8 @@ export const WORDS = {
   pictureOfDates: (column, name) => ['The dates of ', column, ' in ', own(name), ' on a line of time'],
   savePicture: 'Save the picture',
   entries: (n) => (n === 1 ? '1 entry' : `${WORDS.number(n)} entries`),
-  entriesOf: (name, n, years, refused) => [name, ': ', WORDS.entries(n),
-    n === 0 ? '' : years[0] === years[1] ? ` in ${years[0]}` : ` from ${years[0]} to ${years[1]}`,
+  entriesOf: (name, n, years, refused, spans = 0) => [name, ': ', WORDS.entries(n),
+    n === 0 ? '' : years[0] === years[1] ? ` in ${years[0]}` : ` from ${years[0]} to ${years[1]}`, WORDS.notDays(spans),
     refused === 0 ? '' : `; ${WORDS.refused(refused)}`, '.'],
   noCalendar: 'No known calendar',
   gap: (one, other) => ['No entry between ', own(one.date), ` (row ${WORDS.number(one.row)}) and `, own(other.date),
@@ -333,6 +350,8 @@ export const WORDS = {
   pictureHeads: { row: 'Row', id: 'Id', calendar: 'Calendar', date: 'Date', year: 'Year' },
   yearsAre: 'Years are Gregorian; the year 0 is 1 BC. A bar four times as high stands for sixteen times as many ' +
     'entries.',
+  strokesAre: 'A stroke below the bars stands for what is no single day, from its first day to its last; an arrow for an ' +
+    'end that is open, or far from the others.',
   gapIs: 'A gap is longer than a year, and five times as long as lies between two entries on the average; at most ' +
     'five are shown.',
   farIs: 'An entry is far from the others that is further from the middle four fifths of them than these are long, ' +
@@ -409,6 +428,10 @@ export const WORDS = {
   onlyByOrder: { year: 'The year stands first', day: 'The day stands first', month: 'The month stands first' },
   decides: ', as this one shows: ',
   takeOrder: { year: 'Year first', day: 'Day first', month: 'Month first' },
+  withSpans: 'months, years and ranges too',
+  moreBySpans: (n) =>
+    `${WORDS.moreDates(n)} can be read as ${n === 1 ? 'a month, a year or a range' : 'months, years or ranges'}`,
+  takeSpans: 'Months, years and ranges too',
   pageNamed: (name) => ['the sheet “', own(name), '”'],
   pageOfWorkbook: 'Sheet of the workbook',
   fileDates: 'Dates of the file itself too: of its header, and when its records were changed',
@@ -484,6 +507,11 @@ export const WORDS = {
   shortIs: 'Of Gregorian and Julian dates, as `12.5.82`.',
   shortRules: { refuse: 'leave such dates out', keep: 'as written: 82 is the year 82' },
   shortAdds: (n) => `add ${n}: 82 is ${n + 82}`,
+  spans: 'Months, years and ranges too',
+  spansIs: 'As `Mai 1806`, `1750-1755`, `ca. 1750`, `vor 12.5.1806`: each has a first and a last day, and so has each ' +
+    'column behind the sheet.',
+  edtf: 'With a text of EDTF (ISO 8601-2)',
+  edtfIs: 'As `1806-05`, `1750/1755`, `1750~`, `../1806-05-11`.',
   otherYears: 'Years of Hebrew and Roman dates',
   hebrew: 'Short Hebrew years',
   hebrewIs: 'As `5 Tischri 507`.',
@@ -515,6 +543,8 @@ export const WORDS = {
     'was converted. church is the Sunday or feast, in Latin, of a Gregorian or Julian day.',
   noneBehind: 'No columns but the refusal.',
   first: (n) => `first ${n === 1 ? 'record' : `${n} records`}`,
+  ofEnds: { first: ' with the first days', last: ' with the last days' },
+  endSuffixes: { first: '.first', last: '.last' },
   registerRows: (name, n) => ['The register that is made of ', name, `, ${WORDS.first(n)}`],
   chooseDates: 'Choose a column with dates, and its calendar.',
   keepChoices: 'Save the choices',
@@ -534,6 +564,8 @@ export const WORDS = {
   byDayOf: (name) => ['by the day of ', name],
   sorting: 'The records are being sorted.',
   sortedBy: (name) => ['The records stand by the day of ', name, '; those without a day stand at the end.'],
+  sortedByFirst: (name) => ['The records stand by the first day of ', name, ', or the last one where that is open; those ' +
+    'without a day stand at the end.'],
   sheetJoined: (n) => `The sheet with its dates, ${WORDS.first(n)}`,
   sheetBack: (n) => `The sheet as it comes back, ${WORDS.first(n)}`,
   why: 'refused because',
@@ -542,7 +574,8 @@ export const WORDS = {
   written: 'As written',
   splitSheet: 'Split it, each part with the line of the names.',
   wholeSheet: (rows, refused) => [`${WORDS.rows(rows)}. `,
-    refused.map(([name, n, empty], i) => [i === 0 ? '' : '; ', name, ': ', WORDS.refused(n), WORDS.empty(empty)]), '.'],
+    refused.map(([name, n, empty, spans = 0], i) =>
+      [i === 0 ? '' : '; ', name, ': ', WORDS.refused(n), WORDS.empty(empty), WORDS.notDays(spans)]), '.'],
   refusedDates: (n, all) =>
     (n < all ? `The first ${n} refused dates` : n === 1 ? 'The refused date' : `The ${n} refused dates`),
   makeRegister: (name) => ['Make the register of ', name],

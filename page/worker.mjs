@@ -1,11 +1,12 @@
 // What a worker does: a task for each message, one after the other. Each is given its words, and how to tell news meanwhile.
 
 import { TooLarge, archiveOf } from './archive.mjs';
-import { CALENDARS, TARGETS } from './calendars.mjs';
-import { choicesOf, columnNumbers } from './choices.mjs';
+import { TARGETS } from './calendars.mjs';
+import { DATES_AT, choicesOf, columnNumbers, spansIn, widthOf, withSpans } from './choices.mjs';
 import { ChangedFile, NoReading, checkUnchanged, readFile } from './files.mjs';
 import { formulasAmong } from './formulas.mjs';
-import { NO_DAY, NoMemory, REASONS, expectedLength, instantiate } from './module.mjs';
+import { NO_DAY, NoMemory, expectedLength, instantiate } from './module.mjs';
+import { date } from './one-date.mjs';
 import {
   isAnsel, isDelimiterOf, isIbmPc, isJson, isObject, isTree, kindOf, likelyAbove, likelyDelimiter, likelyEncodings, markedEncoding,
 } from './proposals.mjs';
@@ -26,8 +27,8 @@ const MOST_COLUMNS = 200, MOST_NAMES = 200;
 const MOST_CUT = 1000, MOST_CHOICES = 1e6, FRONT = 2 ** 16;
 // The cause of a register without its header; how long one may be, in bytes; how much is shown of a first line, in letters.
 const NO_HEADER = 6, HEADER = 256, LINE_SHOWN = 100;
-// Where a register has its dates; where a choice has its first column of dates.
-const DATE_AT = 2, DATES_AT = 7;
+// Where a register has its dates.
+const DATE_AT = 2;
 // Refusals that a record without a date can have: its calendar is not known, or the date is not written as it wants.
 const NO_SUCH_NAME = 4, NOT_WRITTEN = 5;
 // How registers can be written.
@@ -75,47 +76,6 @@ async function partOf(module, blob, look = (_) => {}) {
 }
 
 const numbersOf = (targets) => targets.map((name) => TARGETS.indexOf(name));
-
-// ---- One date ----
-
-/** The date as registers have it, the heading of a table with all columns, and the row of this date. */
-async function date({ compiled, calendar, text }) {
-  const module = await instantiate(compiled);
-  const written = module.writeDate(text, CALENDARS.indexOf(calendar), NAMES);
-  const register = module.write(['id', 'calendar', 'date', '1', calendar, written], 3, COMMA);
-  const setup = { columns: numbersOf(TARGETS), delimiter: COMMA, sealed: false };
-  const { ending, table } = module.convert(register, setup, expectedLength(register.length, 2, TARGETS.length));
-  if (ending !== 0) return { ending, written };
-  const { heading, rows: [row] } = new Table(module, table, COMMA).firstRows();
-  const isRead = Number(row[heading.indexOf('refusal')]) !== NOT_WRITTEN;
-  return { ending, written, heading, row, isLeap: hasThirteenMonths(module, row[heading.indexOf('hebrew')]),
-    stop: isRead ? null : stopOfDate(module, calendar, text) };
-}
-
-// Whether the year of a Hebrew date has thirteen months, as the module knows it.
-function hasThirteenMonths(module, hebrew) {
-  const [, year] = /^(\d+)-/.exec(hebrew) || [];
-  if (year === undefined) return false;
-  const last = module.write(['id', 'calendar', 'date', '1', 'hebrew', `${year}-13-1`], 3, COMMA);
-  return module.convert(last, { columns: [], delimiter: COMMA, sealed: false }, FRONT).refused === 0;
-}
-
-// Why a date is not read: a reason, or null for a name that is not known; what is to blame; and the weekday of the date
-// that the text says beside another one.
-function stopOfDate(module, calendar, text) {
-  const { stop, blamed } = module.dateStop(text, CALENDARS.indexOf(calendar), NAMES);
-  if (stop === 0) return null;
-  const reason = REASONS[stop - 1] || null;
-  return { reason, blamed, weekday: reason === 'otherWeekday' ? weekdayOf(module, calendar, blamed) : '' };
-}
-
-// The weekday of a date as registers have it; empty where its calendar does not have it.
-function weekdayOf(module, calendar, date) {
-  const register = module.write(['id', 'calendar', 'date', '1', calendar, date], 3, COMMA);
-  const { table } = module.convert(register, { columns: [], delimiter: COMMA, sealed: false }, FRONT);
-  const { heading, rows: [row] } = new Table(module, table, COMMA).firstRows();
-  return row[heading.indexOf('weekday')];
-}
 
 // ---- A register ----
 
@@ -268,7 +228,8 @@ async function picture({ compiled, text, delimiter, sealed }) {
   const entries = module.registerDays(own, delimiter, sealed), empty = new Uint8Array(entries.days.length);
   if (entries.ending === 1) throw new NoMemory();
   if (entries.days.includes(NO_DAY)) for (const record of emptyOf(module, seen, own, { delimiter, sealed }).records) empty[record] = 1;
-  return timelineOf(module, own, delimiter, { ...entries, empty });
+  const { days, calendars } = entries;
+  return timelineOf(module, [own], delimiter, { firsts: days, lasts: days, calendars, empty, isHalf: null });
 }
 
 // ---- Sheets ----
@@ -462,7 +423,7 @@ async function unknownNames({ choice, names, ...source }) {
 // How many dates another order of numbers reads, of which the first is decided by a number over 12: a proposal, for which
 // so much of a text is looked at, and so many dates of it.
 const ORDERS_LOOKED_AT = 2 ** 21, DATES_LOOKED_AT = 20000, ORDER_AT = 3, MONTHS = 12;
-const THREE_NUMBERS = /^\D*(\d{1,2})\D+(\d{1,2})\D+\d{3,4}\D*$/;
+const THREE_NUMBERS = /^\D*(\d{1,2})[^\d\p{L}]+(\d{1,2})[^\d\p{L}]+\d{3,4}\D*$/u;
 
 // Which order a date in numbers with the year last has, where one of its numbers is no month: 1 for the day first, 2 for the
 // month first; else 0.
@@ -474,21 +435,22 @@ function decidedOrder(date) {
 
 /**
  * For each order of the numbers of dates, how many more dates it reads than the one that is chosen, and the first date that
- * decides for it, or null.
+ * decides for it, or null; and how many more are read as months, years and ranges.
  */
 async function orders({ choice, dates, names, ...source }) {
   const { module, text, delimiter } = await sheetOf(source), { above } = source;
   const front = { ...text, length: Math.min(text.length, ORDERS_LOOKED_AT) }, list = namesWith(names);
-  const unread = (order) => {
-    const other = choice.map((number, i) => (i === ORDER_AT ? order : number));
+  const unreadBy = (other) => {
     const { ending, list: found, short, kept } = module.unknownNames(front, other, list, 0);
     module.free(found);
     return ending === 0 ? kept + short : Infinity;
   };
+  const unread = (order) => unreadBy(choice.map((number, i) => (i === ORDER_AT ? order : number)));
   const fields = module.pick(front, delimiter, dates, above + 1 + DATES_LOOKED_AT).fields.slice((above + 1) * dates.length);
   const now = unread(choice[ORDER_AT]);
-  return { orders: [0, 1, 2].map((order) => ({ more: order === choice[ORDER_AT] ? 0 : Math.max(0, now - unread(order)),
-    decides: order === 0 ? null : fields.find((date) => decidedOrder(date) === order) || null })) };
+  const ofOrders = [0, 1, 2].map((order) => ({ more: order === choice[ORDER_AT] ? 0 : Math.max(0, now - unread(order)),
+    decides: order === 0 ? null : fields.find((date) => decidedOrder(date) === order) || null }));
+  return { orders: ofOrders, spans: spansIn(choice) ? 0 : Math.max(0, now - unreadBy(withSpans(choice))) };
 }
 
 /**
@@ -512,20 +474,21 @@ function frontRecords({ module, text, delimiter }, above) {
   return module.write(module.pick(text, delimiter, range(width), above + 1 + SHOWN).fields, width, delimiter);
 }
 
-const behindOf = (dates, columns) => dates * (columns.length + 1);
+// The ends of dates, by their numbers: with spans both have a register.
+const endsBy = (choice) => (spansIn(choice) ? [0, 1] : [0]);
 
 /** How the registers of the columns of dates begin that would be made, and the sheet that would come back. */
 async function preview({ choice, dates, columns, names, ...source }) {
   const read = await sheetOf(source), { module, delimiter } = read, list = namesWith(names);
   const front = frontRecords(read, source.above);
-  const registers = range(dates).map((place) => {
-    const { ending, table } = module.sheetRegister(front, choice, place, list);
+  const registers = range(dates).flatMap((place) => endsBy(choice).map((end) => {
+    const { ending, table } = module.sheetRegister(front, choice, place, list, end);
     if (ending !== 0) return { heading: [], rows: [] };
     const [heading, ...rows] = rowsOf(module.pick(table, delimiter, range(3), EVERY).fields, 3);
     module.free(table);
     return { heading, rows };
-  });
-  const behind = behindOf(dates, columns), guess = expectedLength(front.length, SHOWN, behind);
+  }));
+  const behind = dates * widthOf(choice, columns.length), guess = expectedLength(front.length, SHOWN, behind);
   const { ending, table } = module.convertSheet(front, choice, columnNumbers(columns), list, guess);
   if (ending !== 0) return { ending, registers, first: null };
   const first = firstJoined(module, table, delimiter, source.above, behind);
@@ -574,19 +537,20 @@ async function convertSheet({ choice, places, columns, names, heading, records, 
   if (hasOtherColumns(read, above, heading)) throw new OtherColumns();
   const told = isTold ? await blobOf(module, text) : null;
   if (told) tell({ text: told });
-  const dates = places.length, behind = behindOf(dates, columns), guess = expectedLength(text.length, records, behind);
+  const dates = places.length, width = widthOf(choice, columns.length), behind = dates * width;
+  const guess = expectedLength(text.length, records, behind);
   const { ending, rows, dates: of, blank, table, stopped, reasons } =
     module.convertSheet(text, choice, columnNumbers(columns), namesWith(names), guess);
   await checkUnchanged(read.file, read.bytesAt);
   const ofDates = of.slice(0, dates), refused = ofDates.map((it) => it.refused);
   const whole = { ending, rows, refused, counts: ofDates.map((it) => it.counts), empty: ofDates.map((it) => it.empty), blank,
-    first: null, refusedDates: [], table: null, stopped, reasons };
+    spans: ofDates.map((it) => it.spans), first: null, refusedDates: [], table: null, stopped, reasons };
   if (ending !== 0) return whole;
-  const first = firstJoined(module, table, delimiter, above, behind), { own: width } = first;
-  const found = foundOf(read, table, { above, dates, places, own: width, rows }, refused, columns.length + 1);
+  const first = firstJoined(module, table, delimiter, above, behind);
+  const found = foundOf(read, table, { above, dates, places, own: first.own, rows }, refused, width);
   const own = told || await blobOf(module, text), made = await blobOf(module, table, MARK);
   module.free(table);
-  return { ...whole, ...found, first, text: own, table: made, sheetBegins: begins(read, above, rows + 1, width) };
+  return { ...whole, ...found, first, text: own, table: made, sheetBegins: begins(read, above, rows + 1, first.own) };
 }
 
 // What is found in a sheet that came back: the dates that were refused, and what is like a formula.
@@ -603,9 +567,10 @@ function checkEnding(name, ending) {
   if (ending !== 0) throw new Error(`${name}: ${ending}`);
 }
 
-/** The register of one column of dates of the sheet that was converted last. */
-async function sheetRegister({ choice, place, names, ...source }) {
-  const { module, text } = await sheetOf(source), { ending, table } = module.sheetRegister(text, choice, place, namesWith(names));
+/** The register of one column of dates of the sheet that was converted last, and of one end of these. */
+async function sheetRegister({ choice, place, end = 0, names, ...source }) {
+  const { module, text } = await sheetOf(source);
+  const { ending, table } = module.sheetRegister(text, choice, place, namesWith(names), end);
   if (ending !== 0) return { ending, register: null };
   const made = await blobOf(module, table);
   module.free(table);
@@ -635,17 +600,41 @@ function emptyAmong(module, text, delimiter, column, head, records) {
   });
 }
 
-// The days of one column of dates, and what a picture of them shows, by its register.
-function gathered({ module, text }, { choice, place, names, delimiter, above }) {
-  const { ending, table: register } = module.sheetRegister(text, choice, place, namesWith(names));
+// Whether records without a day may have no date, by the register of an end.
+const mayBeEmpty = (module, { register, days }) => days.includes(NO_DAY) && scanned(module.bytes(register)).mayHaveBlank;
+
+// The register of an end of one column of dates, and the days and calendars of its records.
+function endOf({ module, text }, { choice, place, names, delimiter }, end) {
+  const { ending, table: register } = module.sheetRegister(text, choice, place, namesWith(names), end);
   checkEnding('sheet_register', ending);
   const entries = module.registerDays(register, delimiter, false);
   checkEnding('register_days', entries.ending);
-  const hasBlank = entries.days.includes(NO_DAY) && scanned(module.bytes(register)).mayHaveBlank;
-  const empty = hasBlank ? emptyAmong(module, text, delimiter, choice[DATES_AT + 3 * place], above + 1, entries.days.length) : null;
-  const picture = timelineOf(module, register, delimiter, { ...entries, empty });
-  module.free(register);
-  return { days: entries.days, picture };
+  return { register, ...entries, hasBlank: mayBeEmpty(module, { register, ...entries }) };
+}
+
+// Which records have an end that is refused: it has no day, and is not open. Of an open one a register has no date.
+function halfRefused(module, delimiter, ends) {
+  const found = new Uint8Array(ends[0].days.length);
+  for (const { register, days, hasBlank } of ends) {
+    const open = hasBlank ? emptyAmong(module, register, delimiter, DATE_AT, 1, days.length) : null;
+    for (let i = 0; i < days.length; i += 1) if (days[i] === NO_DAY && !(open && open[i])) found[i] = 1;
+  }
+  return found;
+}
+
+// The days of one column of dates, by which its records stand in order, and what a picture of them shows, by its registers.
+function gathered(own, words) {
+  const { module, text } = own, { choice, place, delimiter, above } = words;
+  const ends = endsBy(choice).map((end) => endOf(own, words, end)), last = ends[ends.length - 1];
+  const [{ register, calendars }] = ends;
+  const days = ends.length === 1 ? last.days : module.spanDays(ends[0].days, last.days);
+  const hasEmpty = ends.every(({ hasBlank }) => hasBlank), column = choice[DATES_AT + 3 * place];
+  const empty = hasEmpty ? emptyAmong(module, text, delimiter, column, above + 1, days.length) : null;
+  const isHalf = ends.length === 1 ? null : halfRefused(module, delimiter, ends);
+  const entries = { firsts: ends[0].days, lasts: last.days, calendars, empty, isHalf };
+  const picture = timelineOf(module, ends.map((it) => it.register), delimiter, entries);
+  module.free(...new Set([last.register, register]));
+  return { days, picture };
 }
 
 // What was found of a column of dates stays, for a picture and for an order.

@@ -65,17 +65,19 @@ function readOf({ written: [first, last] }, typed) {
   return read.length === 1 && read[0] === typed.trim() ? '' : read.join('` – `');
 }
 
+const marksOf = ({ mark }) => mark.split(' ').filter(Boolean);
+
 function shownDay(answer, read) {
-  const of = (name) => cellOf(answer, 0, name), church = of(CHURCH), marks = answer.mark.split(' ').filter(Boolean);
-  const cells = cellsOf(answer, [0]);
-  return { line: WORDS.isDay(of('weekday'), of('rd'), read, marks), kind: 'day',
+  const of = (name) => cellOf(answer, 0, name), church = of(CHURCH), cells = cellsOf(answer, [0]);
+  return { line: WORDS.isDay(of('weekday'), of('rd'), read, marksOf(answer)), kind: 'day',
     cells: church ? [...cells, [WORDS.church, church, '']] : cells };
 }
 
 function shownSpan(answer, read) {
-  const [first, last] = [0, 1].map((end) => cellOf(answer, end, 'rd')), marks = answer.mark.split(' ').filter(Boolean);
+  const [first, last] = [0, 1].map((end) => cellOf(answer, end, 'rd'));
   const days = first === '' || last === '' ? 0 : Number(last) - Number(first) + 1;
-  return { line: WORDS.isSpan(days, first, last, answer.edtf, marks, read), kind: 'day', cells: cellsOf(answer, [0, 1]) };
+  const line = WORDS.isSpan(days, first, last, answer.edtf, marksOf(answer), read);
+  return { line, kind: 'day', cells: cellsOf(answer, [0, 1]) };
 }
 
 // Why a date is not read: letters between digits, as in `18o6`, are told first where nothing else is known of it.

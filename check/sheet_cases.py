@@ -16,7 +16,7 @@ REFUSED = {
     "--date=1 --all=iso --calendar=2": NOT_AS_MANY,
     "--date=1 --date=2 --date=3 --all=iso --all=iso": NOT_AS_MANY,
     "--date=1 --all=mars": "unknown calendar: mars",
-    "--date=1 --all=iso --order=Day": "unknown order: Day",
+    "--date=1 --all=iso --order=Days": "unknown order: Days",
     "--date=1 --all=iso --short-years=1850": "bad short years: 1850",
     "--date=1 --all=iso --short-years=2100": "bad short years: 2100",
     "--date=1 --all=iso --short-years=0": "bad short years: 0",
@@ -206,6 +206,13 @@ STREAMS = [
     *((words, "", 0, VERSION, "") for words in VERSIONS),
     (f"{COLUMNS} --order day", SHEET, 0, CONVERTED, lines(not_known("standard input"))),
     # A column by its number, one calendar for all, the columns asked, and what the user's list adds.
+    # An order in letters of any case.
+    ("--date d --all gregorian --order MONTH --to gregorian", "d\n5/12/1806\n", 0,
+     "d,gregorian,refusal\n5/12/1806,1806-05-12,\n", ""),
+    ("--date d --all gregorian --order Day --to gregorian", "d\n5/12/1806\n", 0,
+     "d,gregorian,refusal\n5/12/1806,1806-12-05,\n", ""),
+    ("--date d --all gregorian --order yeaR --to gregorian", "d\n1806/5/12\n", 0,
+     "d,gregorian,refusal\n1806/5/12,1806-05-12,\n", ""),
     ("--date=3 '--all= Gregorian' '--to=RD, iso' --names names.csv --summary", SHEET, 0,
      "No,Calendar,Date,rd,iso,refusal\n"
      "7,greg.,12 Mai 1806,659394,1806-W20-1,\n"
@@ -261,6 +268,12 @@ STREAMS = [
      "Style,Date\nO.S.,10/22 stycznia 1863\nstary/nowy,10/22 stycznia 1863\n", 0,
      "Style,Date,first gregorian,last gregorian,mark,refusal\nO.S.,10/22 stycznia 1863,1863-01-22,1863-01-22,,\n"
      "stary/nowy,10/22 stycznia 1863,,,,5\n", lines("standard input: 1 date is no date of its calendar")),
+    # Years that stand last, of one date and of more, but for those that no order of numbers helps.
+    ("--date d --all gregorian --to gregorian", "d\n12.5.1806\n1806-5-12\n12.5/1806\n", 0,
+     "d,gregorian,refusal\n12.5.1806,,5\n1806-5-12,1806-05-12,\n12.5/1806,,5\n",
+     lines("standard input: 1 date has the year last: see --order", "standard input: 1 date is no date of its calendar")),
+    ("--date d --all gregorian --unknown", "d\n12.5.1806\n5/31/1806\n", 0, "name,means,in,count\n",
+     lines("standard input: 2 dates have the year last: see --order")),
     # Sheets that break off.
     ("--date Datum --calendar Calendar", SHEET, 1, "",
      lines("standard input: no column Datum: the columns are No, Calendar, Date")),

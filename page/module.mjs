@@ -18,7 +18,8 @@ const DAY_FIRST = 1;
 // each reason, how many are empty, and how many are no single day.
 const MOST_DATES = 8, COUNTS = FACTS.refusals.length + 3;
 /** Why dates stay as they are written, in the order of the module's counts, from number 1 on. */
-export const REASONS = ['noCalendar', 'character', 'minus', 'otherWeekday', 'noDay', 'noYear', 'noSuchYear', 'noDate'];
+export const REASONS = ['noCalendar', 'character', 'minus', 'otherWeekday', 'noDay', 'noYear', 'noSuchYear', 'noDate',
+  'yearLast'];
 
 // How many dates were stopped by names, left empty for a short year, and stay for each reason.
 function unreadOf(/** @type {number[]} */ [stopped, short, ...counts]) {
@@ -316,7 +317,7 @@ export class Module {
 
   /**
    * Why a date, as it is typed in the calendar of this number, is not read: the number of what stops it, which is 0 for nothing,
-   * 1 to 8 for a reason of `REASONS`, and 9 for a name that is not known; and what is to blame, which is that name, or the date
+   * 1 to 9 for a reason of `REASONS`, and 10 for a name that is not known; and what is to blame, which is that name, or the date
    * beside another weekday. `names` is the text of a list of names.
    */
   dateStop(text, calendar, names) {
@@ -367,7 +368,7 @@ export class Module {
     const list = this.put(new TextEncoder().encode(names)), asked = this.put(Uint8Array.from(columns));
     const numbers = this.putNumbers(choice);
     const ofDates = MOST_DATES * COUNTS, { ending, others: [rows, ...counts], text: table } = this.makeFrom('sheet_convert',
-      12 + ofDates, [text, numbers, asked, list], [numbers, asked, list], guess);
+      13 + ofDates, [text, numbers, asked, list], [numbers, asked, list], guess);
     const dates = Array.from({ length: MOST_DATES }, (_, k) => dateCountsOf(counts.slice(k * COUNTS, (k + 1) * COUNTS)));
     return { ending, rows, dates, blank: counts[ofDates], table, ...unreadOf(counts.slice(ofDates + 1)) };
   }
@@ -389,7 +390,7 @@ export class Module {
    */
   unknownNames(text, choice, names, most) {
     const list = this.put(new TextEncoder().encode(names)), numbers = this.putNumbers(choice);
-    const { ending, others: [more, ...counts], text: found } = this.makeFrom('sheet_unknown', 11,
+    const { ending, others: [more, ...counts], text: found } = this.makeFrom('sheet_unknown', 12,
       [text, numbers, list, BigInt(most)], [numbers, list], PAGE);
     const { stopped, short, reasons } = unreadOf(counts);
     // Dates stay as they are written for a name that is not known, or for another reason.

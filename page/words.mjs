@@ -93,6 +93,7 @@ export const WORDS = {
     noYear: () => 'it has no year',
     noSuchYear: () => 'the Republic had no such year',
     noDate: () => WORDS.refusals[4],
+    yearLast: () => 'its year stands last',
   },
   keptDates: (counts) => `Dates that stay as they are written: ${counts.join('; ')}.`,
   keptByNames: (n) => (n === 1 ? '1 has a name that is not known' : `${n} have names that are not known`),
@@ -107,6 +108,8 @@ export const WORDS = {
     noSuchYear: (n) => (n === 1 ? '1 has a year that the Republic did not have'
       : `${n} have years that the Republic did not have`),
     noDate: (n) => (n === 1 ? '1 is no date of its calendar' : `${n} are no dates of their calendars`),
+    yearLast: (n) => (n === 1 ? '1 has the year last: choose another order of numbers'
+      : `${n} have the year last: choose another order of numbers`),
   },
   isTooLong: `the date is over ${date} bytes`,
   noCell: 'before its first day',

@@ -44,11 +44,11 @@ IsEnding calendar names ending =
     ⊎ ((ending ≡ 2) × (why : NameListFault) × (why ≢ fault.OutOfMemory) × IsFaultOf (text_records 44 names) why)
     ⊎ ((ending ≡ 3) × (length all_calendars ≤ calendar))
 
--- the number of what stops a date: 0 for nothing, 1 to 8 for a reason, and 9 for a name that is not known
+-- the number of what stops a date: 0 for nothing, 1 to 9 for a reason, and 10 for a name that is not known
 abbrev pub stop_number : Option DateStop → ℕ
 stop_number None = 0
 stop_number (Some (inr reason)) = reason_number reason
-stop_number (Some (inl name)) = 9
+stop_number (Some (inl name)) = 10
 
 -- a date as three numbers
 abbrev pub plain_date : Option (ℕ × ℕ × ℕ) → List ℕ

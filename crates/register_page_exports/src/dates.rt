@@ -111,7 +111,7 @@ fn stop_number(stop: Option<DateStop<'_>>) -> usize
     match stop {
         None => 0,
         Some(DateStop::Reason(reason)) => reason.number(),
-        Some(DateStop::Name(_)) => 9,
+        Some(DateStop::Name(_)) => 10,
     }
 }
 

@@ -1,14 +1,19 @@
 -- What stops a date of a sheet, so that it is not read.
-use Rattle.std.specs.Prelude.{◌≡◌, ◌≢◌, ◌⊎◌, ◌==◌, ℕ, Bool, false, List, [], ◌∷◌, IsUtf8, Option, None, Some, get_or}
+use Rattle.std.specs.Prelude.{◌≡◌, ◌≢◌, ◌⊎◌, ◌==◌, ◌&&◌, ◌||◌, ℕ, Bool, false, true, List, [], ◌∷◌, IsUtf8, Option, None, Some}
+use Rattle.std.specs.Prelude.{get_or}
+use Rattle.std.specs.Option.{is_none}
 use mathlib.Core.Logic.{inl, inr}
 use Rattle.date_texts.specs.DateText.{IsDateText}
 use Rattle.date_texts.specs.declared.calendar.Calendar.{Calendar}
 use Rattle.date_texts.specs.declared.date.Date.{Date}
 use Rattle.register_records.specs.Entries.{Fields}
 use Rattle.written_dates.specs.Fields.{without_blanks}
+use Rattle.written_dates.specs.Rules.{is_year_first}
 use Rattle.written_dates.specs.Stops.{stop}
 use Rattle.written_dates.specs.Unknown.{unknown_word}
 use Rattle.written_dates.specs.declared.meanings.Name.{Name}
+use Rattle.written_dates.specs.declared.rules.Order.{Order}
+use Rattle.written_dates.specs.declared.rules.Order.TheVariants.{DayFirst, MonthFirst}
 use Rattle.written_dates.specs.declared.stops.Stop.{Stop}
 use Rattle.written_dates.specs.declared.stops.Stop.TheVariants as stops
 use Rattle.written_dates.specs.declared.written.Choice.{Choice}
@@ -41,15 +46,44 @@ reason_by (Some stops.NoYear) = reasons.NoYear
 reason_by (Some stops.NoSuchYear) = reasons.NoSuchYear
 reason_by other = reasons.NoDate
 
+-- dates are read so, but with three numbers in this order
+abbrev pub in_order : Order → Choice → Choice
+in_order order reading =
+    record {
+      order = order;
+      short_years = reading.short_years;
+      short_hebrew_years = reading.short_hebrew_years;
+      charters = reading.charters;
+    }
+
+abbrev pub is_read : Choice → Calendar → List Name → List ℕ → Bool
+is_read reading calendar names text = is_none (stop reading calendar names text)
+
+-- the year is looked for first, and a text would be read with the day or the month first
+abbrev pub has_year_last : Choice → Calendar → List Name → List ℕ → Bool
+has_year_last reading calendar names text =
+    is_year_first reading.order && (is_read (in_order DayFirst reading) calendar names text
+    || is_read (in_order MonthFirst reading) calendar names text)
+
+-- no date otherwise is one with the year last
+abbrev pub or_last : Bool → Reason → Reason
+or_last true reasons.NoDate = reasons.YearLast
+or_last last reason = reason
+
+-- the reason for which a text is not read
+abbrev pub text_reason : Choice → Calendar → List Name → List ℕ → Reason
+text_reason reading calendar names text =
+    or_last (has_year_last reading calendar names text) (reason_by (stop reading calendar names text))
+
 -- a word that is not known, or else the reason
-abbrev pub word_or_reason : Calendar → Option (List ℕ) → Option Stop → DateStop
-word_or_reason calendar (Some word) stop = inl (word, Some calendar)
-word_or_reason calendar None stop = inr (reason_by stop)
+abbrev pub word_or_reason : Calendar → Option (List ℕ) → Reason → DateStop
+word_or_reason calendar (Some word) reason = inl (word, Some calendar)
+word_or_reason calendar None reason = inr reason
 
 -- what stops a text that is not read
 abbrev pub text_stop : Choice → Calendar → List Name → List ℕ → DateStop
 text_stop reading calendar names text =
-    word_or_reason calendar (unknown_word calendar names text) (stop reading calendar names text)
+    word_or_reason calendar (unknown_word calendar names text) (text_reason reading calendar names text)
 
 -- this is no text, or no date of the calendar
 abbrev pub IsNoDate : Calendar → List ℕ → Type 0
@@ -116,6 +150,7 @@ reason_number reasons.NoDay = 5
 reason_number reasons.NoYear = 6
 reason_number reasons.NoSuchYear = 7
 reason_number reasons.NoDate = 8
+reason_number reasons.YearLast = 9
 
 -- a date was stopped for this reason
 abbrev pub is_for : Reason → Option DateStop → Bool
@@ -132,3 +167,4 @@ count_of counts reasons.NoDay = counts.no_day
 count_of counts reasons.NoYear = counts.no_year
 count_of counts reasons.NoSuchYear = counts.no_such_year
 count_of counts reasons.NoDate = counts.no_date
+count_of counts reasons.YearLast = counts.year_last

@@ -24,10 +24,12 @@ pub enum Reason {
     NoSuchYear,
     /// It is no date otherwise.
     NoDate,
+    /// It is none as the year is looked for first, and would be one with the day or the month first.
+    YearLast,
 }
 
 impl Reason {
-    /// The number of the reason, from 1 for `NoCalendar` to 8 for `NoDate`.
+    /// The number of the reason, from 1 for `NoCalendar` to 9 for `YearLast`.
     pub fn number(self) -> usize
         ensures { result ≡ reason_number self }
     {
@@ -40,6 +42,7 @@ impl Reason {
             Reason::NoYear => 6,
             Reason::NoSuchYear => 7,
             Reason::NoDate => 8,
+            Reason::YearLast => 9,
         }
     }
 }
@@ -71,6 +74,7 @@ pub struct ReasonCounts {
     pub no_year: usize,
     pub no_such_year: usize,
     pub no_date: usize,
+    pub year_last: usize,
 }
 
 impl ReasonCounts {
@@ -91,6 +95,7 @@ impl ReasonCounts {
             no_year: 0,
             no_such_year: 0,
             no_date: 0,
+            year_last: 0,
         }
     }
 
@@ -107,6 +112,7 @@ impl ReasonCounts {
             Reason::NoYear => self.no_year,
             Reason::NoSuchYear => self.no_such_year,
             Reason::NoDate => self.no_date,
+            Reason::YearLast => self.year_last,
         }
     }
 
@@ -125,6 +131,7 @@ impl ReasonCounts {
             Reason::NoYear => self.no_year += 1,
             Reason::NoSuchYear => self.no_such_year += 1,
             Reason::NoDate => self.no_date += 1,
+            Reason::YearLast => self.year_last += 1,
         }
     }
 }

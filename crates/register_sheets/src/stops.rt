@@ -5,6 +5,7 @@ ghost use Rattle.csv.specs.Records.{fields_of};
 ghost use Rattle.written_dates.specs.Fields.{without_blanks as without_spec};
 ghost use Rattle.register_sheets.specs.DateStops.{IsNoDate, IsStopBy, IsStopIn, StaysWritten, calendar_field};
 ghost use Rattle.register_sheets.specs.DateStops.{calendar_stop as calendar_spec, text_stop as text_spec};
+ghost use Rattle.register_sheets.specs.DateStops.{has_year_last as last_spec, in_order, is_read, text_reason as reason_spec};
 ghost use Rattle.register_sheets.specs.UnknownNames.{is_alike, is_same};
 ghost use Rattle.register_sheets.specs.UnknownViews.{if_stop, name_seen, stop_seen};
 
@@ -14,7 +15,9 @@ use crate::reasons::{Reason, reason_by};
 use csv::ByteRecord;
 use date_texts::{Calendar, read_date};
 use std::str;
-use written_dates::{Choice, Names, is_same_word, stop_of, unknown_word, without_blanks};
+use written_dates::{
+    Choice, Names, Order, is_same_word, is_year_first, stop_of, unknown_word, without_blanks,
+};
 
 /// A name that is not known, and stopped a date.
 #[derive(Clone, Copy)]
@@ -76,6 +79,44 @@ fn stays_written(calendar: Calendar, field: &[u8], date: &[u8]) -> bool
     stays_no_date(calendar, field, date) && !without_blanks(field).is_empty()
 }
 
+/// Whether a text is read where three numbers stand in this order.
+fn is_read_in(
+    order: Order,
+    text: &[u8],
+    calendar: Calendar,
+    names: &Names,
+    reading: &Choice,
+) -> bool
+    ensures { result ≡ is_read (in_order order reading.now) calendar names.now.listed.now text.now }
+{
+    let other = Choice {
+        order,
+        short_years: reading.short_years,
+        short_hebrew_years: reading.short_hebrew_years,
+        charters: reading.charters,
+    };
+    stop_of(text, calendar, names, &other).is_none()
+}
+
+/// Whether the year is looked for first, and a text would be read with the day or the month first.
+fn has_year_last(text: &[u8], calendar: Calendar, names: &Names, reading: &Choice) -> bool
+    ensures { result ≡ last_spec reading.now calendar names.now.listed.now text.now }
+{
+    is_year_first(reading.order)
+        && (is_read_in(Order::DayFirst, text, calendar, names, reading)
+            || is_read_in(Order::MonthFirst, text, calendar, names, reading))
+}
+
+/// The reason for which a text is not read.
+fn text_reason(text: &[u8], calendar: Calendar, names: &Names, reading: &Choice) -> Reason
+    ensures { result ≡ reason_spec reading.now calendar names.now.listed.now text.now }
+{
+    match reason_by(stop_of(text, calendar, names, reading)) {
+        Reason::NoDate if has_year_last(text, calendar, names, reading) => Reason::YearLast,
+        reason => reason,
+    }
+}
+
 /// What stops a text that is not read.
 fn text_stop<'a>(
     text: &'a [u8],
@@ -90,7 +131,7 @@ fn text_stop<'a>(
             name,
             calendar: Some(calendar),
         }),
-        None => DateStop::Reason(reason_by(stop_of(text, calendar, names, reading))),
+        None => DateStop::Reason(text_reason(text, calendar, names, reading)),
     }
 }
 

@@ -127,6 +127,7 @@ fn unknown_by(
     alloc: Global,
     sheet: &[u8],
     known: &Known<'static>,
+    reading: Choice,
     most: usize,
 ) -> Result<Unknown, Fail> {
     let setup = SheetSetup::new(SheetChoice {
@@ -137,7 +138,7 @@ fn unknown_by(
         columns: &COLUMNS,
         spans: Spans::Unread,
         headings: &HEADINGS,
-        reading: READING,
+        reading,
         names: &known.names,
         calendars: &known.calendars,
     })?;
@@ -155,7 +156,7 @@ fn names_that_are_not_known(rt: HostRuntime) -> Result<(), Fail> {
         names: Names::layered(rt.alloc(), &NAMES)?,
         calendars: CalendarNames::layered(rt.alloc(), &CALENDARS)?,
     };
-    let unknown = unknown_by(rt.alloc(), UNKNOWN, &known, 3)?;
+    let unknown = unknown_by(rt.alloc(), UNKNOWN, &known, READING, 3)?;
     let text = unknown.text(rt.alloc())?;
     let wanted = b"name,means,in,count\nFoo,?,gregorian,2\nFoo,?,julian,1\nodd,?,,1\n";
     assert!(rt; text.as_slice() == wanted.as_slice());
@@ -178,7 +179,7 @@ fn dates_are_counted_that_are_not_read(rt: HostRuntime) -> Result<(), Fail> {
         calendars: CalendarNames::layered(rt.alloc(), &CALENDARS)?,
     };
     let (_, end) = converted_by(rt.alloc(), UNKNOWN, 0, &known)?;
-    let unknown = unknown_by(rt.alloc(), UNKNOWN, &known, 0)?;
+    let unknown = unknown_by(rt.alloc(), UNKNOWN, &known, READING, 0)?;
     assert!(rt; unread_in(end) == Some(unknown.unread));
     assert!(rt; unknown.more == 5 && unknown.unread.short == 1);
     Ok(())
@@ -208,8 +209,34 @@ fn why_dates_stay(rt: HostRuntime) -> Result<(), Fail> {
             no_year: 1,
             no_such_year: 1,
             no_date: 1,
+            year_last: 0,
         },
     };
     assert!(rt; unread_in(end) == Some(wanted));
+    Ok(())
+}
+
+/// Four dates with the year last, one with the year first, one with two unlike signs, and one of four numbers.
+const YEARS_LAST: &[u8] =
+    b"N;D;C\nA;12.5.1806;gregorian\nB;5/31/1806;gregorian\nC;1806.5.12;gregorian\nD;12.5/1806;gregorian\n\
+    E;Mai 1806;gregorian\nF;1.2.3.1806;gregorian\nG;30.6.1806;julian\nH;1.9.1222;islamic\n";
+
+#[test]
+fn years_that_stand_last(rt: HostRuntime) -> Result<(), Fail> {
+    let known = Known {
+        names: Names::layered(rt.alloc(), &NAMES)?,
+        calendars: CalendarNames::layered(rt.alloc(), &CALENDARS)?,
+    };
+    let year_first = Choice {
+        order: Order::YearFirst,
+        short_years: Short::Refuse,
+        short_hebrew_years: Short::Refuse,
+        charters: false,
+    };
+    let first = unknown_by(rt.alloc(), YEARS_LAST, &known, year_first, 0)?;
+    let reasons = first.unread.reasons;
+    assert!(rt; reasons.year_last == 4 && reasons.no_date == 2 && reasons.no_day == 1);
+    let last = unknown_by(rt.alloc(), YEARS_LAST, &known, READING, 0)?;
+    assert!(rt; last.unread.reasons.year_last == 0 && last.unread.reasons.no_date == 2);
     Ok(())
 }

@@ -75,6 +75,8 @@ reason_words reasons.NoSuchYear = (
   codes " dates have a year that the French Republic did not have\n",
 )
 reason_words reasons.NoDate = (codes " date is no date of its calendar\n", codes " dates are no dates of their calendars\n")
+reason_words reasons.YearLast =
+    (codes " date has the year last: see --order\n", codes " dates have the year last: see --order\n")
 
 abbrev pub reason_line : Text → ReasonCounts → Reason → Text
 reason_line name counts reason =
@@ -92,7 +94,9 @@ sign_lines name counts =
     ++ (reason_line name counts reasons.Minus ++ reason_line name counts reasons.OtherWeekday)
 
 abbrev pub other_lines : Text → ReasonCounts → Text
-other_lines name counts = reason_line name counts reasons.NoSuchYear ++ reason_line name counts reasons.NoDate
+other_lines name counts =
+    reason_line name counts reasons.NoSuchYear
+    ++ (reason_line name counts reasons.YearLast ++ reason_line name counts reasons.NoDate)
 
 -- the lines on dates that stay as they are written, for each reason
 abbrev pub reason_lines : Text → ReasonCounts → Text

@@ -183,6 +183,10 @@ fn words_of(reason: Reason) -> (&'static [u8], &'static [u8])
             b" date is no date of its calendar\n".as_slice(),
             b" dates are no dates of their calendars\n".as_slice(),
         ),
+        Reason::YearLast => (
+            b" date has the year last: see --order\n".as_slice(),
+            b" dates have the year last: see --order\n".as_slice(),
+        ),
     }
 }
 
@@ -295,8 +299,9 @@ fn report_others<E: Output>(
     ensures mark { E.own_mark errors.new ≡ E.own_mark errors.old }
 {
     let year = report_reason(alloc, errors, name, counts, Reason::NoSuchYear);
+    let last = report_reason(alloc, errors, name, counts, Reason::YearLast);
     let date = report_reason(alloc, errors, name, counts, Reason::NoDate);
-    year && date
+    year && last && date
 }
 
 /// Reports the dates of a sheet that stay as they are written, for each reason.

@@ -1,5 +1,6 @@
 -- What the values of the options mean.
 use Rattle.std.specs.Prelude.{◌≡◌, ◌⊎◌, ◌+◌, ◌%◌, ℕ, List, codes}
+use Rattle.std.specs.Str.{str_to_ascii_lowercase}
 use Rattle.command_lines.specs.Values.{IsNumberWord, ValueOption}
 use Rattle.written_dates.specs.declared.rules.Order.{Order}
 use Rattle.written_dates.specs.declared.rules.Order.TheVariants.{YearFirst, DayFirst, MonthFirst}
@@ -12,12 +13,12 @@ order_number YearFirst = 0
 order_number DayFirst = 1
 order_number MonthFirst = 2
 
--- the words for an order
+-- the words for an order, in letters of any case
 abbrev pub IsOrderWord : List ℕ → ℕ → Type 0
 IsOrderWord word n =
-    ((word ≡ codes "year") × (n ≡ order_number YearFirst))
-    ⊎ ((word ≡ codes "day") × (n ≡ order_number DayFirst))
-    ⊎ ((word ≡ codes "month") × (n ≡ order_number MonthFirst))
+    ((str_to_ascii_lowercase word ≡ codes "year") × (n ≡ order_number YearFirst))
+    ⊎ ((str_to_ascii_lowercase word ≡ codes "day") × (n ≡ order_number DayFirst))
+    ⊎ ((str_to_ascii_lowercase word ≡ codes "month") × (n ≡ order_number MonthFirst))
 
 -- a number for each rule of short years
 abbrev pub short_number : Short → ℕ

@@ -25,7 +25,7 @@ Options:
                       of the record.
     --order WORD      in which order three numbers stand: year (year, month,
                       day), day (day, month, year) or month (month, day,
-                      year). Without it: year.
+                      year), in letters of any case. Without it: year.
     --names FILE      a list of names, a CSV text with the columns name, means
                       and in; its names stand before the built-in ones.
     --short-years R   what is done with Gregorian and Julian years of one or

@@ -1,6 +1,7 @@
 //! The values of the options.
 
-ghost use Rattle.std.specs.Prelude.{◌≡◌, ◌↔◌, ◌%◌, ℕ, IfErr, IfOk, IsSomeAnd, Some, option_map};
+ghost use Rattle.std.specs.Prelude.{◌≡◌, ◌↔◌, ◌%◌, ℕ, IfErr, IfOk, IsSomeAnd, Some, option_map, true};
+ghost use Rattle.std.specs.Str.{str_to_ascii_lowercase};
 ghost use Rattle.command_lines.specs.Meanings.{option_check};
 ghost use Rattle.command_lines.specs.Values.{IsNumberWord, IsValueOf, byte_of, delimiter_option};
 ghost use Rattle.sheet_arguments.specs.Faults.{bad_short_hebrew_years, bad_short_years, bad_skip, fault_of_error};
@@ -27,6 +28,13 @@ pub struct OrderValue {
     pub order: Order,
 }
 
+/// Whether a text is this word, in letters of any case.
+fn is_caseless(text: &str, word: &str) -> bool
+    ensures { (result ≡ true) ↔ (str_to_ascii_lowercase text.now ≡ str_to_ascii_lowercase word.now) }
+{
+    text.eq_ignore_ascii_case(word)
+}
+
 impl OptionValue for OrderValue {
     ghost option = { order_option };
 
@@ -39,11 +47,14 @@ impl OptionValue for OrderValue {
     }
 
     fn named(word: &str) -> Option<OrderValue> {
-        let order = match word {
-            "year" => Order::YearFirst,
-            "day" => Order::DayFirst,
-            "month" => Order::MonthFirst,
-            _ => return None,
+        let order = if is_caseless(word, "year") {
+            Order::YearFirst
+        } else if is_caseless(word, "day") {
+            Order::DayFirst
+        } else if is_caseless(word, "month") {
+            Order::MonthFirst
+        } else {
+            return None;
         };
         Some(OrderValue { order })
     }

@@ -7,4 +7,4 @@ use Rattle.sheet_app.proofs.reports.push_spans.Given as goal
 abbrev pub invariant-dates : goal.invariant-dates
 invariant-dates l =
     l.line.items ≡ (l.fn.line.items ++ codes ", spans: ")
-        ++ listed (take l.index (map (λ counts. decimal counts.spans) l.columns))
+    ++ listed (take l.index (map (λ counts. decimal counts.spans) l.columns))

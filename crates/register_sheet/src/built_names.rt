@@ -294,267 +294,267 @@ feast 12-8,gregorian julian\nante,,roman\nante diem,,roman\na,,roman\nden,,\nder
 l'an,year,\nl’an,year,\nan,year,\nannée,year,\nl'année,year,\nl’année,year,\nen,,\nil,,\ndel,,\ndell'anno,year,\
 \ndell’anno,year,\nel,,\ndía,day,\ndel año,year,\naño,year,\ndnia,day,\nroku,year,\nr,year,\ndne,day,\ndie,day,\nd\
 e dato,,\nvan,,\nhet,,\ner,,\nère,,\nere,,\nème,,\neme,,\nre,,\nst,,\nnd,,\nrd,,\nth,,\nte,,\nter,,gregorian julian h\
-ebrew islamic french republican\nsten,,\nste,,\ntes,,\nens,,\nº,,\nª,,\no,,\ne,,\nster,,\nyear,year,\nyear of our Lor\
-d,year,\nof our Lord,year,\nour Lord,year,\nJahr,year,\nJahre,year,\nJahres,year,\nnach Christi Geburt,year,\nn Chr,yea\
-r,\nanno Dni,year,\nanno salutis,year,\nanni,year,\nannus,year,\nAo Dni,year,\nA°,year,\nAº,year,\njaar,year,\njaer,y\
-ear,\ndo ano,year,\nano,year,\nannée de grâce,year,\nl'an de grâce,year,\nl’an de grâce,year,\nl'an de grace,year\
-,\nl’an de grace,year,\nгода,year,\nгоду,year,\nгодъ,year,\nгода от Рождества Христо\
-ва,year,\nг,year,\nлета,year,\når,year,\naar,year,\nár,year,\nAnno Christi,year,\nnell'anno,year,\nnell’anno\
-,year,\nго,,\nого,,\nye,,\njour de,day,\nдня,day,\nчисла,day,\ndag,day,\nTag des,day,\ndì,day,\na dì,day\
-,\nadì,day,\naddì,day,\nde la République,,french republican\nde la Republique,,french republican\nde la République \
-française,,french republican\nde la République francaise,,french republican\nde la République françoise,,french rep\
-ublican\nde la Republique francaise,,french republican\nde la Republique françoise,,french republican\nde la Republiqu\
-e francoise,,french republican\nde la République une et indivisible,,french republican\nde la République française u\
-ne et indivisible,,french republican\nder Republik,,french republican\nder fränkischen Republik,,french republican\nde\
-r französischen Republik,,french republican\nder fränk. Republik,,french republican\nder frz. Republik,,french republ\
-ican\nrépublicain,,french republican\nrépublicaine,,french republican\nde l'ère républicaine,,french republican\nd\
-e l’ère républicaine,,french republican\nfestum,,gregorian julian\nfesti,,gregorian julian\nfest,,gregorian julian\
-\nfeast of,,gregorian julian\nfête de,,gregorian julian\ndivi,,gregorian julian\ndivae,,gregorian julian\nbeate,,grego\
-rian julian\nsancte,,gregorian julian\nfesto,,gregorian julian\nin festo,,gregorian julian\nin die,day,gregorian julian\
-\nS,,gregorian julian\nSankt,,gregorian julian\nsancti,,gregorian julian\nsanctae,,gregorian julian\nbeati,,gregorian j\
-ulian\nbeatae,,gregorian julian\napostoli,,gregorian julian\napostolorum,,gregorian julian\nevangelistae,,gregorian jul\
-ian\narchangeli,,gregorian julian\nten jare,year,\nJan y,month 1,gregorian julian\nJan ry,month 1,gregorian julian\nFe\
-b y,month 2,gregorian julian\nFeb ry,month 2,gregorian julian\nMch,month 3,gregorian julian\nAp'l,month 4,gregorian jul\
-ian\nAp’l,month 4,gregorian julian\nAp l,month 4,gregorian julian\nAug't,month 8,gregorian julian\nAug’t,month 8,gr\
-egorian julian\nAug t,month 8,gregorian julian\nSept'r,month 9,gregorian julian\nSept’r,month 9,gregorian julian\nSep\
-t r,month 9,gregorian julian\nSep'r,month 9,gregorian julian\nSep’r,month 9,gregorian julian\nSep r,month 9,gregoria\
-n julian\nOct'r,month 10,gregorian julian\nOct’r,month 10,gregorian julian\nOct r,month 10,gregorian julian\nNov'r,mo\
-nth 11,gregorian julian\nNov’r,month 11,gregorian julian\nNov r,month 11,gregorian julian\nDec'r,month 12,gregorian j\
-ulian\nDec’r,month 12,gregorian julian\nDec r,month 12,gregorian julian\nJanuarie,month 1,gregorian julian\nJanuarye,\
-month 1,gregorian julian\nFebruarie,month 2,gregorian julian\nFebruarye,month 2,gregorian julian\nMarche,month 3,gregor\
-ian julian\nAprill,month 4,gregorian julian\nMaye,month 5,gregorian julian\nMaie,month 5,gregorian julian\nIune,month 6\
-,gregorian julian\nIuly,month 7,gregorian julian\nIulie,month 7,gregorian julian\nJulie,month 7,gregorian julian\nJulye\
-,month 7,gregorian julian\nAuguste,month 8,gregorian julian\nSeptemb,month 9,gregorian julian\nOctob,month 10,gregoria\
-n julian\nNovemb,month 11,gregorian julian\nDecemb,month 12,gregorian julian\nLord's Day,weekday 0,\nLord’s Day,weekd\
-ay 0,\nLords Day,weekday 0,\nWeds,weekday 3,\nWednes,weekday 3,\nJanuario,month 1,gregorian julian\nIanuario,month 1,gr\
-egorian julian\nFebruario,month 2,gregorian julian\nMartio,month 3,gregorian julian\nAprili,month 4,gregorian julian\nI\
-unio,month 6,gregorian julian\nIulio,month 7,gregorian julian\nAugusto,month 8,gregorian julian\nSeptembri,month 9,greg\
-orian julian\n7bri,month 9,gregorian julian\nVII bris,month 9,gregorian julian\nOctobri,month 10,gregorian julian\n8bri\
-,month 10,gregorian julian\nVIII bris,month 10,gregorian julian\nNovembri,month 11,gregorian julian\n9bri,month 11,greg\
-orian julian\nIX bris,month 11,gregorian julian\nDecembri,month 12,gregorian julian\n10bri,month 12,gregorian julian\nX\
-bri,month 12,gregorian julian\nX bris,month 12,gregorian julian\nX ber,month 12,gregorian julian\nX bre,month 12,gregor\
-ian julian\nIanuar,month 1,gregorian julian\nSeptembr,month 9,gregorian julian\nNovembr,month 11,gregorian julian\nDece\
-mbr,month 12,gregorian julian\ndie Solis,weekday 0,\ndies Solis,weekday 0,\nferia II,weekday 1,\nfer 2,weekday 1,\nfer \
-II,weekday 1,\nferia III,weekday 2,\nfer 3,weekday 2,\nfer III,weekday 2,\nferia IV,weekday 3,\nferia IIII,weekday 3,\n\
-fer 4,weekday 3,\nfer IV,weekday 3,\nferia V,weekday 4,\nfer 5,weekday 4,\nfer V,weekday 4,\nferia VI,weekday 5,\nfer 6\
-,weekday 5,\nfer VI,weekday 5,\nsabbati,weekday 6,\nsabbathi,weekday 6,\ndie Sabbathi,weekday 6,\nsabbatho,weekday 6,\n\
-іануарій,month 1,gregorian julian\nіануарія,month 1,gregorian julian\nянуарій,month 1,gregorian \
-julian\nянуарія,month 1,gregorian julian\nфев,month 2,gregorian julian\nфевруарій,month 2,gregorian \
-julian\nфевруарія,month 2,gregorian julian\nмартъ,month 3,gregorian julian\nаприлій,month 4,gregor\
-ian julian\nаприлія,month 4,gregorian julian\nмаій,month 5,gregorian julian\nмаія,month 5,gregorian juli\
-an\nмаия,month 5,gregorian julian\nмайя,month 5,gregorian julian\nіуній,month 6,gregorian julian\nіуні\
-я,month 6,gregorian julian\nиюния,month 6,gregorian julian\nіюн,month 6,gregorian julian\nіулій,month 7,g\
-regorian julian\nіулія,month 7,gregorian julian\nиюлия,month 7,gregorian julian\nіюл,month 7,gregorian jul\
-ian\nавгустъ,month 8,gregorian julian\nсептемврій,month 9,gregorian julian\nсептемврія,mont\
-h 9,gregorian julian\nсен,month 9,gregorian julian\nсентебря,month 9,gregorian julian\nоктоврій,mont\
-h 10,gregorian julian\nоктоврія,month 10,gregorian julian\nоктебря,month 10,gregorian julian\nноемв\
-рій,month 11,gregorian julian\nноемврія,month 11,gregorian julian\nноя,month 11,gregorian julian\nдек\
-емврій,month 12,gregorian julian\nдекемврія,month 12,gregorian julian\nвоскресеніе,weekday 0,\
-\nвоскресение,weekday 0,\nвоскр,weekday 0,\nвс,weekday 0,\nпонедѣльникъ,weekday 1,\nпо\
-недѣльник,weekday 1,\nпн,weekday 1,\nвторникъ,weekday 2,\nвт,weekday 2,\nсреду,weekday 3,\nс\
-ереду,weekday 3,\nср,weekday 3,\nчетвергъ,weekday 4,\nчетвертокъ,weekday 4,\nчт,weekday 4,\n\
-пятницу,weekday 5,\nпятокъ,weekday 5,\nпт,weekday 5,\nсубботу,weekday 6,\nсб,weekday 6,\nсїч\
-ень,month 1,gregorian julian\nсїчня,month 1,gregorian julian\nмарець,month 3,gregorian julian\nмарця\
-,month 3,gregorian julian\nкві,month 4,gregorian julian\nцвітень,month 4,gregorian julian\nцвітня,mont\
-h 4,gregorian julian\nтра,month 5,gregorian julian\nчер,month 6,gregorian julian\nжов,month 10,gregorian julia\
-n\nлис,month 11,gregorian julian\nгру,month 12,gregorian julian\nнеділю,weekday 0,\nнд,weekday 0,\nп'я\
-тниця,weekday 5,\nп’ятниця,weekday 5,\nп'ятницю,weekday 5,\nп’ятницю,weekday 5,\nпʼят\
-ницю,weekday 5,\nсуботу,weekday 6,\nJanuárius,month 1,gregorian julian\nFebruárius,month 2,gregorian julian\
-\nMártius,month 3,gregorian julian\nMárczius,month 3,gregorian julian\nMártzius,month 3,gregorian julian\nMarcius,mo\
-nth 3,gregorian julian\nDeczember,month 12,gregorian julian\nDeczber,month 12,gregorian julian\njanuár hó,month 1,gre\
-gorian julian\njanuár hava,month 1,gregorian julian\njanuár havának,month 1,gregorian julian\nfebruár hó,month 2,g\
-regorian julian\nfebruár hava,month 2,gregorian julian\nfebruár havának,month 2,gregorian julian\nmárcius hó,mont\
-h 3,gregorian julian\nmárcius hava,month 3,gregorian julian\nmárcius havának,month 3,gregorian julian\náprilis hó,\
-month 4,gregorian julian\náprilis hava,month 4,gregorian julian\náprilis havának,month 4,gregorian julian\nmájus h\
-ó,month 5,gregorian julian\nmájus hava,month 5,gregorian julian\nmájus havának,month 5,gregorian julian\njúnius h\
-ó,month 6,gregorian julian\njúnius hava,month 6,gregorian julian\njúnius havának,month 6,gregorian julian\njúlius \
-hó,month 7,gregorian julian\njúlius hava,month 7,gregorian julian\njúlius havának,month 7,gregorian julian\nauguszt\
-us hó,month 8,gregorian julian\naugusztus hava,month 8,gregorian julian\naugusztus havának,month 8,gregorian julian\n\
-szeptember hó,month 9,gregorian julian\nszeptember hava,month 9,gregorian julian\nszeptember havának,month 9,gregoria\
-n julian\noktóber hó,month 10,gregorian julian\noktóber hava,month 10,gregorian julian\noktóber havának,month 10,g\
-regorian julian\nnovember hó,month 11,gregorian julian\nnovember hava,month 11,gregorian julian\nnovember havának,mon\
-th 11,gregorian julian\ndecember hó,month 12,gregorian julian\ndecember hava,month 12,gregorian julian\ndecember havá\
-nak,month 12,gregorian julian\nBoldogasszony hava,month 1,gregorian julian\nBöjtelő hava,month 2,gregorian julian\nB\
-öjtmás hava,month 3,gregorian julian\nSzent György hava,month 4,gregorian julian\nPünkösd hava,month 5,gregorian j\
-ulian\nSzent Iván hava,month 6,gregorian julian\nSzent Jakab hava,month 7,gregorian julian\nKisasszony hava,month 8,gr\
-egorian julian\nSzent Mihály hava,month 9,gregorian julian\nMindszent hava,month 10,gregorian julian\nSzent András ha\
-va,month 11,gregorian julian\nKarácsony hava,month 12,gregorian julian\nvasarnap,weekday 0,\nhétfőn,weekday 1,\nhetf\
-o,weekday 1,\nhétf,weekday 1,\nkedden,weekday 2,\nszerdán,weekday 3,\nszerdan,weekday 3,\ncsütörtökön,weekday 4,\
-\ncsutortok,weekday 4,\ncsüt,weekday 4,\npénteken,weekday 5,\npentek,weekday 5,\npént,weekday 5,\nszombaton,weekday \
-6,\nszomb,weekday 6,\nJaneyro,month 1,gregorian julian\nJanro,month 1,gregorian julian\nJan ro,month 1,gregorian julian\
-\nFevereyro,month 2,gregorian julian\nFevro,month 2,gregorian julian\nFev ro,month 2,gregorian julian\nmarso,month 3,gr\
-egorian julian\nSeptembro,month 9,gregorian julian\n7bro,month 9,gregorian julian\nSetbro,month 9,gregorian julian\nOct\
-ubro,month 10,gregorian julian\n8bro,month 10,gregorian julian\nOutbro,month 10,gregorian julian\n9bro,month 11,gregori\
-an julian\nNovbro,month 11,gregorian julian\nDecembro,month 12,gregorian julian\n10bro,month 12,gregorian julian\nXbro,\
-month 12,gregorian julian\nDezbro,month 12,gregorian julian\nmês de janeiro,month 1,gregorian julian\nmez de janeiro,m\
-onth 1,gregorian julian\ndo mês de janeiro,month 1,gregorian julian\ndo mez de janeiro,month 1,gregorian julian\nmês \
-de fevereiro,month 2,gregorian julian\nmez de fevereiro,month 2,gregorian julian\ndo mês de fevereiro,month 2,gregoria\
-n julian\ndo mez de fevereiro,month 2,gregorian julian\nmês de março,month 3,gregorian julian\nmez de março,month 3,\
-gregorian julian\ndo mês de março,month 3,gregorian julian\ndo mez de março,month 3,gregorian julian\nmês de abril,\
-month 4,gregorian julian\nmez de abril,month 4,gregorian julian\ndo mês de abril,month 4,gregorian julian\ndo mez de a\
-bril,month 4,gregorian julian\nmês de maio,month 5,gregorian julian\nmez de maio,month 5,gregorian julian\ndo mês de \
-maio,month 5,gregorian julian\ndo mez de maio,month 5,gregorian julian\nmês de junho,month 6,gregorian julian\nmez de \
-junho,month 6,gregorian julian\ndo mês de junho,month 6,gregorian julian\ndo mez de junho,month 6,gregorian julian\nm\
-ês de julho,month 7,gregorian julian\nmez de julho,month 7,gregorian julian\ndo mês de julho,month 7,gregorian julian\
-\ndo mez de julho,month 7,gregorian julian\nmês de agosto,month 8,gregorian julian\nmez de agosto,month 8,gregorian ju\
-lian\ndo mês de agosto,month 8,gregorian julian\ndo mez de agosto,month 8,gregorian julian\nmês de setembro,month 9,g\
-regorian julian\nmez de setembro,month 9,gregorian julian\ndo mês de setembro,month 9,gregorian julian\ndo mez de sete\
-mbro,month 9,gregorian julian\nmês de outubro,month 10,gregorian julian\nmez de outubro,month 10,gregorian julian\ndo \
-mês de outubro,month 10,gregorian julian\ndo mez de outubro,month 10,gregorian julian\nmês de novembro,month 11,grego\
-rian julian\nmez de novembro,month 11,gregorian julian\ndo mês de novembro,month 11,gregorian julian\ndo mez de novemb\
-ro,month 11,gregorian julian\nmês de dezembro,month 12,gregorian julian\nmez de dezembro,month 12,gregorian julian\nd\
-o mês de dezembro,month 12,gregorian julian\ndo mez de dezembro,month 12,gregorian julian\nseg,weekday 1,\n2ª feira,w\
-eekday 1,\nterca-feira,weekday 2,\n3ª feira,weekday 2,\nqua,weekday 3,\n4ª feira,weekday 3,\nqui,weekday 4,\n5ª feir\
-a,weekday 4,\n6ª feira,weekday 5,\nsáb,weekday 6,\nsabado,weekday 6,\nsab,weekday 6,\nenº,month 1,gregorian julian\n\
-en.º,month 1,gregorian julian\nhenero,month 1,gregorian julian\nfebº,month 2,gregorian julian\nhebrero,month 2,gregor\
-ian julian\nfebro,month 2,gregorian julian\nmço,month 3,gregorian julian\nmzo,month 3,gregorian julian\nabl,month 4,gr\
-egorian julian\njunº,month 6,gregorian julian\njulº,month 7,gregorian julian\nagto,month 8,gregorian julian\nagº,mon\
-th 8,gregorian julian\nag to,month 8,gregorian julian\nseptbre,month 9,gregorian julian\nsetbre,month 9,gregorian julia\
-n\noctbre,month 10,gregorian julian\notubre,month 10,gregorian julian\nnobiembre,month 11,gregorian julian\nnovbre,mont\
-h 11,gregorian julian\nnovre,month 11,gregorian julian\ndiziembre,month 12,gregorian julian\ndeziembre,month 12,gregori\
-an julian\ndicbre,month 12,gregorian julian\ndizbre,month 12,gregorian julian\ndel mes de enero,month 1,gregorian julia\
-n\ndel mes de febrero,month 2,gregorian julian\ndel mes de marzo,month 3,gregorian julian\ndel mes de abril,month 4,gre\
-gorian julian\ndel mes de mayo,month 5,gregorian julian\ndel mes de junio,month 6,gregorian julian\ndel mes de julio,mo\
-nth 7,gregorian julian\ndel mes de agosto,month 8,gregorian julian\ndel mes de septiembre,month 9,gregorian julian\nde\
-l mes de octubre,month 10,gregorian julian\ndel mes de noviembre,month 11,gregorian julian\ndel mes de diciembre,month \
-12,gregorian julian\nmié,weekday 3,\nmiercoles,weekday 3,\nmie,weekday 3,\njue,weekday 4,\nvie,weekday 5,\nKânunusani\
-,month 1,gregorian julian\nKanunusani,month 1,gregorian julian\nKânun-ı sani,month 1,gregorian julian\nKanun-ı sani,\
-month 1,gregorian julian\nİkincikânun,month 1,gregorian julian\nİkinci Kânun,month 1,gregorian julian\nSonkânun,mo\
-nth 1,gregorian julian\nSonkanun,month 1,gregorian julian\nKânunisani,month 1,gregorian julian\nsubat,month 2,gregoria\
-n julian\nNİSAN,month 4,gregorian julian\nmayis,month 5,gregorian julian\nHAZİRAN,month 6,gregorian julian\nagustos,m\
-onth 8,gregorian julian\neylul,month 9,gregorian julian\nEylûl,month 9,gregorian julian\nEKİM,month 10,gregorian juli\
-an\nTeşrinievvel,month 10,gregorian julian\nTeşrin-i evvel,month 10,gregorian julian\nTesrinievvel,month 10,gregoria\
-n julian\nBirinciteşrin,month 10,gregorian julian\nBirinci Teşrin,month 10,gregorian julian\nİlkteşrin,month 10,gre\
-gorian julian\nkasim,month 11,gregorian julian\nTeşrinisani,month 11,gregorian julian\nTeşrin-i sani,month 11,gregori\
-an julian\nTesrinisani,month 11,gregorian julian\nİkinciteşrin,month 11,gregorian julian\nİkinci Teşrin,month 11,gr\
-egorian julian\nSonteşrin,month 11,gregorian julian\nSontesrin,month 11,gregorian julian\naralik,month 12,gregorian ju\
-lian\nKânunuevvel,month 12,gregorian julian\nKanunuevvel,month 12,gregorian julian\nKânun-ı evvel,month 12,gregoria\
-n julian\nKanun-ı evvel,month 12,gregorian julian\nBirincikânun,month 12,gregorian julian\nBirinci Kânun,month 12,gr\
-egorian julian\nİlkkânun,month 12,gregorian julian\nKânunievvel,month 12,gregorian julian\nPaz,weekday 0,\nPzt,weekd\
-ay 1,\nsali,weekday 2,\nÇar,weekday 3,\ncarsamba,weekday 3,\npersembe,weekday 4,\nCmt,weekday 6,\nPazar günü,weekda\
-y 0,\nPazartesi günü,weekday 1,\nSalı günü,weekday 2,\nÇarşamba günü,weekday 3,\nPerşembe günü,weekday 4,\n\
-Cuma günü,weekday 5,\nCumartesi günü,weekday 6,\nΙανουαριος,month 1,gregorian julian\nΦεβρουαρι\
-ος,month 2,gregorian julian\nΜαρτιος,month 3,gregorian julian\nΑπριλιος,month 4,gregorian julian\nΜα\
-ιος,month 5,gregorian julian\nΙουνιος,month 6,gregorian julian\nΙουλιος,month 7,gregorian julian\nΑυ\
-γουστος,month 8,gregorian julian\nΣεπτεμβριος,month 9,gregorian julian\nΟκτωβριος,month 10,g\
-regorian julian\nΝοεμβριος,month 11,gregorian julian\nΔεκεμβριος,month 12,gregorian julian\nΙανο\
-υαριου,month 1,gregorian julian\nΦεβρουαριου,month 2,gregorian julian\nΜαρτιου,month 3,gregoria\
-n julian\nΑπριλιου,month 4,gregorian julian\nΜαιου,month 5,gregorian julian\nΙουνιου,month 6,gregor\
-ian julian\nΙουλιου,month 7,gregorian julian\nΑυγουστου,month 8,gregorian julian\nΣεπτεμβριο\
-υ,month 9,gregorian julian\nΟκτωβριου,month 10,gregorian julian\nΝοεμβριου,month 11,gregorian julian\
-\nΔεκεμβριου,month 12,gregorian julian\nἸανουάριος,month 1,gregorian julian\nἸανουαρίου\
-,month 1,gregorian julian\nἈπρίλιος,month 4,gregorian julian\nἈπριλίου,month 4,gregorian julian\nΜά\
-ϊος,month 5,gregorian julian\nἸούνιος,month 6,gregorian julian\nἸουνίου,month 6,gregorian julian\n\
-Ἰούλιος,month 7,gregorian julian\nἸουλίου,month 7,gregorian julian\nΑὔγουστος,month 8,gregori\
-an julian\nΑὐγούστου,month 8,gregorian julian\nὈκτώβριος,month 10,gregorian julian\nὈκτωβρί\
-ου,month 10,gregorian julian\nΓενάρης,month 1,gregorian julian\nΓενάρη,month 1,gregorian julian\nΦλε\
-βάρης,month 2,gregorian julian\nΦλεβάρη,month 2,gregorian julian\nΜάρτης,month 3,gregorian julian\nΜ\
-άρτη,month 3,gregorian julian\nΑπρίλης,month 4,gregorian julian\nΑπρίλη,month 4,gregorian julian\nΜά\
-ης,month 5,gregorian julian\nΜάη,month 5,gregorian julian\nΙούνης,month 6,gregorian julian\nΙούνη,mont\
-h 6,gregorian julian\nΙούλης,month 7,gregorian julian\nΙούλη,month 7,gregorian julian\nΣεπτέμβρης,\
-month 9,gregorian julian\nΣεπτέμβρη,month 9,gregorian julian\nΟκτώβρης,month 10,gregorian julian\nΟκ\
-τώβρη,month 10,gregorian julian\nΝοέμβρης,month 11,gregorian julian\nΝοέμβρη,month 11,gregorian jul\
-ian\nΔεκέμβρης,month 12,gregorian julian\nΔεκέμβρη,month 12,gregorian julian\nΓεναρης,month 1,g\
-regorian julian\nΓεναρη,month 1,gregorian julian\nΦλεβαρης,month 2,gregorian julian\nΦλεβαρη,mont\
-h 2,gregorian julian\nΜαρτης,month 3,gregorian julian\nΜαρτη,month 3,gregorian julian\nΑπριλης,month \
-4,gregorian julian\nΑπριλη,month 4,gregorian julian\nΜαης,month 5,gregorian julian\nΜαη,month 5,gregorian \
-julian\nΙουνης,month 6,gregorian julian\nΙουνη,month 6,gregorian julian\nΙουλης,month 7,gregorian juli\
-an\nΙουλη,month 7,gregorian julian\nΣεπτεμβρης,month 9,gregorian julian\nΣεπτεμβρη,month 9,greg\
-orian julian\nΟκτωβρης,month 10,gregorian julian\nΟκτωβρη,month 10,gregorian julian\nΝοεμβρης,mo\
-nth 11,gregorian julian\nΝοεμβρη,month 11,gregorian julian\nΔεκεμβρης,month 12,gregorian julian\nΔεκ\
-εμβρη,month 12,gregorian julian\nἸαν,month 1,gregorian julian\nΦεβρ,month 2,gregorian julian\nΜάρ,mont\
-h 3,gregorian julian\nΜαρτ,month 3,gregorian julian\nἈπρ,month 4,gregorian julian\nΜάι,month 5,gregorian jul\
-ian\nΜαϊ,month 5,gregorian julian\nΜαι,month 5,gregorian julian\nΙούν,month 6,gregorian julian\nἸουν,mon\
-th 6,gregorian julian\nΙούλ,month 7,gregorian julian\nἸουλ,month 7,gregorian julian\nΑύγ,month 8,gregorian \
-julian\nΑὐγ,month 8,gregorian julian\nΣεπτ,month 9,gregorian julian\nὈκτ,month 10,gregorian julian\nΟκτ\
-ωβρ,month 10,gregorian julian\nΝοέ,month 11,gregorian julian\nΝοεμβρ,month 11,gregorian julian\nΔεκεμ\
-βρ,month 12,gregorian julian\nΚυριακη,weekday 0,\nΔευτερα,weekday 1,\nΤριτη,weekday 2,\nΤεταρ\
-τη,weekday 3,\nΠεμπτη,weekday 4,\nΠαρασκευη,weekday 5,\nΣαββατο,weekday 6,\nΚυρ,weekday 0,\n\
-Κυριακήν,weekday 0,\nΔευ,weekday 1,\nΔευτέραν,weekday 1,\nΤρί,weekday 2,\nΤρι,weekday 2,\nΤρ\
-ίτην,weekday 2,\nΤετ,weekday 3,\nΤετάρτην,weekday 3,\nΠέμ,weekday 4,\nΠεμ,weekday 4,\nΠέμπτη\
-ν,weekday 4,\nΠαρ,weekday 5,\nΠαρασκευήν,weekday 5,\nΣάβ,weekday 6,\nΣαβ,weekday 6,\nΣάββατο\
-ν,weekday 6,\ntammi,month 1,gregorian julian\ntammik,month 1,gregorian julian\ntammikuun,month 1,gregorian julian\nhel\
-mi,month 2,gregorian julian\nhelmik,month 2,gregorian julian\nhelmikuun,month 2,gregorian julian\nmaalis,month 3,gregor\
-ian julian\nmaalisk,month 3,gregorian julian\nmaaliskuun,month 3,gregorian julian\nhuhti,month 4,gregorian julian\nhuht\
-ik,month 4,gregorian julian\nhuhtikuun,month 4,gregorian julian\ntouko,month 5,gregorian julian\ntoukok,month 5,gregori\
-an julian\ntoukokuun,month 5,gregorian julian\nkesä,month 6,gregorian julian\nkesäk,month 6,gregorian julian\nkesäku\
-un,month 6,gregorian julian\nheinä,month 7,gregorian julian\nheinäk,month 7,gregorian julian\nheinäkuun,month 7,greg\
-orian julian\nelo,month 8,gregorian julian\nelok,month 8,gregorian julian\nelokuun,month 8,gregorian julian\nsyys,mont\
-h 9,gregorian julian\nsyysk,month 9,gregorian julian\nsyyskuun,month 9,gregorian julian\nloka,month 10,gregorian julian\
-\nlokak,month 10,gregorian julian\nlokakuun,month 10,gregorian julian\nmarras,month 11,gregorian julian\nmarrask,month \
-11,gregorian julian\nmarraskuun,month 11,gregorian julian\njoulu,month 12,gregorian julian\njouluk,month 12,gregorian j\
-ulian\njoulukuun,month 12,gregorian julian\nkesakuu,month 6,gregorian julian\nkesakuuta,month 6,gregorian julian\nkesak\
-uun,month 6,gregorian julian\nheinakuu,month 7,gregorian julian\nheinakuuta,month 7,gregorian julian\nheinakuun,month 7\
-,gregorian julian\nsu,weekday 0,\nsunnuntaina,weekday 0,\nmaanantaina,weekday 1,\ntiistaina,weekday 2,\nke,weekday 3,\n\
-keskiviikkona,weekday 3,\ntorstaina,weekday 4,\npe,weekday 5,\nperjantaina,weekday 5,\nlauantaina,weekday 6,\nsön,week\
-day 0,\nsöndagen,weekday 0,\nsondag,weekday 0,\nmån,weekday 1,\nmåndagen,weekday 1,\ntis,weekday 2,\ntisdagen,weekda\
-y 2,\nons,weekday 3,\nonsdagen,weekday 3,\ntors,weekday 4,\ntorsdagen,weekday 4,\nthorsdag,weekday 4,\nfre,weekday 5,\n\
-fredagen,weekday 5,\nlör,weekday 6,\nlördagen,weekday 6,\nlordag,weekday 6,\nsøn,weekday 0,\nsøndagen,weekday 0,\ns\
-undag,weekday 0,\nman,weekday 1,\nmandagen,weekday 1,\ntirs,weekday 2,\ntirsdagen,weekday 2,\ntysdag,weekday 2,\ntys,we\
-ekday 2,\ntor,weekday 4,\nlør,weekday 6,\nlørdagen,weekday 6,\nløverdag,weekday 6,\nlaurdag,weekday 6,\nlau,weekday \
-6,\nniedz,weekday 0,\npon,weekday 1,\nwt,weekday 2,\nśr,weekday 3,\ngio,weekday 4,\nczw,weekday 4,\nčt,weekday 4,\npt\
-,weekday 5,\npá,weekday 5,\nsob,weekday 6,\nsze,weekday 3,\nçrş,weekday 3,\ncs,weekday 4,\nprş,weekday 4,\nszo,week\
-day 6,\ncts,weekday 6,\nέτος,year,\nέτους,year,\nἔτος,year,\nἔτους,year,\nvuonna,year,\névi,year,\
-\név,year,\nesztendő,year,\nesztendőben,year,\nроку,year,\nрік,year,\nyılı,year,\npäivänä,day,\npäivä,\
-day,\npäivää,day,\nnapján,day,\nnapja,day,\nnapjan,day,\nnap,day,\nчислѣ,day,\nчисле,day,\ndias,day,\ndia\
-,day,\nр,year,\nén,,\nán,,\njén,,\nik,,\ndik,,\nikén,,\ndikén,,\nkén,,\nkán,,\nй,,\nе,,\nое,,\nаго,,\nη\
-ν,,\nης,,\nτη,,\nτῇ,,\nτην,,\nτὴν,,\nτου,,\nτοῦ,,\naos,,\nв воскресенье,weekday 0,\n\
-въ воскресенье,weekday 0,\nвъ воскресеніе,weekday 0,\nв понедельник,weekday 1,\n\
-въ понедѣльникъ,weekday 1,\nво вторник,weekday 2,\nво вторникъ,weekday 2,\nв сред\
-у,weekday 3,\nвъ среду,weekday 3,\nв середу,weekday 3,\nвъ середу,weekday 3,\nв четверг,\
-weekday 4,\nвъ четвергъ,weekday 4,\nв пятницу,weekday 5,\nвъ пятницу,weekday 5,\nв субб\
-оту,weekday 6,\nвъ субботу,weekday 6,\ngregor.,gregorian,\ngregor,gregorian,\ngrég.,gregorian,\ngrég,greg\
-orian,\nst. n.,gregorian,\nst.n.,gregorian,\nst. nov.,gregorian,\nst. novi,gregorian,\nstili novi,gregorian,\nstyli nov\
-i,gregorian,\nnovo stilo,gregorian,\nnovo stylo,gregorian,\ngregorianska kalendern,gregorian,\nnya stilen,gregorian,\nn\
-y stil,gregorian,\nnya stil,gregorian,\ngregorianske kalender,gregorian,\nden gregorianske kalender,gregorian,\nden gre\
-gorianske kalenderen,gregorian,\ngregorianske,gregorian,\ngregoriaaninen,gregorian,\ngregoriaaninen kalenteri,gregorian\
-,\nuutta lukua,gregorian,\nuusi luku,gregorian,\nGergely-naptár,gregorian,\nGergely-féle naptár,gregorian,\ngergely-\
-féle,gregorian,\nGergely-naptár szerint,gregorian,\núj naptár,gregorian,\ncalendário gregoriano,gregorian,\nestil\
-o novo,gregorian,\nmiladi,gregorian,\nmilâdî,gregorian,\nmiladî,gregorian,\nmiladi takvim,gregorian,\nGregoryen,greg\
-orian,\nGregoryen takvimi,gregorian,\nΓρηγοριανό,gregorian,\nΓρηγοριανό ημερολόγιο,gregor\
-ian,\nΓρηγοριανόν,gregorian,\nνέο ημερολόγιο,gregorian,\nνέον ἡμερολόγιον,grego\
-rian,\nν. ημ.,gregorian,\nν.ημ.,gregorian,\nн.ст.,gregorian,\nнов. ст.,gregorian,\nн. стиль,gregori\
-an,\nновый ст.,gregorian,\nнового стиля,gregorian,\nноваго стиля,gregorian,\nгригор\
-ианский календарь,gregorian,\nгригор.,gregorian,\nгригоріанський,gregorian,\nгри\
-горіанський календар,gregorian,\nновий стиль,gregorian,\nнового стилю,gregorian\
-,\nза новим стилем,gregorian,\ngregorianus,gregorian,\ncalendarium Gregorianum,gregorian,\nst. v.,julian,\
-\nst.v.,julian,\nst. vet.,julian,\nst. veteris,julian,\nstili veteris,julian,\nstyli veteris,julian,\nstilo veteri,juli\
-an,\nstylo vetere,julian,\nveteri stilo,julian,\nveteri stylo,julian,\nv. st.,julian,\nO. St.,julian,\njulianska kalend\
-ern,julian,\ngamla stilen,julian,\ngammal stil,julian,\ngamla stil,julian,\ngammel stil,julian,\njulianske kalender,jul\
-ian,\nden julianske kalender,julian,\nden julianske kalenderen,julian,\njulianske,julian,\njuliaaninen,julian,\njuliaan\
-inen kalenteri,julian,\nvanhaa lukua,julian,\nvanha luku,julian,\nJulianus,julian,\nJulianus-naptár,julian,\nJulián-n\
-aptár,julian,\nJulián-naptár szerint,julian,\nónaptár,julian,\nó-naptár,julian,\nrégi naptár,julian,\ncalendá\
-rio juliano,julian,\nestilo antigo,julian,\nestilo velho,julian,\nestilo viejo,julian,\nviejo estilo,julian,\nJülyen,j\
-ulian,\nJülyen takvimi,julian,\nJulyen,julian,\nΙουλιανό,julian,\nΙουλιανό ημερολόγιο,julian\
-,\nΙουλιανόν,julian,\nπαλαιό ημερολόγιο,julian,\nπαλαιόν ἡμερολόγιον,julian\
-,\nπαλιό ημερολόγιο,julian,\nπ. ημ.,julian,\nπ.ημ.,julian,\nс. ст.,julian,\nс.ст.,julian,\n\
-ст.ст.,julian,\nстар. ст.,julian,\nст. стиль,julian,\nс. стиль,julian,\nстарого стил\
-я,julian,\nстараго стиля,julian,\nюлианский календарь,julian,\nюл.,julian,\nюліан\
-ський,julian,\nюліанський календар,julian,\nстарий стиль,julian,\nстарого ст\
-илю,julian,\nза старим стилем,julian,\ncalendarium Julianum,julian,\nеврейский,hebrew,\nиу\
-дейский,hebrew,\nевр.,hebrew,\nєврейський,hebrew,\nhéber,hebrew,\nzsidó,hebrew,\nhebraico,hebrew,\
-\njudaico,hebrew,\ncalendário hebraico,hebrew,\ncalendario hebreo,hebrew,\ncalendario judío,hebrew,\nİbrani,hebrew,\
-\nMusevi,hebrew,\nMusevî,hebrew,\nΕβραϊκό,hebrew,\nἙβραϊκό,hebrew,\nΙουδαϊκό,hebrew,\nheprealai\
-nen,hebrew,\njuutalainen,hebrew,\nhebreisk,hebrew,\nhebreiska,hebrew,\njudisk,hebrew,\njudiska,hebrew,\nhebraisk,hebrew\
-,\nhebraiske,hebrew,\njødisk,hebrew,\njødiske,hebrew,\nhebraicus,hebrew,\njudaicus,hebrew,\nмусульмански\
-й,islamic,\nисламский,islamic,\nхиджра,islamic,\nхиджры,islamic,\nмусульманський,is\
-lamic,\nісламський,islamic,\nгіджра,islamic,\niszlám,islamic,\nmohamedán,islamic,\nhidzsra,islamic,\n\
-islâmico,islamic,\nmuçulmano,islamic,\nhégira,islamic,\nhicri takvim,islamic,\nΙσλαμικό,islamic,\nΜουσο\
-υλμανικό,islamic,\nΕγίρα,islamic,\nislamilainen,islamic,\nislamisk,islamic,\nislamiska,islamic,\nmuslimsk,\
-islamic,\nmuslimska,islamic,\nislamiske,islamic,\nmuslimske,islamic,\nrep.,republican,\nrep,republican,\nrép,republica\
-n,\nrépub.,republican,\nrépubl.,republican,\nrepub.,republican,\nrepubl.,republican,\ncalendario republicano,republic\
-an,\ncalendário republicano,republican,\nреспубликанский,republican,\nфранцузский респу\
-бликанский,republican,\nреспубліканський,republican,\nköztársasági,republican,\nforradalmi\
-,republican,\nrepublikansk,republican,\nrepublikanska,republican,\nrepublikanske,republican,\ntasavaltalainen,republica\
-n,\ncopt.,coptic,\ncopt,coptic,\nкоптский,coptic,\nкоптський,coptic,\ncopta,coptic,\nKıpti,coptic,\nK\
-ıptî,coptic,\nΚοπτικό,coptic,\nkoptilainen,coptic,\nkoptisk,coptic,\nkoptiska,coptic,\nkoptiske,coptic,\neth.,\
-ethiopic,\nэфиопский,ethiopic,\nефіопський,ethiopic,\netióp,ethiopic,\netíope,ethiopic,\nHabeş,et\
-hiopic,\nΑιθιοπικό,ethiopic,\netiopialainen,ethiopic,\netiopisk,ethiopic,\netiopiska,ethiopic,\netiopiske,ethi\
-opic,\nегипетский,egyptian,\nєгипетський,egyptian,\negyiptomi,egyptian,\negípcio,egyptian,\nΑι\
-γυπτιακό,egyptian,\negyptiläinen,egyptian,\negyptisk,egyptian,\negyptiska,egyptian,\negyptiske,egyptian,\nægy\
-ptisk,egyptian,\nармянский,armenian,\nвірменський,armenian,\nörmény,armenian,\narmênio,armenian,\
-\narménio,armenian,\nErmeni,armenian,\nΑρμενικό,armenian,\narmenialainen,armenian,\narmenisk,armenian,\narmeni\
-ska,armenian,\narmensk,armenian,\narmenske,armenian,\nримский,roman,\nримський,roman,\nrómai,roman,\nΡ\
-ωμαϊκό,roman,\nroomalainen,roman,\nromersk,roman,\nromerska,roman,\nromerske,roman,\n\
+ebrew islamic french republican\nsten,,\nste,,\ntes,,\nens,,\nº,,\nª,,\ne,,\nster,,\nyear,year,\nyear of our Lord,yea\
+r,\nof our Lord,year,\nour Lord,year,\nJahr,year,\nJahre,year,\nJahres,year,\nnach Christi Geburt,year,\nn Chr,year,\na\
+nno Dni,year,\nanno salutis,year,\nanni,year,\nannus,year,\nAo Dni,year,\nA°,year,\nAº,year,\njaar,year,\njaer,year,\
+\ndo ano,year,\nano,year,\nannée de grâce,year,\nl'an de grâce,year,\nl’an de grâce,year,\nl'an de grace,year,\nl\
+’an de grace,year,\nгода,year,\nгоду,year,\nгодъ,year,\nгода от Рождества Христова\
+,year,\nг,year,\nлета,year,\når,year,\naar,year,\nár,year,\nAnno Christi,year,\nnell'anno,year,\nnell’anno,yea\
+r,\nго,,\nого,,\nye,,\njour de,day,\nдня,day,\nчисла,day,\ndag,day,\nTag des,day,\ndì,day,\na dì,day,\na\
+dì,day,\naddì,day,\nde la République,,french republican\nde la Republique,,french republican\nde la République fran\
+çaise,,french republican\nde la République francaise,,french republican\nde la République françoise,,french republi\
+can\nde la Republique francaise,,french republican\nde la Republique françoise,,french republican\nde la Republique fr\
+ancoise,,french republican\nde la République une et indivisible,,french republican\nde la République française une e\
+t indivisible,,french republican\nder Republik,,french republican\nder fränkischen Republik,,french republican\nder fr\
+anzösischen Republik,,french republican\nder fränk. Republik,,french republican\nder frz. Republik,,french republican\
+\nrépublicain,,french republican\nrépublicaine,,french republican\nde l'ère républicaine,,french republican\nde l\
+’ère républicaine,,french republican\nfestum,,gregorian julian\nfesti,,gregorian julian\nfest,,gregorian julian\nfe\
+ast of,,gregorian julian\nfête de,,gregorian julian\ndivi,,gregorian julian\ndivae,,gregorian julian\nbeate,,gregoria\
+n julian\nsancte,,gregorian julian\nfesto,,gregorian julian\nin festo,,gregorian julian\nin die,day,gregorian julian\nS\
+,,gregorian julian\nSankt,,gregorian julian\nsancti,,gregorian julian\nsanctae,,gregorian julian\nbeati,,gregorian juli\
+an\nbeatae,,gregorian julian\napostoli,,gregorian julian\napostolorum,,gregorian julian\nevangelistae,,gregorian julian\
+\narchangeli,,gregorian julian\nten jare,year,\nJan y,month 1,gregorian julian\nJan ry,month 1,gregorian julian\nFeb y,\
+month 2,gregorian julian\nFeb ry,month 2,gregorian julian\nMch,month 3,gregorian julian\nAp'l,month 4,gregorian julian\
+\nAp’l,month 4,gregorian julian\nAp l,month 4,gregorian julian\nAug't,month 8,gregorian julian\nAug’t,month 8,grego\
+rian julian\nAug t,month 8,gregorian julian\nSept'r,month 9,gregorian julian\nSept’r,month 9,gregorian julian\nSept r\
+,month 9,gregorian julian\nSep'r,month 9,gregorian julian\nSep’r,month 9,gregorian julian\nSep r,month 9,gregorian ju\
+lian\nOct'r,month 10,gregorian julian\nOct’r,month 10,gregorian julian\nOct r,month 10,gregorian julian\nNov'r,month \
+11,gregorian julian\nNov’r,month 11,gregorian julian\nNov r,month 11,gregorian julian\nDec'r,month 12,gregorian julia\
+n\nDec’r,month 12,gregorian julian\nDec r,month 12,gregorian julian\nJanuarie,month 1,gregorian julian\nJanuarye,mont\
+h 1,gregorian julian\nFebruarie,month 2,gregorian julian\nFebruarye,month 2,gregorian julian\nMarche,month 3,gregorian \
+julian\nAprill,month 4,gregorian julian\nMaye,month 5,gregorian julian\nMaie,month 5,gregorian julian\nIune,month 6,gre\
+gorian julian\nIuly,month 7,gregorian julian\nIulie,month 7,gregorian julian\nJulie,month 7,gregorian julian\nJulye,mon\
+th 7,gregorian julian\nAuguste,month 8,gregorian julian\nSeptemb,month 9,gregorian julian\nOctob,month 10,gregorian jul\
+ian\nNovemb,month 11,gregorian julian\nDecemb,month 12,gregorian julian\nLord's Day,weekday 0,\nLord’s Day,weekday 0,\
+\nLords Day,weekday 0,\nWeds,weekday 3,\nWednes,weekday 3,\nJanuario,month 1,gregorian julian\nIanuario,month 1,gregori\
+an julian\nFebruario,month 2,gregorian julian\nMartio,month 3,gregorian julian\nAprili,month 4,gregorian julian\nIunio,\
+month 6,gregorian julian\nIulio,month 7,gregorian julian\nAugusto,month 8,gregorian julian\nSeptembri,month 9,gregoria\
+n julian\n7bri,month 9,gregorian julian\nVII bris,month 9,gregorian julian\nOctobri,month 10,gregorian julian\n8bri,mon\
+th 10,gregorian julian\nVIII bris,month 10,gregorian julian\nNovembri,month 11,gregorian julian\n9bri,month 11,gregoria\
+n julian\nIX bris,month 11,gregorian julian\nDecembri,month 12,gregorian julian\n10bri,month 12,gregorian julian\nXbri,\
+month 12,gregorian julian\nX bris,month 12,gregorian julian\nX ber,month 12,gregorian julian\nX bre,month 12,gregorian \
+julian\nIanuar,month 1,gregorian julian\nSeptembr,month 9,gregorian julian\nNovembr,month 11,gregorian julian\nDecembr,\
+month 12,gregorian julian\ndie Solis,weekday 0,\ndies Solis,weekday 0,\nferia II,weekday 1,\nfer 2,weekday 1,\nfer II,w\
+eekday 1,\nferia III,weekday 2,\nfer 3,weekday 2,\nfer III,weekday 2,\nferia IV,weekday 3,\nferia IIII,weekday 3,\nfer \
+4,weekday 3,\nfer IV,weekday 3,\nferia V,weekday 4,\nfer 5,weekday 4,\nfer V,weekday 4,\nferia VI,weekday 5,\nfer 6,wee\
+kday 5,\nfer VI,weekday 5,\nsabbati,weekday 6,\nsabbathi,weekday 6,\ndie Sabbathi,weekday 6,\nsabbatho,weekday 6,\nіа\
+нуарій,month 1,gregorian julian\nіануарія,month 1,gregorian julian\nянуарій,month 1,gregorian juli\
+an\nянуарія,month 1,gregorian julian\nфев,month 2,gregorian julian\nфевруарій,month 2,gregorian juli\
+an\nфевруарія,month 2,gregorian julian\nмартъ,month 3,gregorian julian\nаприлій,month 4,gregorian \
+julian\nаприлія,month 4,gregorian julian\nмаій,month 5,gregorian julian\nмаія,month 5,gregorian julian\n\
+маия,month 5,gregorian julian\nмайя,month 5,gregorian julian\nіуній,month 6,gregorian julian\nіунія,m\
+onth 6,gregorian julian\nиюния,month 6,gregorian julian\nіюн,month 6,gregorian julian\nіулій,month 7,grego\
+rian julian\nіулія,month 7,gregorian julian\nиюлия,month 7,gregorian julian\nіюл,month 7,gregorian julian\
+\nавгустъ,month 8,gregorian julian\nсептемврій,month 9,gregorian julian\nсептемврія,month 9,\
+gregorian julian\nсен,month 9,gregorian julian\nсентебря,month 9,gregorian julian\nоктоврій,month 10\
+,gregorian julian\nоктоврія,month 10,gregorian julian\nоктебря,month 10,gregorian julian\nноемврі\
+й,month 11,gregorian julian\nноемврія,month 11,gregorian julian\nноя,month 11,gregorian julian\nдекем\
+врій,month 12,gregorian julian\nдекемврія,month 12,gregorian julian\nвоскресеніе,weekday 0,\nв\
+оскресение,weekday 0,\nвоскр,weekday 0,\nвс,weekday 0,\nпонедѣльникъ,weekday 1,\nпоне\
+дѣльник,weekday 1,\nпн,weekday 1,\nвторникъ,weekday 2,\nвт,weekday 2,\nсреду,weekday 3,\nсер\
+еду,weekday 3,\nср,weekday 3,\nчетвергъ,weekday 4,\nчетвертокъ,weekday 4,\nчт,weekday 4,\nпя\
+тницу,weekday 5,\nпятокъ,weekday 5,\nпт,weekday 5,\nсубботу,weekday 6,\nсб,weekday 6,\nсїчен\
+ь,month 1,gregorian julian\nсїчня,month 1,gregorian julian\nмарець,month 3,gregorian julian\nмарця,mon\
+th 3,gregorian julian\nкві,month 4,gregorian julian\nцвітень,month 4,gregorian julian\nцвітня,month 4,g\
+regorian julian\nтра,month 5,gregorian julian\nчер,month 6,gregorian julian\nжов,month 10,gregorian julian\nл\
+ис,month 11,gregorian julian\nгру,month 12,gregorian julian\nнеділю,weekday 0,\nнд,weekday 0,\nп'ятни\
+ця,weekday 5,\nп’ятниця,weekday 5,\nп'ятницю,weekday 5,\nп’ятницю,weekday 5,\nпʼятниц\
+ю,weekday 5,\nсуботу,weekday 6,\nJanuárius,month 1,gregorian julian\nFebruárius,month 2,gregorian julian\nMár\
+tius,month 3,gregorian julian\nMárczius,month 3,gregorian julian\nMártzius,month 3,gregorian julian\nMarcius,month 3,\
+gregorian julian\nDeczember,month 12,gregorian julian\nDeczber,month 12,gregorian julian\njanuár hó,month 1,gregoria\
+n julian\njanuár hava,month 1,gregorian julian\njanuár havának,month 1,gregorian julian\nfebruár hó,month 2,gregor\
+ian julian\nfebruár hava,month 2,gregorian julian\nfebruár havának,month 2,gregorian julian\nmárcius hó,month 3,gr\
+egorian julian\nmárcius hava,month 3,gregorian julian\nmárcius havának,month 3,gregorian julian\náprilis hó,month \
+4,gregorian julian\náprilis hava,month 4,gregorian julian\náprilis havának,month 4,gregorian julian\nmájus hó,mont\
+h 5,gregorian julian\nmájus hava,month 5,gregorian julian\nmájus havának,month 5,gregorian julian\njúnius hó,mont\
+h 6,gregorian julian\njúnius hava,month 6,gregorian julian\njúnius havának,month 6,gregorian julian\njúlius hó,mon\
+th 7,gregorian julian\njúlius hava,month 7,gregorian julian\njúlius havának,month 7,gregorian julian\naugusztus hó,\
+month 8,gregorian julian\naugusztus hava,month 8,gregorian julian\naugusztus havának,month 8,gregorian julian\nszeptem\
+ber hó,month 9,gregorian julian\nszeptember hava,month 9,gregorian julian\nszeptember havának,month 9,gregorian julia\
+n\noktóber hó,month 10,gregorian julian\noktóber hava,month 10,gregorian julian\noktóber havának,month 10,gregoria\
+n julian\nnovember hó,month 11,gregorian julian\nnovember hava,month 11,gregorian julian\nnovember havának,month 11,g\
+regorian julian\ndecember hó,month 12,gregorian julian\ndecember hava,month 12,gregorian julian\ndecember havának,mon\
+th 12,gregorian julian\nBoldogasszony hava,month 1,gregorian julian\nBöjtelő hava,month 2,gregorian julian\nBöjtmá\
+s hava,month 3,gregorian julian\nSzent György hava,month 4,gregorian julian\nPünkösd hava,month 5,gregorian julian\n\
+Szent Iván hava,month 6,gregorian julian\nSzent Jakab hava,month 7,gregorian julian\nKisasszony hava,month 8,gregoria\
+n julian\nSzent Mihály hava,month 9,gregorian julian\nMindszent hava,month 10,gregorian julian\nSzent András hava,mon\
+th 11,gregorian julian\nKarácsony hava,month 12,gregorian julian\nvasarnap,weekday 0,\nhétfőn,weekday 1,\nhetfo,week\
+day 1,\nhétf,weekday 1,\nkedden,weekday 2,\nszerdán,weekday 3,\nszerdan,weekday 3,\ncsütörtökön,weekday 4,\ncsuto\
+rtok,weekday 4,\ncsüt,weekday 4,\npénteken,weekday 5,\npentek,weekday 5,\npént,weekday 5,\nszombaton,weekday 6,\nszo\
+mb,weekday 6,\nJaneyro,month 1,gregorian julian\nJanro,month 1,gregorian julian\nJan ro,month 1,gregorian julian\nFever\
+eyro,month 2,gregorian julian\nFevro,month 2,gregorian julian\nFev ro,month 2,gregorian julian\nmarso,month 3,gregoria\
+n julian\nSeptembro,month 9,gregorian julian\n7bro,month 9,gregorian julian\nSetbro,month 9,gregorian julian\nOctubro,m\
+onth 10,gregorian julian\n8bro,month 10,gregorian julian\nOutbro,month 10,gregorian julian\n9bro,month 11,gregorian jul\
+ian\nNovbro,month 11,gregorian julian\nDecembro,month 12,gregorian julian\n10bro,month 12,gregorian julian\nXbro,month \
+12,gregorian julian\nDezbro,month 12,gregorian julian\nmês de janeiro,month 1,gregorian julian\nmez de janeiro,month 1\
+,gregorian julian\ndo mês de janeiro,month 1,gregorian julian\ndo mez de janeiro,month 1,gregorian julian\nmês de fev\
+ereiro,month 2,gregorian julian\nmez de fevereiro,month 2,gregorian julian\ndo mês de fevereiro,month 2,gregorian juli\
+an\ndo mez de fevereiro,month 2,gregorian julian\nmês de março,month 3,gregorian julian\nmez de março,month 3,gregor\
+ian julian\ndo mês de março,month 3,gregorian julian\ndo mez de março,month 3,gregorian julian\nmês de abril,month \
+4,gregorian julian\nmez de abril,month 4,gregorian julian\ndo mês de abril,month 4,gregorian julian\ndo mez de abril,m\
+onth 4,gregorian julian\nmês de maio,month 5,gregorian julian\nmez de maio,month 5,gregorian julian\ndo mês de maio,m\
+onth 5,gregorian julian\ndo mez de maio,month 5,gregorian julian\nmês de junho,month 6,gregorian julian\nmez de junho,\
+month 6,gregorian julian\ndo mês de junho,month 6,gregorian julian\ndo mez de junho,month 6,gregorian julian\nmês de \
+julho,month 7,gregorian julian\nmez de julho,month 7,gregorian julian\ndo mês de julho,month 7,gregorian julian\ndo me\
+z de julho,month 7,gregorian julian\nmês de agosto,month 8,gregorian julian\nmez de agosto,month 8,gregorian julian\nd\
+o mês de agosto,month 8,gregorian julian\ndo mez de agosto,month 8,gregorian julian\nmês de setembro,month 9,gregoria\
+n julian\nmez de setembro,month 9,gregorian julian\ndo mês de setembro,month 9,gregorian julian\ndo mez de setembro,mo\
+nth 9,gregorian julian\nmês de outubro,month 10,gregorian julian\nmez de outubro,month 10,gregorian julian\ndo mês d\
+e outubro,month 10,gregorian julian\ndo mez de outubro,month 10,gregorian julian\nmês de novembro,month 11,gregorian j\
+ulian\nmez de novembro,month 11,gregorian julian\ndo mês de novembro,month 11,gregorian julian\ndo mez de novembro,mon\
+th 11,gregorian julian\nmês de dezembro,month 12,gregorian julian\nmez de dezembro,month 12,gregorian julian\ndo mês \
+de dezembro,month 12,gregorian julian\ndo mez de dezembro,month 12,gregorian julian\nseg,weekday 1,\n2ª feira,weekday \
+1,\nterca-feira,weekday 2,\n3ª feira,weekday 2,\nqua,weekday 3,\n4ª feira,weekday 3,\nqui,weekday 4,\n5ª feira,weekd\
+ay 4,\n6ª feira,weekday 5,\nsáb,weekday 6,\nsabado,weekday 6,\nsab,weekday 6,\nenº,month 1,gregorian julian\nen.º,m\
+onth 1,gregorian julian\nhenero,month 1,gregorian julian\nfebº,month 2,gregorian julian\nhebrero,month 2,gregorian jul\
+ian\nfebro,month 2,gregorian julian\nmço,month 3,gregorian julian\nmzo,month 3,gregorian julian\nabl,month 4,gregoria\
+n julian\njunº,month 6,gregorian julian\njulº,month 7,gregorian julian\nagto,month 8,gregorian julian\nagº,month 8,g\
+regorian julian\nag to,month 8,gregorian julian\nseptbre,month 9,gregorian julian\nsetbre,month 9,gregorian julian\noct\
+bre,month 10,gregorian julian\notubre,month 10,gregorian julian\nnobiembre,month 11,gregorian julian\nnovbre,month 11,g\
+regorian julian\nnovre,month 11,gregorian julian\ndiziembre,month 12,gregorian julian\ndeziembre,month 12,gregorian jul\
+ian\ndicbre,month 12,gregorian julian\ndizbre,month 12,gregorian julian\ndel mes de enero,month 1,gregorian julian\nde\
+l mes de febrero,month 2,gregorian julian\ndel mes de marzo,month 3,gregorian julian\ndel mes de abril,month 4,gregoria\
+n julian\ndel mes de mayo,month 5,gregorian julian\ndel mes de junio,month 6,gregorian julian\ndel mes de julio,month 7\
+,gregorian julian\ndel mes de agosto,month 8,gregorian julian\ndel mes de septiembre,month 9,gregorian julian\ndel mes \
+de octubre,month 10,gregorian julian\ndel mes de noviembre,month 11,gregorian julian\ndel mes de diciembre,month 12,gre\
+gorian julian\nmié,weekday 3,\nmiercoles,weekday 3,\nmie,weekday 3,\njue,weekday 4,\nvie,weekday 5,\nKânunusani,mont\
+h 1,gregorian julian\nKanunusani,month 1,gregorian julian\nKânun-ı sani,month 1,gregorian julian\nKanun-ı sani,mont\
+h 1,gregorian julian\nİkincikânun,month 1,gregorian julian\nİkinci Kânun,month 1,gregorian julian\nSonkânun,month \
+1,gregorian julian\nSonkanun,month 1,gregorian julian\nKânunisani,month 1,gregorian julian\nsubat,month 2,gregorian ju\
+lian\nNİSAN,month 4,gregorian julian\nmayis,month 5,gregorian julian\nHAZİRAN,month 6,gregorian julian\nagustos,mont\
+h 8,gregorian julian\neylul,month 9,gregorian julian\nEylûl,month 9,gregorian julian\nEKİM,month 10,gregorian julian\
+\nTeşrinievvel,month 10,gregorian julian\nTeşrin-i evvel,month 10,gregorian julian\nTesrinievvel,month 10,gregorian j\
+ulian\nBirinciteşrin,month 10,gregorian julian\nBirinci Teşrin,month 10,gregorian julian\nİlkteşrin,month 10,gregor\
+ian julian\nkasim,month 11,gregorian julian\nTeşrinisani,month 11,gregorian julian\nTeşrin-i sani,month 11,gregorian \
+julian\nTesrinisani,month 11,gregorian julian\nİkinciteşrin,month 11,gregorian julian\nİkinci Teşrin,month 11,grego\
+rian julian\nSonteşrin,month 11,gregorian julian\nSontesrin,month 11,gregorian julian\naralik,month 12,gregorian julia\
+n\nKânunuevvel,month 12,gregorian julian\nKanunuevvel,month 12,gregorian julian\nKânun-ı evvel,month 12,gregorian ju\
+lian\nKanun-ı evvel,month 12,gregorian julian\nBirincikânun,month 12,gregorian julian\nBirinci Kânun,month 12,gregor\
+ian julian\nİlkkânun,month 12,gregorian julian\nKânunievvel,month 12,gregorian julian\nPaz,weekday 0,\nPzt,weekday 1\
+,\nsali,weekday 2,\nÇar,weekday 3,\ncarsamba,weekday 3,\npersembe,weekday 4,\nCmt,weekday 6,\nPazar günü,weekday 0,\
+\nPazartesi günü,weekday 1,\nSalı günü,weekday 2,\nÇarşamba günü,weekday 3,\nPerşembe günü,weekday 4,\nCum\
+a günü,weekday 5,\nCumartesi günü,weekday 6,\nΙανουαριος,month 1,gregorian julian\nΦεβρουαριος\
+,month 2,gregorian julian\nΜαρτιος,month 3,gregorian julian\nΑπριλιος,month 4,gregorian julian\nΜαιο\
+ς,month 5,gregorian julian\nΙουνιος,month 6,gregorian julian\nΙουλιος,month 7,gregorian julian\nΑυγο\
+υστος,month 8,gregorian julian\nΣεπτεμβριος,month 9,gregorian julian\nΟκτωβριος,month 10,grego\
+rian julian\nΝοεμβριος,month 11,gregorian julian\nΔεκεμβριος,month 12,gregorian julian\nΙανουα\
+ριου,month 1,gregorian julian\nΦεβρουαριου,month 2,gregorian julian\nΜαρτιου,month 3,gregorian ju\
+lian\nΑπριλιου,month 4,gregorian julian\nΜαιου,month 5,gregorian julian\nΙουνιου,month 6,gregorian \
+julian\nΙουλιου,month 7,gregorian julian\nΑυγουστου,month 8,gregorian julian\nΣεπτεμβριου,mo\
+nth 9,gregorian julian\nΟκτωβριου,month 10,gregorian julian\nΝοεμβριου,month 11,gregorian julian\nΔ\
+εκεμβριου,month 12,gregorian julian\nἸανουάριος,month 1,gregorian julian\nἸανουαρίου,mon\
+th 1,gregorian julian\nἈπρίλιος,month 4,gregorian julian\nἈπριλίου,month 4,gregorian julian\nΜάϊο\
+ς,month 5,gregorian julian\nἸούνιος,month 6,gregorian julian\nἸουνίου,month 6,gregorian julian\nἸο\
+ύλιος,month 7,gregorian julian\nἸουλίου,month 7,gregorian julian\nΑὔγουστος,month 8,gregorian ju\
+lian\nΑὐγούστου,month 8,gregorian julian\nὈκτώβριος,month 10,gregorian julian\nὈκτωβρίου,\
+month 10,gregorian julian\nΓενάρης,month 1,gregorian julian\nΓενάρη,month 1,gregorian julian\nΦλεβάρ\
+ης,month 2,gregorian julian\nΦλεβάρη,month 2,gregorian julian\nΜάρτης,month 3,gregorian julian\nΜάρτ\
+η,month 3,gregorian julian\nΑπρίλης,month 4,gregorian julian\nΑπρίλη,month 4,gregorian julian\nΜάης,m\
+onth 5,gregorian julian\nΜάη,month 5,gregorian julian\nΙούνης,month 6,gregorian julian\nΙούνη,month 6,gre\
+gorian julian\nΙούλης,month 7,gregorian julian\nΙούλη,month 7,gregorian julian\nΣεπτέμβρης,month 9\
+,gregorian julian\nΣεπτέμβρη,month 9,gregorian julian\nΟκτώβρης,month 10,gregorian julian\nΟκτώβ\
+ρη,month 10,gregorian julian\nΝοέμβρης,month 11,gregorian julian\nΝοέμβρη,month 11,gregorian julian\n\
+Δεκέμβρης,month 12,gregorian julian\nΔεκέμβρη,month 12,gregorian julian\nΓεναρης,month 1,gregor\
+ian julian\nΓεναρη,month 1,gregorian julian\nΦλεβαρης,month 2,gregorian julian\nΦλεβαρη,month 2,gr\
+egorian julian\nΜαρτης,month 3,gregorian julian\nΜαρτη,month 3,gregorian julian\nΑπριλης,month 4,greg\
+orian julian\nΑπριλη,month 4,gregorian julian\nΜαης,month 5,gregorian julian\nΜαη,month 5,gregorian julian\
+\nΙουνης,month 6,gregorian julian\nΙουνη,month 6,gregorian julian\nΙουλης,month 7,gregorian julian\nΙ\
+ουλη,month 7,gregorian julian\nΣεπτεμβρης,month 9,gregorian julian\nΣεπτεμβρη,month 9,gregorian \
+julian\nΟκτωβρης,month 10,gregorian julian\nΟκτωβρη,month 10,gregorian julian\nΝοεμβρης,month 11\
+,gregorian julian\nΝοεμβρη,month 11,gregorian julian\nΔεκεμβρης,month 12,gregorian julian\nΔεκεμβ\
+ρη,month 12,gregorian julian\nἸαν,month 1,gregorian julian\nΦεβρ,month 2,gregorian julian\nΜάρ,month 3,gre\
+gorian julian\nΜαρτ,month 3,gregorian julian\nἈπρ,month 4,gregorian julian\nΜάι,month 5,gregorian julian\nΜ\
+αϊ,month 5,gregorian julian\nΜαι,month 5,gregorian julian\nΙούν,month 6,gregorian julian\nἸουν,month 6,gr\
+egorian julian\nΙούλ,month 7,gregorian julian\nἸουλ,month 7,gregorian julian\nΑύγ,month 8,gregorian julian\
+\nΑὐγ,month 8,gregorian julian\nΣεπτ,month 9,gregorian julian\nὈκτ,month 10,gregorian julian\nΟκτωβρ,\
+month 10,gregorian julian\nΝοέ,month 11,gregorian julian\nΝοεμβρ,month 11,gregorian julian\nΔεκεμβρ,mon\
+th 12,gregorian julian\nΚυριακη,weekday 0,\nΔευτερα,weekday 1,\nΤριτη,weekday 2,\nΤεταρτη,wee\
+kday 3,\nΠεμπτη,weekday 4,\nΠαρασκευη,weekday 5,\nΣαββατο,weekday 6,\nΚυρ,weekday 0,\nΚυρι\
+ακήν,weekday 0,\nΔευ,weekday 1,\nΔευτέραν,weekday 1,\nΤρί,weekday 2,\nΤρι,weekday 2,\nΤρίτην\
+,weekday 2,\nΤετ,weekday 3,\nΤετάρτην,weekday 3,\nΠέμ,weekday 4,\nΠεμ,weekday 4,\nΠέμπτην,weekd\
+ay 4,\nΠαρ,weekday 5,\nΠαρασκευήν,weekday 5,\nΣάβ,weekday 6,\nΣαβ,weekday 6,\nΣάββατον,weekd\
+ay 6,\ntammi,month 1,gregorian julian\ntammik,month 1,gregorian julian\ntammikuun,month 1,gregorian julian\nhelmi,mont\
+h 2,gregorian julian\nhelmik,month 2,gregorian julian\nhelmikuun,month 2,gregorian julian\nmaalis,month 3,gregorian jul\
+ian\nmaalisk,month 3,gregorian julian\nmaaliskuun,month 3,gregorian julian\nhuhti,month 4,gregorian julian\nhuhtik,mont\
+h 4,gregorian julian\nhuhtikuun,month 4,gregorian julian\ntouko,month 5,gregorian julian\ntoukok,month 5,gregorian juli\
+an\ntoukokuun,month 5,gregorian julian\nkesä,month 6,gregorian julian\nkesäk,month 6,gregorian julian\nkesäkuun,mont\
+h 6,gregorian julian\nheinä,month 7,gregorian julian\nheinäk,month 7,gregorian julian\nheinäkuun,month 7,gregorian j\
+ulian\nelo,month 8,gregorian julian\nelok,month 8,gregorian julian\nelokuun,month 8,gregorian julian\nsyys,month 9,greg\
+orian julian\nsyysk,month 9,gregorian julian\nsyyskuun,month 9,gregorian julian\nloka,month 10,gregorian julian\nlokak,\
+month 10,gregorian julian\nlokakuun,month 10,gregorian julian\nmarras,month 11,gregorian julian\nmarrask,month 11,grego\
+rian julian\nmarraskuun,month 11,gregorian julian\njoulu,month 12,gregorian julian\njouluk,month 12,gregorian julian\nj\
+oulukuun,month 12,gregorian julian\nkesakuu,month 6,gregorian julian\nkesakuuta,month 6,gregorian julian\nkesakuun,mont\
+h 6,gregorian julian\nheinakuu,month 7,gregorian julian\nheinakuuta,month 7,gregorian julian\nheinakuun,month 7,gregori\
+an julian\nsu,weekday 0,\nsunnuntaina,weekday 0,\nmaanantaina,weekday 1,\ntiistaina,weekday 2,\nke,weekday 3,\nkeskivii\
+kkona,weekday 3,\ntorstaina,weekday 4,\npe,weekday 5,\nperjantaina,weekday 5,\nlauantaina,weekday 6,\nsön,weekday 0,\n\
+söndagen,weekday 0,\nsondag,weekday 0,\nmån,weekday 1,\nmåndagen,weekday 1,\ntis,weekday 2,\ntisdagen,weekday 2,\non\
+s,weekday 3,\nonsdagen,weekday 3,\ntors,weekday 4,\ntorsdagen,weekday 4,\nthorsdag,weekday 4,\nfre,weekday 5,\nfredagen\
+,weekday 5,\nlör,weekday 6,\nlördagen,weekday 6,\nlordag,weekday 6,\nsøn,weekday 0,\nsøndagen,weekday 0,\nsundag,we\
+ekday 0,\nman,weekday 1,\nmandagen,weekday 1,\ntirs,weekday 2,\ntirsdagen,weekday 2,\ntysdag,weekday 2,\ntys,weekday 2,\
+\ntor,weekday 4,\nlør,weekday 6,\nlørdagen,weekday 6,\nløverdag,weekday 6,\nlaurdag,weekday 6,\nlau,weekday 6,\nnied\
+z,weekday 0,\npon,weekday 1,\nwt,weekday 2,\nśr,weekday 3,\ngio,weekday 4,\nczw,weekday 4,\nčt,weekday 4,\npt,weekda\
+y 5,\npá,weekday 5,\nsob,weekday 6,\nsze,weekday 3,\nçrş,weekday 3,\ncs,weekday 4,\nprş,weekday 4,\nszo,weekday 6,\
+\ncts,weekday 6,\nέτος,year,\nέτους,year,\nἔτος,year,\nἔτους,year,\nvuonna,year,\névi,year,\név,y\
+ear,\nesztendő,year,\nesztendőben,year,\nроку,year,\nрік,year,\nyılı,year,\npäivänä,day,\npäivä,day,\np\
+äivää,day,\nnapján,day,\nnapja,day,\nnapjan,day,\nnap,day,\nчислѣ,day,\nчисле,day,\ndias,day,\ndia,day,\n\
+р,year,\nén,,\nán,,\njén,,\nik,,\ndik,,\nikén,,\ndikén,,\nkén,,\nkán,,\nй,,\nе,,\nое,,\nаго,,\nην,,\n\
+ης,,\nτη,,\nτῇ,,\nτην,,\nτὴν,,\nτου,,\nτοῦ,,\naos,,\nв воскресенье,weekday 0,\nвъ в\
+оскресенье,weekday 0,\nвъ воскресеніе,weekday 0,\nв понедельник,weekday 1,\nвъ п\
+онедѣльникъ,weekday 1,\nво вторник,weekday 2,\nво вторникъ,weekday 2,\nв среду,week\
+day 3,\nвъ среду,weekday 3,\nв середу,weekday 3,\nвъ середу,weekday 3,\nв четверг,weekda\
+y 4,\nвъ четвергъ,weekday 4,\nв пятницу,weekday 5,\nвъ пятницу,weekday 5,\nв субботу\
+,weekday 6,\nвъ субботу,weekday 6,\ngregor.,gregorian,\ngregor,gregorian,\ngrég.,gregorian,\ngrég,gregorian,\
+\nst. n.,gregorian,\nst.n.,gregorian,\nst. nov.,gregorian,\nst. novi,gregorian,\nstili novi,gregorian,\nstyli novi,greg\
+orian,\nnovo stilo,gregorian,\nnovo stylo,gregorian,\ngregorianska kalendern,gregorian,\nnya stilen,gregorian,\nny stil\
+,gregorian,\nnya stil,gregorian,\ngregorianske kalender,gregorian,\nden gregorianske kalender,gregorian,\nden gregorian\
+ske kalenderen,gregorian,\ngregorianske,gregorian,\ngregoriaaninen,gregorian,\ngregoriaaninen kalenteri,gregorian,\nuut\
+ta lukua,gregorian,\nuusi luku,gregorian,\nGergely-naptár,gregorian,\nGergely-féle naptár,gregorian,\ngergely-féle,\
+gregorian,\nGergely-naptár szerint,gregorian,\núj naptár,gregorian,\ncalendário gregoriano,gregorian,\nestilo novo,\
+gregorian,\nmiladi,gregorian,\nmilâdî,gregorian,\nmiladî,gregorian,\nmiladi takvim,gregorian,\nGregoryen,gregorian,\
+\nGregoryen takvimi,gregorian,\nΓρηγοριανό,gregorian,\nΓρηγοριανό ημερολόγιο,gregorian,\n\
+Γρηγοριανόν,gregorian,\nνέο ημερολόγιο,gregorian,\nνέον ἡμερολόγιον,gregorian,\
+\nν. ημ.,gregorian,\nν.ημ.,gregorian,\nн.ст.,gregorian,\nнов. ст.,gregorian,\nн. стиль,gregorian,\n\
+новый ст.,gregorian,\nнового стиля,gregorian,\nноваго стиля,gregorian,\nгригориан\
+ский календарь,gregorian,\nгригор.,gregorian,\nгригоріанський,gregorian,\nгригор\
+іанський календар,gregorian,\nновий стиль,gregorian,\nнового стилю,gregorian,\nз\
+а новим стилем,gregorian,\ngregorianus,gregorian,\ncalendarium Gregorianum,gregorian,\nst. v.,julian,\nst.v\
+.,julian,\nst. vet.,julian,\nst. veteris,julian,\nstili veteris,julian,\nstyli veteris,julian,\nstilo veteri,julian,\ns\
+tylo vetere,julian,\nveteri stilo,julian,\nveteri stylo,julian,\nv. st.,julian,\nO. St.,julian,\njulianska kalendern,ju\
+lian,\ngamla stilen,julian,\ngammal stil,julian,\ngamla stil,julian,\ngammel stil,julian,\njulianske kalender,julian,\n\
+den julianske kalender,julian,\nden julianske kalenderen,julian,\njulianske,julian,\njuliaaninen,julian,\njuliaaninen k\
+alenteri,julian,\nvanhaa lukua,julian,\nvanha luku,julian,\nJulianus,julian,\nJulianus-naptár,julian,\nJulián-naptár\
+,julian,\nJulián-naptár szerint,julian,\nónaptár,julian,\nó-naptár,julian,\nrégi naptár,julian,\ncalendário ju\
+liano,julian,\nestilo antigo,julian,\nestilo velho,julian,\nestilo viejo,julian,\nviejo estilo,julian,\nJülyen,julian,\
+\nJülyen takvimi,julian,\nJulyen,julian,\nΙουλιανό,julian,\nΙουλιανό ημερολόγιο,julian,\nΙ\
+ουλιανόν,julian,\nπαλαιό ημερολόγιο,julian,\nπαλαιόν ἡμερολόγιον,julian,\nπ\
+αλιό ημερολόγιο,julian,\nπ. ημ.,julian,\nπ.ημ.,julian,\nс. ст.,julian,\nс.ст.,julian,\nст.\
+ст.,julian,\nстар. ст.,julian,\nст. стиль,julian,\nс. стиль,julian,\nстарого стиля,jul\
+ian,\nстараго стиля,julian,\nюлианский календарь,julian,\nюл.,julian,\nюліанськ\
+ий,julian,\nюліанський календар,julian,\nстарий стиль,julian,\nстарого стилю\
+,julian,\nза старим стилем,julian,\ncalendarium Julianum,julian,\nеврейский,hebrew,\nиудей\
+ский,hebrew,\nевр.,hebrew,\nєврейський,hebrew,\nhéber,hebrew,\nzsidó,hebrew,\nhebraico,hebrew,\njuda\
+ico,hebrew,\ncalendário hebraico,hebrew,\ncalendario hebreo,hebrew,\ncalendario judío,hebrew,\nİbrani,hebrew,\nMusev\
+i,hebrew,\nMusevî,hebrew,\nΕβραϊκό,hebrew,\nἙβραϊκό,hebrew,\nΙουδαϊκό,hebrew,\nheprealainen,heb\
+rew,\njuutalainen,hebrew,\nhebreisk,hebrew,\nhebreiska,hebrew,\njudisk,hebrew,\njudiska,hebrew,\nhebraisk,hebrew,\nhebr\
+aiske,hebrew,\njødisk,hebrew,\njødiske,hebrew,\nhebraicus,hebrew,\njudaicus,hebrew,\nмусульманский,islam\
+ic,\nисламский,islamic,\nхиджра,islamic,\nхиджры,islamic,\nмусульманський,islamic,\n\
+ісламський,islamic,\nгіджра,islamic,\niszlám,islamic,\nmohamedán,islamic,\nhidzsra,islamic,\nislâmic\
+o,islamic,\nmuçulmano,islamic,\nhégira,islamic,\nhicri takvim,islamic,\nΙσλαμικό,islamic,\nΜουσουλμα\
+νικό,islamic,\nΕγίρα,islamic,\nislamilainen,islamic,\nislamisk,islamic,\nislamiska,islamic,\nmuslimsk,islamic,\
+\nmuslimska,islamic,\nislamiske,islamic,\nmuslimske,islamic,\nrep.,republican,\nrep,republican,\nrép,republican,\nrép\
+ub.,republican,\nrépubl.,republican,\nrepub.,republican,\nrepubl.,republican,\ncalendario republicano,republican,\ncal\
+endário republicano,republican,\nреспубликанский,republican,\nфранцузский республик\
+анский,republican,\nреспубліканський,republican,\nköztársasági,republican,\nforradalmi,republi\
+can,\nrepublikansk,republican,\nrepublikanska,republican,\nrepublikanske,republican,\ntasavaltalainen,republican,\ncopt\
+.,coptic,\ncopt,coptic,\nкоптский,coptic,\nкоптський,coptic,\ncopta,coptic,\nKıpti,coptic,\nKıptî,c\
+optic,\nΚοπτικό,coptic,\nkoptilainen,coptic,\nkoptisk,coptic,\nkoptiska,coptic,\nkoptiske,coptic,\neth.,ethiopic\
+,\nэфиопский,ethiopic,\nефіопський,ethiopic,\netióp,ethiopic,\netíope,ethiopic,\nHabeş,ethiopic,\
+\nΑιθιοπικό,ethiopic,\netiopialainen,ethiopic,\netiopisk,ethiopic,\netiopiska,ethiopic,\netiopiske,ethiopic,\n\
+египетский,egyptian,\nєгипетський,egyptian,\negyiptomi,egyptian,\negípcio,egyptian,\nΑιγυπτ\
+ιακό,egyptian,\negyptiläinen,egyptian,\negyptisk,egyptian,\negyptiska,egyptian,\negyptiske,egyptian,\nægyptisk,eg\
+yptian,\nармянский,armenian,\nвірменський,armenian,\nörmény,armenian,\narmênio,armenian,\narmén\
+io,armenian,\nErmeni,armenian,\nΑρμενικό,armenian,\narmenialainen,armenian,\narmenisk,armenian,\narmeniska,arme\
+nian,\narmensk,armenian,\narmenske,armenian,\nримский,roman,\nримський,roman,\nrómai,roman,\nΡωμαϊ\
+κό,roman,\nroomalainen,roman,\nromersk,roman,\nromerska,roman,\nromerske,roman,\n\
 "
 );

@@ -1,4 +1,4 @@
--- What is written for one date, and why it is not read.
+-- Why a date is not read.
 use Rattle.std.specs.Prelude.{◌≡◌, ◌≢◌, ◌⊎◌, ◌≤◌, ◌++◌, length, ℕ, zero, suc, false, List, [], ◌∷◌, Option, None, Some, map}
 use mathlib.Core.Logic.{inl, inr}
 use Rattle.std.specs.Fmt.{decimal}
@@ -29,13 +29,6 @@ order_by (suc (suc n)) = MonthFirst
 abbrev pub choice_by : ℕ → Choice
 choice_by order =
     record { order = order_by order; short_years = Keep; short_hebrew_years = Keep; charters = false }
-
--- this is written for a text of a calendar, by the names of a list that mean something in dates
-pub record IsWritten (list : List NameLine) (choice : Choice) (calendar : Calendar) (text date : List ℕ)
-    : Type 0 where
-  pub names : List Name
-  pub listed : map name_seen names ≡ names_in_dates list
-  pub is_written : date ≡ written choice (Some calendar) names text
 
 -- why nothing is said of a date: memory ran out, the text is no list of names, or there is no such calendar
 abbrev pub IsEnding : ℕ → List ℕ → ℕ → Type 0

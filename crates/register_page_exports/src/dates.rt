@@ -7,12 +7,11 @@ ghost use Rattle.register_records.specs.Entries.{text_records};
 ghost use Rattle.register_sheets.specs.NameLists.{IsListOf};
 ghost use Rattle.register_sheets.specs.UnknownViews.{if_stop};
 ghost use Rattle.register_sheets.specs.declared.name_lists.NameLine.{NameLine};
-ghost use Rattle.register_page_exports.specs.DateReports.{IsEnding, IsStopped, IsWritten, choice_by};
+ghost use Rattle.register_page_exports.specs.DateReports.{IsEnding, IsStopped, choice_by};
 ghost use Rattle.register_page_exports.specs.DateReports.{blamed as blamed_spec, plain_date as plain_spec};
 ghost use Rattle.register_page_exports.specs.DateReports.{stop_number as number_spec};
 ghost use Rattle.register_page_exports.specs.SheetReports.{PutsText};
 
-use crate::sheets::{TextReport, put_text};
 use date_texts::Calendar;
 use date_texts::laws::all_calendars;
 use itoa::Buffer;
@@ -42,65 +41,6 @@ fn choice_by(order: u8) -> Choice
         short_years: Short::Keep,
         short_hebrew_years: Short::Keep,
         charters: false,
-    }
-}
-
-/// What is written for a text by the names of a list.
-fn written(
-    alloc: Global,
-    text: &[u8],
-    calendar: Calendar,
-    order: u8,
-    list: &NameList,
-) -> Result<Vec<u8>, AllocError>
-    ensures { IfOk result (λ date. IsWritten list.now.lines.items (choice_by order) calendar text.now date.items) }
-{
-    let names = list.names(alloc)?;
-    let names = Names::layered(alloc, names.as_slice())?;
-    let mut date = Vec::new(alloc);
-    write_date(&mut date, text, Some(calendar), &names, &choice_by(order))?;
-    Ok(date)
-}
-
-/// Writes a date, as people write it, as registers have it, into a buffer. `calendar` is the number of its calendar
-/// among [`Calendar::ALL`], from 0; `order` is 0, 1 or 2 for a year, a day or a month that comes first; and `names` is
-/// the text of a list of names. The report's ending is 0 where the date was written, 1 where memory ran out, 2 where
-/// `names` is no list of names, and 3 where there is no such calendar.
-#[unsafe(no_mangle)]
-pub extern "C" fn date_write(
-    alloc: Global,
-    text: &[u8],
-    calendar: u8,
-    order: u8,
-    names: &[u8],
-    buffer: &mut [u8],
-    report: &mut TextReport,
-)
-    ensures text { report.new.ending ≡ 0 → (found : CalendarValue) × (list : List NameLine) × (date : List ℕ)
-        × (slice_get all_calendars calendar ≡ Some found) × IsListOf (text_records 44 names.now) list
-        × IsWritten list (choice_by order) found text.now date
-        × PutsText date buffer.old buffer.new report.new.length }
-    ensures none { report.new.ending ≢ 0 → (report.new.length ≡ 0) × (buffer.new ≡ buffer.old) }
-    ensures why { report.new.ending ≢ 0 → IsEnding calendar names.now report.new.ending }
-{
-    *report = TextReport {
-        ending: 1,
-        length: 0,
-    };
-    let Some(calendar) = calendar_at(calendar) else {
-        report.ending = 3;
-        return;
-    };
-    let list = match NameList::read(alloc, names) {
-        Ok(list) => list,
-        Err(NameListFault::OutOfMemory) => return,
-        Err(_) => {
-            report.ending = 2;
-            return;
-        }
-    };
-    if let Ok(date) = written(alloc, text, calendar, order, &list) {
-        *report = put_text(date.as_slice(), buffer);
     }
 }
 
@@ -186,17 +126,18 @@ fn stop_found(
 #[repr(C)]
 #[derive(Clone, Copy)]
 pub struct StopReport {
-    /// As of [`date_write`].
+    /// 0: it was looked at. 1: memory ran out. 2: `names` is no list of names. 3: there is no such calendar.
     pub ending: usize,
     /// How many bytes are to blame. Where they are more than the room, that is as it was.
     pub length: usize,
-    /// What stops the date. 0: nothing. 1 to 8: the reason with this number. 9: a name that is not known.
+    /// What stops the date. 0: nothing. 1 to 9: the reason with this number. 10: a name that is not known.
     pub stop: usize,
 }
 
 /// Says why a date, as people write it, is not read, and puts what is to blame to the front of `buffer`: the name that is
-/// not known, or, where it names another weekday, the date that its other words say, as `1806-5-12`. The arguments and the
-/// endings are those of [`date_write`].
+/// not known, or, where it names another weekday, the date that its other words say, as `1806-5-12`. `calendar` is the number
+/// of its calendar among [`Calendar::ALL`], from 0; `order` is 0, 1 or 2 for a year, a day or a month that comes first; and
+/// `names` is the text of a list of names.
 #[unsafe(no_mangle)]
 pub extern "C" fn date_stop(
     alloc: Global,

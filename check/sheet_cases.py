@@ -169,6 +169,7 @@ FILES = {
     "spans.csv": SPANS, "styles.csv": STYLES, "old-style.csv": "name,means,in\nstary/nowy,julian,\nO.S.,both,\n",
     "a.csv": SHEET, "c.csv": SHEET, "own.csv": SHEET, "two.csv": TWO_DATES, "empty.csv": "",
     "names.csv": "name,means,in\nMeyo,month 5,\n", "weekdays.csv": "name,means,in\nSonntag,weekday 0,\n",
+    "other.csv": "name,means,in\nMeyo,month 6,\nJuno,month 7,\n",
     "own.csv.unknown.csv": "name,means,in\nMeyo,month 5,\n",
     "bad.csv": "name,means,in\nMeyo,month 5,\nJuni,six,\n",
     "in.csv": "name,means,in\nMeyo,month 5,mars\n", "both.csv": "name,means,in\nMeyo,mai,mars\n",
@@ -205,7 +206,6 @@ def unlisted(more):
 STREAMS = [
     *((words, "", 0, VERSION, "") for words in VERSIONS),
     (f"{COLUMNS} --order day", SHEET, 0, CONVERTED, lines(not_known("standard input"))),
-    # A column by its number, one calendar for all, the columns asked, and what the user's list adds.
     # An order in letters of any case.
     ("--date d --all gregorian --order MONTH --to gregorian", "d\n5/12/1806\n", 0,
      "d,gregorian,refusal\n5/12/1806,1806-05-12,\n", ""),
@@ -213,10 +213,16 @@ STREAMS = [
      "d,gregorian,refusal\n5/12/1806,1806-12-05,\n", ""),
     ("--date d --all gregorian --order yeaR --to gregorian", "d\n1806/5/12\n", 0,
      "d,gregorian,refusal\n1806/5/12,1806-05-12,\n", ""),
+    # A column by its number, one calendar for all, the columns asked, and what the user's list adds.
     ("--date=3 '--all= Gregorian' '--to=RD, iso' --names names.csv --summary", SHEET, 0,
      "No,Calendar,Date,rd,iso,refusal\n"
      "7,greg.,12 Mai 1806,659394,1806-W20-1,\n"
      "8,greg.,1 Meyo 1700,620668,1700-W17-6,\n", lines("standard input: 2 records, refused: 0, empty: 0")),
+    # Lists of names: that of the first stands before the others. A word is month 5 by the one, and month 6 by the other.
+    ("--date 1 --all gregorian --order day --to gregorian --names names.csv --names other.csv",
+     "d\n2 Meyo 1806\n2 Juno 1806\n", 0, "d,gregorian,refusal\n2 Meyo 1806,1806-05-02,\n2 Juno 1806,1806-07-02,\n", ""),
+    ("--date 1 --all gregorian --order day --to gregorian --names=other.csv --names=names.csv",
+     "d\n2 Meyo 1806\n2 Juno 1806\n", 0, "d,gregorian,refusal\n2 Meyo 1806,1806-06-02,\n2 Juno 1806,1806-07-02,\n", ""),
     # Two columns of dates with a calendar for each, blanks round a name, records above, and a delimiter.
     (f"{TWO_COLUMNS} --summary", TWO_DATES, 0, TWO_CONVERTED,
      lines(not_known("standard input"), "standard input: 2 records, refused: 1, 0, empty: 0, 0")),
@@ -244,6 +250,12 @@ STREAMS = [
      lines("standard input: 2 records, refused: 0, empty: 1")),
     (f"{STAYING_COLUMNS} --unknown", STAYING, 0, "name,means,in,count\n", lines(*REASONS)),
     (STAYING_COLUMNS, *both_times(), lines(*TWICE_REASONS)),
+    # Years that stand last, of one date and of more, but for those that no order of numbers helps.
+    ("--date d --all gregorian --to gregorian", "d\n12.5.1806\n1806-5-12\n12.5/1806\n", 0,
+     "d,gregorian,refusal\n12.5.1806,,5\n1806-5-12,1806-05-12,\n12.5/1806,,5\n",
+     lines("standard input: 1 date has the year last: see --order", "standard input: 1 date is no date of its calendar")),
+    ("--date d --all gregorian --unknown", "d\n12.5.1806\n5/31/1806\n", 0, "name,means,in,count\n",
+     lines("standard input: 2 dates have the year last: see --order")),
     # Short years, and names that are not known, of more than one date.
     ("--date 1 --all julian --to julian", "d\n06-5-12\n7-5-12\n", 0, "d,julian,refusal\n06-5-12,,5\n7-5-12,,5\n",
      lines("standard input: 2 dates have short years and are left empty: see --short-years")),
@@ -291,6 +303,9 @@ STREAMS = [
     ("--date 1 --all iso --names sign.csv", "", 3, "", lines("bad list of names sign.csv: name of record 2")),
     ("--date 1 --all iso --names empty-name.csv", "", 3, "", lines("bad list of names empty-name.csv: name of record 1")),
     ("--date 1 --all iso --names none.csv", "", 3, "", lines("cannot open none.csv")),
+    # The first list that is none, in their order.
+    ("--date 1 --all iso --names names.csv --names both.csv --names none.csv", "", 3, "",
+     lines("bad list of names both.csv: means of record 1")),
 ]
 
 # The arguments, the status, the files that are made, and standard error.
@@ -318,5 +333,7 @@ MADE = [
     ("--date 1 --all iso a.csv c.csv", 3, {"a.csv.dates.csv.part": ""}, lines("cannot make c.csv.dates.csv")),
     # An input is kept, and a list of names is read first.
     ("--date 1 --all iso --unknown --names own.csv.unknown.csv own.csv", 3, {}, lines("cannot make own.csv.unknown.csv")),
+    ("--date 1 --all iso --unknown --names names.csv --names own.csv.unknown.csv own.csv", 3, {},
+     lines("cannot make own.csv.unknown.csv")),
     ("--date 1 --all iso --names bad.csv a.csv", 3, {}, lines("bad list of names bad.csv: means of record 2")),
 ]

@@ -2,7 +2,7 @@
 --   ColumnLemmas, EndLemmas: what becomes of a sheet, for `answered`.
 --   LineLemmas: the lines on sheets, for `answered`.
 --   ListLemmas: the sheets of files, one after the other, for `answered`.
---   NameLemmas: the names of outputs, for `answered`.
+--   NameLemmas: the names of outputs, for `answered`. NameListLemmas: what lists dates are read by, for `answered`.
 --   RefusedLemmas: `refused` and `reported`. FaultLemmas: which file a line names, for `reported`.
 --   RegisterLemmas: the outputs of registers, for `answered`.
 mod ColumnLemmas
@@ -11,6 +11,7 @@ mod FaultLemmas
 mod LineLemmas
 mod ListLemmas
 mod NameLemmas
+mod NameListLemmas
 mod RefusedLemmas
 mod RegisterLemmas
 mod TaskLemmas

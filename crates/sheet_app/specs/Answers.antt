@@ -13,7 +13,7 @@ use Rattle.sheet_arguments.specs.declared.requests.TheConstants.{VERSION}
 use Rattle.sheet_app.specs.FileSheets.{AreApartOutputs}
 use Rattle.sheet_app.specs.EndedSheets.{AreReported, Gives, IsConverted, IsEndedSheet, ended_name, is_complete}
 use Rattle.sheet_app.specs.ProgramFaults.{IsFaultOfAsked, fault_line, fault_status}
-use Rattle.sheet_app.specs.Sheets.{AreBothLists}
+use Rattle.sheet_app.specs.Sheets.{GainsList, IsList}
 use Rattle.sheet_app.specs.declared.converting.EndedSheet.{EndedSheet}
 use Rattle.sheet_app.specs.declared.converting.TheConstants.{INPUT}
 use Rattle.sheet_app.specs.declared.program_faults.ProgramFault.{ProgramFault}
@@ -44,16 +44,27 @@ pub record IsReported (arguments : List Text) (status : ℕ) (before after : Opt
   pub cause : IsFaultOfAsked arguments why
   pub line : IfSome (fault_line why) (Appends before after)
 
--- the list of names of the user is the file that a task names
-abbrev pub IsOwnText : {R : Type 0} → reads.Ghosts R → (Text → R → Type 0) → Option Text → Option (List ℕ) → Type 0
-IsOwnText r IsOpened None own = own ≡ None
-IsOwnText {R} r IsOpened (Some file) own =
-    (source : R) × IsOpened file source × (text : List ℕ) × Gives r source text × (own ≡ Some text)
+module _ {R : Type 0} (r : reads.Ghosts R) (IsOpened : Text → R → Type 0) where
+  -- these are the lines of the list of names in a file
+  pub record IsListIn (file : Text) (lines : List NameLine) : Type 0 where
+    pub source : R
+    pub opened : IsOpened file source
+    pub text : List ℕ
+    pub gives : Gives r source text
+    pub are_its : IsList text lines
 
--- dates are read by the names of these lines: those of the user's list, which a task names, and behind them the built-in
-abbrev pub AreNamesOf : {R : Type 0} → reads.Ghosts R → (Text → R → Type 0) → Task → List ℕ → List NameLine → Type 0
-AreNamesOf r IsOpened task built lines =
-    (own : Option (List ℕ)) × IsOwnText r IsOpened task.names own × AreBothLists own built lines
+  -- those of the lists in these files, in order
+  abbrev pub AreListsIn : List Text → List NameLine → Type 0
+  AreListsIn [] lines = lines ≡ []
+  AreListsIn (file ∷ files) lines =
+      (first : List NameLine) × (others : List NameLine) × IsListIn file first × AreListsIn files others
+      × (lines ≡ first ++ others)
+
+  -- dates are read by the names of these lines: those of the lists that a task names, and behind them the built-in ones
+  pub record AreNamesOf (task : Task) (built : List ℕ) (lines : List NameLine) : Type 0 where
+    pub own : List NameLine
+    pub are_own : AreListsIn task.names own
+    pub built_in : GainsList built own lines
 
 -- the sheet of standard input has ended, with its lines; the status is 0 exactly where it is complete
 pub record IsInputConverted {R W E : Type 0} (r : reads.Ghosts R) (o : outputs.Ghosts W) (e : outputs.Ghosts E)

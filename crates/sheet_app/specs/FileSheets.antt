@@ -47,10 +47,10 @@ names_ending own text others file = (file ++ own) ∷ map (λ ending. file ++ te
 abbrev pub outputs_of : Task → List Text
 outputs_of task = flat_map (names_ending (ending_of task) (λ ending. ending) (register_endings task)) task.files
 
--- the names of all inputs, of the sheets and of the list of names, were told apart from both names of an output
+-- the names of all inputs, of the sheets and of the lists of names, were told apart from both names of an output
 pub record IsNoInput (AreApart : Text → Text → Type 0) (task : Task) (name : Text) : Type 0 where
   pub sheets : All (λ file. IsApartFrom AreApart file name) task.files
-  pub list : IfSome task.names (λ list. IsApartFrom AreApart list name)
+  pub lists : All (λ file. IsApartFrom AreApart file name) task.names
 
 -- the outputs were told apart from all inputs and from one another
 pub record AreApartOutputs (AreApart : Text → Text → Type 0) (task : Task) : Type 0 where

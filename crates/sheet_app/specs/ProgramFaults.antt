@@ -17,15 +17,15 @@ use Rattle.sheet_app.specs.declared.program_faults.ProgramFault.TheVariants as p
 -- the files of a task are not there for this reason: memory ran out, or a file that is opened for it, or one that is made,
 -- is missing
 abbrev pub IsFaultOfFiles : Task → FileFault → Type 0
-IsFaultOfFiles task (file_fault.CannotOpen file) = Contains task.files file.now ⊎ (task.names ≡ Some file.now)
+IsFaultOfFiles task (file_fault.CannotOpen file) = Contains task.files file.now ⊎ Contains task.names file.now
 IsFaultOfFiles task (file_fault.CannotMake name) = Contains (outputs_of task) (string_bytes name)
 IsFaultOfFiles task file_fault.OutOfMemory = ⊤
 
--- a task is not begun for this reason: memory ran out, a file is missing, or its list of names cannot be read or is none
+-- a task is not begun for this reason: memory ran out, a file is missing, or a list of names cannot be read or is none
 abbrev pub IsFaultOfTask : Task → ProgramFault → Type 0
 IsFaultOfTask task (program_fault.Files fault) = IsFaultOfFiles task fault
-IsFaultOfTask task (program_fault.UnreadList file) = task.names ≡ Some file.now
-IsFaultOfTask task (program_fault.NoList file fault) = task.names ≡ Some file.now
+IsFaultOfTask task (program_fault.UnreadList file) = Contains task.names file.now
+IsFaultOfTask task (program_fault.NoList file fault) = Contains task.names file.now
 IsFaultOfTask task program_fault.OutOfMemory = ⊤
 IsFaultOfTask task (program_fault.Arguments error) = ⊥
 

@@ -25,24 +25,20 @@ use Rattle.sheet_app.specs.declared.sheets.SheetDone.{SheetDone}
 use Rattle.sheet_app.specs.declared.sheets.SheetDone.TheVariants as done
 use Rattle.sheet_app.specs.declared.sheets.WholeSheet.{WholeSheet}
 
--- the lines of the user's list, where there is one
-abbrev pub IsOwnList : Option (List ℕ) → List NameLine → Type 0
-IsOwnList None lines = lines ≡ []
-IsOwnList (Some text) lines = IsListOf (text_records 44 text) lines
+-- these are the lines of a text that is a list of names
+abbrev pub IsList : List ℕ → List NameLine → Type 0
+IsList text lines = IsListOf (text_records 44 text) lines
 
--- the user's list is none for this reason, or memory ran out
-abbrev pub IsFaultOfOwn : Option (List ℕ) → NameListFault → Type 0
-IsFaultOfOwn own list_fault.OutOfMemory = ⊤
-IsFaultOfOwn None why = ⊥
-IsFaultOfOwn (Some text) why = IsFaultOf (text_records 44 text) why
+-- behind some lines stand those of such a text too
+pub record GainsList (text : List ℕ) (old new : List NameLine) : Type 0 where
+  pub lines : List NameLine
+  pub are_its : IsList text lines
+  pub gained : new ≡ old ++ lines
 
--- the lines of both lists, the user's in front
-pub record AreBothLists (own : Option (List ℕ)) (built : List ℕ) (lines : List NameLine) : Type 0 where
-  pub front : List NameLine
-  pub behind : List NameLine
-  pub both : lines ≡ front ++ behind
-  pub of_user : IsOwnList own front
-  pub built_in : IsListOf (text_records 44 built) behind
+-- a text is no list of names for this reason, or memory ran out
+abbrev pub IsFaultOfText : List ℕ → NameListFault → Type 0
+IsFaultOfText text list_fault.OutOfMemory = ⊤
+IsFaultOfText text why = IsFaultOf (text_records 44 text) why
 
 -- the names of a sheet's columns for a task
 abbrev pub names_of : Task → List ℕ → Fields

@@ -188,17 +188,6 @@ fn is_among<R, W: Output, P: FileStore<R, W>>(store: &P, files: &[&str], place: 
     false
 }
 
-/// Whether an output has a name of a list of names.
-fn is_list<R, W: Output, P: FileStore<R, W>>(store: &P, list: Option<&str>, place: &Place) -> bool
-    ensures { result ≡ false → IfSome (option_map (λ file. file.now) list.entry)
-        (λ file. IsApartFrom (P.are_apart store.now) file (place_name place.now)) }
-{
-    match list {
-        Some(file) => is_of_output(store, file, place),
-        None => false,
-    }
-}
-
 /// Refuses an output that would go to an input and empty it.
 fn check_kept<'a, R, W: Output, P: FileStore<R, W>>(
     alloc: Global,
@@ -211,7 +200,7 @@ fn check_kept<'a, R, W: Output, P: FileStore<R, W>>(
     ensures missing { IfErr result (IsOfOutputs ((file.now ++ ending.now) ∷ [])) }
 {
     let place = Place::new(alloc, file, ending)?;
-    if is_list(store, job.names, &place) {
+    if is_among(store, job.names.as_slice(), &place) {
         return Err(FileFault::CannotMake(place.into_name()));
     }
     if is_among(store, job.files.as_slice(), &place) {

@@ -1,40 +1,23 @@
-//! The lists of names: that of the user, and the built-in one.
+//! The lists of names: those of the user, and the built-in one.
 
-ghost use Rattle.std.specs.Prelude.{◌≡◌, IfErr, IfOk, map, option_map};
-ghost use Rattle.sheet_app.specs.Sheets.{AreBothLists, IsFaultOfOwn, IsOwnList};
+ghost use Rattle.std.specs.Prelude.{IfErr, OnOk};
+ghost use Rattle.sheet_app.specs.Sheets.{GainsList, IsFaultOfText};
 
 use register_sheets::{NameList, NameListFault};
 use std::alloc::Global;
 
-/// The names of the list of the user; without one there are none.
-fn own_list(alloc: Global, own: Option<&[u8]>) -> Result<NameList, NameListFault>
-    ensures list { IfOk result (λ list. IsOwnList (option_map (λ text. text.now) own.entry) list.lines.items) }
-    ensures fault { IfErr result (IsFaultOfOwn (option_map (λ text. text.now) own.entry)) }
-{
-    match own {
-        Some(text) => NameList::read(alloc, text),
-        None => Ok(NameList {
-            lines: Vec::new(alloc),
-        }),
-    }
-}
-
-/// The names of a list of the user, if there is one, and behind them those of the built-in list.
+/// Appends the names of a text that is a list of names.
 ///
 /// # Errors
 ///
-/// The fault of the user's list, and `OutOfMemory`, also where the built-in list were none.
-pub fn list_of(alloc: Global, own: Option<&[u8]>, built: &[u8]) -> Result<NameList, NameListFault>
-    ensures lists { IfOk result (λ list.
-        AreBothLists (option_map (λ text. text.now) own.entry) built.now list.lines.items) }
-    ensures fault { IfErr result (IsFaultOfOwn (option_map (λ text. text.now) own.entry)) }
+/// The fault of the text, and `OutOfMemory`.
+pub fn push_list(alloc: Global, list: &mut NameList, text: &[u8]) -> Result<(), NameListFault>
+    ensures lines { OnOk result (GainsList text.now list.old.lines.items list.new.lines.items) }
+    ensures fault { IfErr result (IsFaultOfText text.now) }
 {
-    let mut list = own_list(alloc, own)?;
-    let Ok(mut behind) = NameList::read(alloc, built) else {
-        return Err(NameListFault::OutOfMemory);
-    };
+    let mut behind = NameList::read(alloc, text)?;
     match list.lines.append(&mut behind.lines) {
-        Ok(()) => Ok(list),
+        Ok(()) => Ok(()),
         Err(_) => Err(NameListFault::OutOfMemory),
     }
 }

@@ -1,6 +1,7 @@
 //! What the program does with its arguments: it prints a page, or converts, and returns how that ended.
 
-ghost use Rattle.std.specs.Prelude.{◌≡◌, ◌≢◌, ◌≤◌, ◌⊎◌, ◌↔◌, ℕ, List, [], All, IfErr, IfOk, OnOk, Some, map, false, true};
+ghost use Rattle.std.specs.Prelude.{◌≡◌, ◌≢◌, ◌≤◌, ◌⊎◌, ◌↔◌, ◌++◌, ℕ, List, [], All, Contains, IfErr, IfOk, OnOk, map, false};
+ghost use Rattle.std.specs.Prelude.{true};
 ghost use Rattle.std.specs.Prelude.{vec_capacity, vec_len};
 ghost use Rattle.std.specs.Io.KnownBytes.{Appends};
 ghost use Rattle.std.specs.String.{string_bytes};
@@ -9,8 +10,8 @@ ghost use Rattle.register_files.specs.Openings.{IsFresh};
 ghost use Rattle.register_sheets.specs.declared.name_lists.NameLine.{NameLine as NameLineValue};
 ghost use Rattle.sheet_arguments.specs.Faults.{memory_line};
 ghost use Rattle.sheet_arguments.specs.Requests.{AreWrong, MeanJust, Task as TaskValue, task_of};
-ghost use Rattle.sheet_app.specs.Answers.{AreFilesAnswered, AreNamesOf, IsInputAnswered, IsInputConverted, IsPageAnswered};
-ghost use Rattle.sheet_app.specs.Answers.{IsPrinted, IsReported, version_line};
+ghost use Rattle.sheet_app.specs.Answers.{AreFilesAnswered, AreListsIn, AreNamesOf, IsInputAnswered, IsInputConverted};
+ghost use Rattle.sheet_app.specs.Answers.{IsListIn, IsPageAnswered, IsPrinted, IsReported, version_line};
 ghost use Rattle.sheet_app.specs.EndedSheets.{AreReported, Gives, IsEndedSheet, ended_name, is_complete};
 ghost use Rattle.sheet_app.specs.FileSheets.{AreApartOutputs, IsNewSheet, register_endings, sheet_name};
 ghost use Rattle.sheet_app.specs.SheetViews.{IsTask};
@@ -18,7 +19,7 @@ ghost use Rattle.sheet_app.specs.ProgramFaults.{IsFaultOfAsked, IsFaultOfTask, f
 
 use crate::converting::{EndedSheet, are_complete, convert_all, convert_input};
 use crate::file_sheets::{FileFault, FileSheet, open_sheets};
-use crate::name_lists::list_of;
+use crate::name_lists::push_list;
 use crate::program_faults::ProgramFault;
 use arrayvec::ArrayString;
 use command_lines::{COMPLETE, INCOMPLETE};
@@ -133,7 +134,7 @@ fn print_page<'a, W: Output, E: Output>(
 
 /// The fault of a list of names in this file.
 fn fault_of_list<'a>(file: &'a str, fault: NameListFault) -> ProgramFault<'a>
-    ensures { (task : TaskValue) → task.names ≡ Some file.now → IsFaultOfTask task result }
+    ensures { (task : TaskValue) → Contains task.names file.now → IsFaultOfTask task result }
 {
     match fault {
         NameListFault::OutOfMemory => ProgramFault::OutOfMemory,
@@ -148,7 +149,7 @@ fn read_file<'a, R: Read + Drop, W: Output, P: FileStore<R, W>>(
     file: &'a str,
 ) -> Result<Vec<u8>, ProgramFault<'a>>
     ensures text { IfOk result (λ text. (source : R) × P.is_opened store.now file.now source × Gives R.Read source text.items) }
-    ensures fault { IfErr result (λ why. (task : TaskValue) → task.names ≡ Some file.now → IsFaultOfTask task why) }
+    ensures fault { IfErr result (λ why. (task : TaskValue) → Contains task.names file.now → IsFaultOfTask task why) }
 {
     let Ok(mut source) = store.open(file) else {
         return Err(ProgramFault::Files(FileFault::CannotOpen(file)));
@@ -160,7 +161,44 @@ fn read_file<'a, R: Read + Drop, W: Output, P: FileStore<R, W>>(
     }
 }
 
-/// The names that dates are read by: those of the list that a job asks for, and behind them the built-in ones.
+/// Appends the names of the list in this file.
+fn push_file<'a, R: Read + Drop, W: Output, P: FileStore<R, W>>(
+    alloc: Global,
+    store: &P,
+    file: &'a str,
+    list: &mut NameList,
+) -> Result<(), ProgramFault<'a>>
+    ensures lines { OnOk result ((lines : List NameLineValue) × IsListIn R.Read (P.is_opened store.now) file.now lines
+        × (list.new.lines.items ≡ list.old.lines.items ++ lines)) }
+    ensures fault { IfErr result (λ why. (task : TaskValue) → Contains task.names file.now → IsFaultOfTask task why) }
+{
+    let text = read_file(alloc, store, file)?;
+    match push_list(alloc, list, text.as_slice()) {
+        Ok(()) => Ok(()),
+        Err(fault) => Err(fault_of_list(file, fault)),
+    }
+}
+
+/// Appends the names of the lists in these files to an empty list.
+fn push_files<'a, R: Read + Drop, W: Output, P: FileStore<R, W>>(
+    alloc: Global,
+    store: &P,
+    files: &[&'a str],
+    list: &mut NameList,
+) -> Result<(), ProgramFault<'a>>
+    requires empty { list.old.lines.items ≡ [] }
+    ensures lines { OnOk result
+        (AreListsIn R.Read (P.is_opened store.now) (map (λ file. file.now) files.now) list.new.lines.items) }
+    ensures fault { IfErr result (λ why. (task : TaskValue) → task.names ≡ map (λ file. file.now) files.now
+        → IsFaultOfTask task why) }
+{
+    'files: for &file in files {
+        push_file(alloc, store, file, list)?;
+    }
+    Ok(())
+}
+
+/// The names that dates are read by: those of the lists that a job asks for, and behind them the built-in ones.
 fn read_list<'a, R: Read + Drop, W: Output, P: FileStore<R, W>>(
     alloc: Global,
     built: &[u8],
@@ -171,16 +209,13 @@ fn read_list<'a, R: Read + Drop, W: Output, P: FileStore<R, W>>(
         AreNamesOf R.Read (P.is_opened store.now) (task_of job.now) built.now list.lines.items) }
     ensures fault { IfErr result (IsFaultOfTask (task_of job.now)) }
 {
-    let Some(file) = job.names else {
-        return match list_of(alloc, None, built) {
-            Ok(list) => Ok(list),
-            Err(_) => Err(ProgramFault::OutOfMemory),
-        };
+    let mut list = NameList {
+        lines: Vec::new(alloc),
     };
-    let text = read_file(alloc, store, file)?;
-    match list_of(alloc, Some(text.as_slice()), built) {
-        Ok(list) => Ok(list),
-        Err(fault) => Err(fault_of_list(file, fault)),
+    push_files(alloc, store, job.names.as_slice(), &mut list)?;
+    match push_list(alloc, &mut list, built) {
+        Ok(()) => Ok(list),
+        Err(_) => Err(ProgramFault::OutOfMemory),
     }
 }
 

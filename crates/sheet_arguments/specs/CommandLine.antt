@@ -3,11 +3,11 @@ use Rattle.std.specs.Prelude.{List, [], ◌∷◌, Bool, codes, fold, Option, un
 use Rattle.clap.specs.Words.{App, Row, Rule, Text, all_of, first_of, one_of, with_rule}
 use Rattle.command_lines.specs.Rules.{bare_command, files_rule, flag_rule, is_set, option_rule, repeated_rule}
 
--- the rules of the arguments: three options as often as wanted, eight with a value each, six flags, and files
+-- the rules of the arguments: four options as often as wanted, seven with a value each, six flags, and files
 abbrev pub argument_rules : List Rule
 argument_rules =
     repeated_rule (codes "date") ∷ repeated_rule (codes "calendar") ∷ repeated_rule (codes "all")
-    ∷ option_rule (codes "id") ∷ option_rule (codes "order") ∷ option_rule (codes "names")
+    ∷ option_rule (codes "id") ∷ option_rule (codes "order") ∷ repeated_rule (codes "names")
     ∷ option_rule (codes "short-years") ∷ option_rule (codes "short-hebrew-years") ∷ flag_rule (codes "charter-years")
     ∷ option_rule (codes "skip") ∷ option_rule (codes "delimiter") ∷ option_rule (codes "to")
     ∷ flag_rule (codes "spans") ∷ flag_rule (codes "edtf") ∷ flag_rule (codes "register") ∷ flag_rule (codes "unknown") ∷ flag_rule (codes "summary")
@@ -24,7 +24,7 @@ pub record Values : Type 0 where
   pub all : List Text
   pub id : Option Text
   pub order : Option Text
-  pub names : Option Text
+  pub names : List Text
   pub short_years : Option Text
   pub short_hebrew_years : Option Text
   pub charter_years : Bool
@@ -46,7 +46,7 @@ values_of found = record {
   all = unwrap_or (all_of (codes "all") found) [];
   id = first_of (codes "id") found;
   order = first_of (codes "order") found;
-  names = first_of (codes "names") found;
+  names = unwrap_or (all_of (codes "names") found) [];
   short_years = first_of (codes "short-years") found;
   short_hebrew_years = first_of (codes "short-hebrew-years") found;
   charter_years = is_set (one_of (codes "charter-years") found);

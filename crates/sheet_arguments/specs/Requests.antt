@@ -42,7 +42,7 @@ pub record Task : Type 0 where
   pub columns : List AskedColumn
   pub spans : Spans
   pub reading : Choice
-  pub names : Option Text
+  pub names : List Text
   pub skip : ℕ
   pub delimiter : ℕ
   pub register : Bool
@@ -161,7 +161,7 @@ task_of job = record {
   columns = job.columns.items;
   spans = job.spans;
   reading = job.reading;
-  names = option_map (λ file. file.now) job.names;
+  names = map (λ file. file.now) job.names.items;
   skip = job.skip;
   delimiter = job.delimiter;
   register = job.register;
@@ -184,7 +184,7 @@ values_by options = record {
   all = map (λ v. v.now) options.all.items;
   id = option_map (λ v. v.now) options.id;
   order = option_map (λ v. v.now) options.words.order;
-  names = option_map (λ v. v.now) options.names;
+  names = map (λ v. v.now) options.names.items;
   short_years = option_map (λ v. v.now) options.words.short_years;
   short_hebrew_years = option_map (λ v. v.now) options.words.short_hebrew_years;
   charter_years = options.charter_years;

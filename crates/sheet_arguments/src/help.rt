@@ -27,7 +27,8 @@ Options:
                       day), day (day, month, year) or month (month, day,
                       year), in letters of any case. Without it: year.
     --names FILE      a list of names, a CSV text with the columns name, means
-                      and in; its names stand before the built-in ones.
+                      and in; its names stand before the built-in ones, and,
+                      of several such lists, before those of the next.
     --short-years R   what is done with Gregorian and Julian years of one or
                       two digits: refuse, keep, or a century that is added,
                       100, 200 and so on to 2000. Without it: refuse, and the

@@ -42,7 +42,7 @@ const ARGUMENTS: [Argument<'static>; 18] = [
     Argument::Repeated("all", "CALENDAR"),
     Argument::Valued("id", "COLUMN"),
     Argument::Valued("order", "year|day|month"),
-    Argument::Valued("names", "FILE"),
+    Argument::Repeated("names", "FILE"),
     Argument::Valued("short-years", "refuse|keep|CENTURY"),
     Argument::Valued("short-hebrew-years", "refuse|keep|5000"),
     Argument::Flag("charter-years"),
@@ -81,8 +81,8 @@ pub struct Job<'a> {
     pub spans: Spans,
     /// How dates are read.
     pub reading: Choice,
-    /// The file of a list of names.
-    pub names: Option<&'a str>,
+    /// The files of lists of names, in order: the names of each stand before those of the next.
+    pub names: Vec<&'a str>,
     /// How many records stand above the names.
     pub skip: u32,
     /// The byte between two fields.
@@ -125,7 +125,7 @@ struct Options<'a> {
     calendars: Vec<&'a str>,
     all: Vec<&'a str>,
     id: Option<&'a str>,
-    names: Option<&'a str>,
+    names: Vec<&'a str>,
     words: Words<'a>,
     charter_years: bool,
     to: Option<&'a str>,
@@ -168,13 +168,14 @@ fn options_found<'a>(alloc: Global, matches: &ArgMatches<'a>) -> Result<Options<
     let dates = values_given(alloc, matches, "date")?;
     let calendars = values_given(alloc, matches, "calendar")?;
     let all = values_given(alloc, matches, "all")?;
+    let names = values_given(alloc, matches, "names")?;
     let files = values_given(alloc, matches, "file")?;
     Ok(Options {
         dates,
         calendars,
         all,
         id: value_given(matches, "id"),
-        names: value_given(matches, "names"),
+        names,
         words: words_found(matches),
         charter_years: is_given(matches, "charter-years"),
         to: value_given(matches, "to"),

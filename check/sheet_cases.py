@@ -280,12 +280,6 @@ STREAMS = [
      "Style,Date\nO.S.,10/22 stycznia 1863\nstary/nowy,10/22 stycznia 1863\n", 0,
      "Style,Date,first gregorian,last gregorian,mark,refusal\nO.S.,10/22 stycznia 1863,1863-01-22,1863-01-22,,\n"
      "stary/nowy,10/22 stycznia 1863,,,,5\n", lines("standard input: 1 date is no date of its calendar")),
-    # Years that stand last, of one date and of more, but for those that no order of numbers helps.
-    ("--date d --all gregorian --to gregorian", "d\n12.5.1806\n1806-5-12\n12.5/1806\n", 0,
-     "d,gregorian,refusal\n12.5.1806,,5\n1806-5-12,1806-05-12,\n12.5/1806,,5\n",
-     lines("standard input: 1 date has the year last: see --order", "standard input: 1 date is no date of its calendar")),
-    ("--date d --all gregorian --unknown", "d\n12.5.1806\n5/31/1806\n", 0, "name,means,in,count\n",
-     lines("standard input: 2 dates have the year last: see --order")),
     # Sheets that break off.
     ("--date Datum --calendar Calendar", SHEET, 1, "",
      lines("standard input: no column Datum: the columns are No, Calendar, Date")),

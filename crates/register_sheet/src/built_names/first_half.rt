@@ -546,7 +546,7 @@ eiundzwanzigste,22,\nzweiundzwanzigsten,22,\nzweiundzwanzigster,22,\nzweyundzwan
 yundzwanzigster,22,\nzwei und zwanzigste,22,\nzwei und zwanzigsten,22,\nzwei und zwanzigster,22,\nzwey und zwanzigste,2\
 2,\nzwey und zwanzigsten,22,\nzwey und zwanzigster,22,\ndreiundzwanzigste,23,\ndreiundzwanzigsten,23,\ndreiundzwanzigst\
 er,23,\ndreyundzwanzigste,23,\ndreyundzwanzigsten,23,\ndreyundzwanzigster,23,\ndrei und zwanzigste,23,\ndrei und zwanzi\
-gsten,23,\n\
+gsten,23,\ndrei und zwanzigster,23,\ndrey und zwanzigste,23,\n\
 ", $rest)
     };
 }

@@ -546,7 +546,30 @@ eiundzwanzigste,22,\nzweiundzwanzigsten,22,\nzweiundzwanzigster,22,\nzweyundzwan
 yundzwanzigster,22,\nzwei und zwanzigste,22,\nzwei und zwanzigsten,22,\nzwei und zwanzigster,22,\nzwey und zwanzigste,2\
 2,\nzwey und zwanzigsten,22,\nzwey und zwanzigster,22,\ndreiundzwanzigste,23,\ndreiundzwanzigsten,23,\ndreiundzwanzigst\
 er,23,\ndreyundzwanzigste,23,\ndreyundzwanzigsten,23,\ndreyundzwanzigster,23,\ndrei und zwanzigste,23,\ndrei und zwanzi\
-gsten,23,\ndrei und zwanzigster,23,\ndrey und zwanzigste,23,\n\
+gsten,23,\ndrei und zwanzigster,23,\ndrey und zwanzigste,23,\ndrey und zwanzigsten,23,\ndrey und zwanzigster,23,\nvieru\
+ndzwanzigste,24,\nvierundzwanzigsten,24,\nvierundzwanzigster,24,\nvier und zwanzigste,24,\nvier und zwanzigsten,24,\nvi\
+er und zwanzigster,24,\nfünfundzwanzigste,25,\nfünfundzwanzigsten,25,\nfünfundzwanzigster,25,\nfünf und zwanzigste,\
+25,\nfünf und zwanzigsten,25,\nfünf und zwanzigster,25,\nsechsundzwanzigste,26,\nsechsundzwanzigsten,26,\nsechsundzwa\
+nzigster,26,\nsechs und zwanzigste,26,\nsechs und zwanzigsten,26,\nsechs und zwanzigster,26,\nsiebenundzwanzigste,27,\n\
+siebenundzwanzigsten,27,\nsiebenundzwanzigster,27,\nsieben und zwanzigste,27,\nsieben und zwanzigsten,27,\nsieben und z\
+wanzigster,27,\nachtundzwanzigste,28,\nachtundzwanzigsten,28,\nachtundzwanzigster,28,\nacht und zwanzigste,28,\nacht un\
+d zwanzigsten,28,\nacht und zwanzigster,28,\nneunundzwanzigste,29,\nneunundzwanzigsten,29,\nneunundzwanzigster,29,\nneu\
+n und zwanzigste,29,\nneun und zwanzigsten,29,\nneun und zwanzigster,29,\ndreißigste,30,\ndreißigsten,30,\ndreißigst\
+er,30,\ndreyßigste,30,\ndreyßigsten,30,\ndreyßigster,30,\neinunddreißigste,31,\neinunddreißigsten,31,\neinunddrei\
+ßigster,31,\neinunddreyßigste,31,\neinunddreyßigsten,31,\neinunddreyßigster,31,\nein und dreißigste,31,\nein und d\
+reißigsten,31,\nein und dreißigster,31,\nein und dreyßigste,31,\nein und dreyßigsten,31,\nein und dreyßigster,31,\
+\neinhundert,100,\neinhundert und,100,\nein hundert,100,\nein hundert und,100,\nhundert,100,\nhundert und,100,\nzweihun\
+dert,200,\nzweihundert und,200,\nzwei hundert,200,\nzwei hundert und,200,\nzweyhundert,200,\nzweyhundert und,200,\nzwe\
+y hundert,200,\nzwey hundert und,200,\ndreihundert,300,\ndreihundert und,300,\ndrei hundert,300,\ndrei hundert und,300,\
+\ndreyhundert,300,\ndreyhundert und,300,\ndrey hundert,300,\ndrey hundert und,300,\nvierhundert,400,\nvierhundert und,4\
+00,\nvier hundert,400,\nvier hundert und,400,\nfünfhundert,500,\nfünfhundert und,500,\nfünf hundert,500,\nfünf hund\
+ert und,500,\nsechshundert,600,\nsechshundert und,600,\nsechs hundert,600,\nsechs hundert und,600,\nsiebenhundert,700,\
+\nsiebenhundert und,700,\nsieben hundert,700,\nsieben hundert und,700,\nachthundert,800,\nachthundert und,800,\nacht hu\
+ndert,800,\nacht hundert und,800,\nneunhundert,900,\nneunhundert und,900,\nneun hundert,900,\nneun hundert und,900,\nel\
+fhundert,1100,\nelfhundert und,1100,\nelf hundert,1100,\nelf hundert und,1100,\nzwölfhundert,1200,\nzwölfhundert und,\
+1200,\nzwölf hundert,1200,\nzwölf hundert und,1200,\ndreizehnhundert,1300,\ndreizehnhundert und,1300,\ndreizehn hunde\
+rt,1300,\ndreizehn hundert und,1300,\ndreyzehnhundert,1300,\ndreyzehnhundert und,1300,\ndreyzehn hundert,1300,\ndreyzeh\
+n hundert und,1300,\n\
 ", $rest)
     };
 }

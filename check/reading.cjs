@@ -12,6 +12,10 @@ const BEGINS_WITH_DASH = new RegExp(`^[${DASHES}]`);
 const MINUS = new RegExp(`(?:^|[${BLANKS}.,/${DASHES}])[${DASHES}][0-9]`);
 const BAR = new RegExp(`[0-9].*[/${DASHES}].*[0-9]`, "s");
 const SIGN = new RegExp(`[.,/${DASHES}]`, "g"), DASH = new RegExp(`[${DASHES}]`);
+const HOUR = "(?:[01][0-9]|2[0-4]|[0-9](?![0-9]))", MINUTE = "[0-5][0-9]";
+const HOUR_WORD = `[${BLANKS}]*(?:[aApP](?:[mM]|\\.[mM]\\.)|[uU][hH][rR]|[hH])[${BLANKS}]*`;
+const CLOCK = `${HOUR}:${MINUTE}(?:[ \\t]*|${HOUR_WORD}|:${MINUTE}(?:[ \\t]*|${HOUR_WORD}|\\.[0-9]+))`;
+const TIME = new RegExp(`^(.*?)(?:T${CLOCK}|[, \\t][ \\t]*(?:${CLOCK}|${HOUR}(?:\\.${MINUTE})?${HOUR_WORD}))$`, "s");
 
 const bareOf = text => text.replace(ENDS, "");
 const partsOf = text => text.match(PART) || [];
@@ -274,10 +278,11 @@ function dated(text, calendar, choice, items, { rule, year: number, find }) {
   return { text: `${year}-${date.month}-${date.day}`, rule };
 }
 
-// What is written for a text: `{text, rule}`, or `{text, rule: null, reason}` where no date is read; also, whether
+// What is written for a text with all that stands in it: `{text, rule}`, or `{text, rule: null, reason}` where no date is
+// read; also, whether
 // numbers add up. The calendar is null where it is not known, and `names` are those that hold in it, by their first
 // words.
-function written(text, calendar, choice, names) {
+function whole(text, calendar, choice, names) {
   if (calendar === null || WITHOUT_WORDS.includes(calendar)) return stays(text, "no words");
   const bare = bareOf(text), registered = calendar === "roman" ? null : ofRegister(bare, calendar, choice);
   if (registered !== null) return registered;
@@ -292,7 +297,29 @@ function written(text, calendar, choice, names) {
   return { ...dated(text, calendar, choice, items, reading), isSum: items.length < found.length };
 }
 
+// The text before a time of day at its end; null where it has none, or a minus.
+function beforeTime(text) {
+  const found = MINUS.test(text) ? null : TIME.exec(text);
+  return found === null ? null : found[1];
+}
+
+const isDate = found => found.rule !== null || found.reason === "short year";
+
+// A text, or the date that stands before a time of day at its end, where it is none with it.
+function withoutTime(text, calendar, choice, names) {
+  if (calendar === null || calendar === "roman" || WITHOUT_WORDS.includes(calendar)) return text;
+  const before = beforeTime(text);
+  if (before === null || isDate(whole(text, calendar, choice, names))) return text;
+  return isDate(whole(before, calendar, choice, names)) ? before : text;
+}
+
+// The same, where a time of day behind a date is left out.
+function written(text, calendar, choice, names) {
+  const kept = withoutTime(text, calendar, choice, names), found = whole(kept, calendar, choice, names);
+  return kept === text || found.rule === null ? found : { ...found, rule: `${found.rule}, with a time` };
+}
+
 module.exports = {
   added, bareOf, byYear, folded, formOf, hasMixedSigns, hasOther, isBeside, isDecadeDay, isHalfYear, isLong, isOnWeekday,
-  itemsOf, ofThree, partsOf, written,
+  itemsOf, ofThree, partsOf, withoutTime, written,
 };

@@ -6,7 +6,7 @@ const { join } = require("path");
 const { dateIn, dayOf, monthsOf, placed, sundayOf } = require("./day_counts.cjs");
 const {
   added, bareOf, byYear, formOf, hasMixedSigns, hasOther, isBeside, isDecadeDay, isHalfYear, isLong, isOnWeekday, itemsOf,
-  ofThree, written,
+  ofThree, withoutTime, written,
 } = require("./reading.cjs");
 
 const { calendars } = JSON.parse(readFileSync(join(__dirname, "..", "crates", "register_facts", "stdout"), "utf8"));
@@ -247,7 +247,8 @@ function spanOf(text, calendar, choice, names) {
     return { first: date, last: date, marks: "" };
   }
   const bare = bareOf(text), found = MARK.exec(bare), isMarked = found !== null && !OPEN_END.test(found[1]);
-  const kept = isMarked ? found[1] : bare, sign = isMarked ? found[2] : "", by = { order: choice.order, calendar };
+  const kept = withoutTime(isMarked ? found[1] : bare, calendar, choice, names), sign = isMarked ? found[2] : "";
+  const by = { order: choice.order, calendar };
   const dual = dualSides(kept, names, by), date = written(kept, calendar, choice, names);
   const marksOf = (kind, isAbout) => [kind, isAbout || "~%".includes(sign) && sign ? "about" : "",
     "?%".includes(sign) && sign ? "uncertain" : ""].filter(it => it !== "").join(" ");

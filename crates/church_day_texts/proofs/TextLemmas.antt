@@ -30,7 +30,8 @@ use Rattle.written_dates.specs.Signs.{bare, begins_with_dash, has_minus, has_oth
 use Rattle.written_dates.specs.Sums.{found_items}
 use Rattle.written_dates.specs.Tokens.{Piece, tokens}
 use Rattle.written_dates.specs.Written.{agrees, answer, date_of, dated, if_agreed, is_half_year, items_answer}
-use Rattle.written_dates.specs.Written.{short_rule, unless_turned, written}
+use Rattle.written_dates.specs.Written.{dated_text, short_rule, unless_turned, written}
+use Rattle.written_dates.proofs.TimeLemmas.{dated_whole, read_dated}
 use Rattle.church_days.specs.DayNames.{DayName, day_names}
 use Rattle.church_days.specs.Names.{FallsOn}
 use Rattle.church_day_texts.specs.Texts.{calendar_of, SaysName, IsInWords, NamesReadBack}
@@ -72,11 +73,19 @@ plain_answer : (choice : Choice) (calendar : Calendar) (names : List Name) (text
 unfolding answer
 plain_answer choice calendar names text found plain has = rw (plain, has) refl
 
+read_whole : (choice : Choice) (church : Church) (names : List Name) (text : List ℕ) (y m d : ℕ)
+    → answer choice (calendar_of church) names text ≡ Date y m d
+    → dated_text choice (calendar_of church) names text ≡ text
+read_whole choice church names text y m d is =
+    dated_whole choice (calendar_of church) names text (read_dated choice (calendar_of church) names text (rw is refl))
+
 in_words : (choice : Choice) (church : Church) (names : List Name) (text : List ℕ) (y m d : ℕ) → IsInWords choice text
     → answer choice (calendar_of church) names text ≡ Date y m d
     → written choice (Some (calendar_of church)) names text ≡ dated y m d
-in_words choice Julian names text y m d words is = rw (words.no_minus, words.no_runs, is) refl
-in_words choice Gregorian names text y m d words is = rw (words.no_minus, words.no_runs, is) refl
+in_words choice Julian names text y m d words is =
+    rw (read_whole choice Julian names text y m d is, words.no_minus, words.no_runs, is) refl
+in_words choice Gregorian names text y m d words is =
+    rw (read_whole choice Gregorian names text y m d is, words.no_minus, words.no_runs, is) refl
 
 pub names_read_back : NamesReadBack
 names_read_back choice church names text name date year falls own words says =

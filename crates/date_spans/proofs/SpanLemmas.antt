@@ -1,5 +1,5 @@
 -- What is read today is its own span.
-use Rattle.std.proofs.Common.{◌≡◌, ℕ, Bool, true, false, List, ◌&&◌, ◌||◌, refl, subst, ap}
+use Rattle.std.proofs.Common.{◌≡◌, ℕ, Bool, true, false, List, ◌&&◌, ◌||◌, refl, subst, ap, sym}
 use Rattle.std.specs.Prelude.{Option, Some, None, is_some, not}
 use Rattle.date_texts.specs.declared.calendar.Calendar.{Calendar}
 use Rattle.written_dates.specs.declared.calendars.Form.{Form}
@@ -9,11 +9,13 @@ use Rattle.written_dates.specs.declared.written.Choice.{Choice}
 use Rattle.written_dates.specs.Calendars.{form}
 use Rattle.written_dates.specs.Signs.{three_runs, runs_behind_minus}
 use Rattle.written_dates.specs.Tokens.{tokens}
-use Rattle.written_dates.specs.Written.{answer, answer_text, unless_turned, written, written_by}
+use Rattle.written_dates.specs.Written.{answer, answer_text, dated_text, is_dated, is_found, unless_turned, written, written_by}
+use Rattle.written_dates.proofs.TimeLemmas.{dated_before, dated_whole, read_dated, stands_dated}
 use Rattle.date_spans.specs.declared.spans.Marks.{Marks}
 use Rattle.date_spans.specs.Cuts.{unmarked}
-use Rattle.date_spans.specs.Laws.{AreWrittenToday, DatesAreTheirOwnSpans, IsReadToday, RegisterDatesAreTheirOwnSpans, StandsToday}
-use Rattle.date_spans.specs.Spans.{IsSpanByForm, IsSpanOfText, is_date, is_dual, is_known, is_read, stands}
+use Rattle.date_spans.specs.Laws.{DatesAreTheirOwnSpans, HasTime, IsReadToday, RegisterDatesAreTheirOwnSpans, StandsToday}
+use Rattle.date_spans.specs.Laws.{TimesChangeNoSpan}
+use Rattle.date_spans.specs.Spans.{IsSpan, IsSpanByForm, IsSpanOfText, is_date, is_dual, is_known, kept_of, stands}
 
 date_of : (d s r : Bool) → d ≡ false → (s || r) ≡ true → (not d && (s || r)) ≡ true
 date_of d s r e f = rw (e, f) refl
@@ -34,50 +36,87 @@ some_is o x e = ap is_some e
 
 by_form : (f : Form) (choice : Choice) (calendar : Calendar) (names : List Name) (text first last : List ℕ) (found : Marks)
     → f ≡ Civil → IsSpanByForm f choice calendar names text first last found
-    → IsSpanOfText choice calendar names text (unmarked text) first last found
-    (is_date choice calendar names (unmarked text).0)
+    → IsSpanOfText choice calendar names text (kept_of choice calendar names text) first last found
+    (is_date choice calendar names (kept_of choice calendar names text).0)
 by_form f choice calendar names text first last found e h =
     subst (λ (g : Form). IsSpanByForm g choice calendar names text first last found) e h
 
+abbrev AreWritten : Choice → Calendar → List Name → List ℕ → List ℕ → List ℕ → Type 0
+AreWritten choice calendar names kept first last =
+    (first ≡ written choice (Some calendar) names kept) × (last ≡ written choice (Some calendar) names kept)
+
 where_date : (choice : Choice) (calendar : Calendar) (names : List Name) (text first last : List ℕ) (found : Marks)
-    → (b : Bool) → b ≡ true → IsSpanOfText choice calendar names text (unmarked text) first last found b
-    → AreWrittenToday choice calendar names text first last
-where_date choice calendar names text first last found true e h = (h.0, h.1)
-where_date choice calendar names text first last found false e h = absurd (not_true e)
+    (kept : List ℕ × Bool × Bool) (b : Bool) → b ≡ true
+    → IsSpanOfText choice calendar names text kept first last found b
+    → AreWritten choice calendar names kept.0 first last
+where_date choice calendar names text first last found kept true e h = (h.0, h.1)
+where_date choice calendar names text first last found kept false e h = absurd (not_true e)
   where
     not_true : false ≡ true → ⊥
     not_true e = cc
+
+-- of a text that is read as this date
+of_date : (choice : Choice) (calendar : Calendar) (names : List Name) (text date first last : List ℕ) (found : Marks)
+    → form calendar ≡ Civil → IsSpan choice (Some calendar) names text first last found
+    → dated_text choice calendar names (unmarked text).0 ≡ date → is_date choice calendar names date ≡ true
+    → AreWritten choice calendar names date first last
+of_date choice calendar names text date first last found civil span same is =
+    subst (λ (x : List ℕ). AreWritten choice calendar names x first last) same
+    (where_date choice calendar names text first last found (kept_of choice calendar names text)
+    (is_date choice calendar names (kept_of choice calendar names text).0)
+    (subst (λ (x : List ℕ). is_date choice calendar names x ≡ true) (sym same) is)
+    (by_form (form calendar) choice calendar names text first last found civil span))
 
 read_date : (choice : Choice) (calendar : Calendar) (names : List Name) (text : List ℕ)
     → IsReadToday choice calendar names text → is_date choice calendar names (unmarked text).0 ≡ true
 unfolding is_known
 read_date choice calendar names text h =
     date_of (is_dual choice calendar names (unmarked text).0) (stands choice (unmarked text).0)
-    (is_read (answer choice calendar names (unmarked text).0)) h.single
-    (either_read (stands choice (unmarked text).0) (is_read (answer choice calendar names (unmarked text).0)) h.reads)
+    (is_found (answer choice calendar names (unmarked text).0)) h.single
+    (either_read (stands choice (unmarked text).0) (is_found (answer choice calendar names (unmarked text).0)) h.reads)
 
 standing_date : (choice : Choice) (calendar : Calendar) (names : List Name) (text : List ℕ)
     → StandsToday choice calendar names text → is_date choice calendar names (unmarked text).0 ≡ true
 unfolding is_known
 standing_date choice calendar names text h =
     date_of (is_dual choice calendar names (unmarked text).0) (stands choice (unmarked text).0)
-    (is_read (answer choice calendar names (unmarked text).0)) h.single
-    (first_of_two (stands choice (unmarked text).0) (is_read (answer choice calendar names (unmarked text).0))
+    (is_found (answer choice calendar names (unmarked text).0)) h.single
+    (first_of_two (stands choice (unmarked text).0) (is_found (answer choice calendar names (unmarked text).0))
     (either_stands (is_some (runs_behind_minus (tokens 0 (unmarked text).0)))
     (is_some (unless_turned choice.order (three_runs (tokens 0 (unmarked text).0))))
     (some_is (unless_turned choice.order (three_runs (tokens 0 (unmarked text).0))) h.runs h.stands)))
 
 pub dates_stay : DatesAreTheirOwnSpans
 dates_stay choice calendar names text first last found civil span h =
-    where_date choice calendar names text first last found (is_date choice calendar names (unmarked text).0)
+    of_date choice calendar names text (unmarked text).0 first last found civil span
+    (dated_whole choice calendar names (unmarked text).0 (read_dated choice calendar names (unmarked text).0 h.reads))
     (read_date choice calendar names text h)
-    (by_form (form calendar) choice calendar names text first last found civil span)
 
 pub register_dates_stay : RegisterDatesAreTheirOwnSpans
 register_dates_stay choice calendar names text first last found civil span h =
-    where_date choice calendar names text first last found (is_date choice calendar names (unmarked text).0)
+    of_date choice calendar names text (unmarked text).0 first last found civil span
+    (dated_whole choice calendar names (unmarked text).0
+    (stands_dated choice calendar names (unmarked text).0
+    (some_is (unless_turned choice.order (three_runs (tokens 0 (unmarked text).0))) h.runs h.stands)))
     (standing_date choice calendar names text h)
-    (by_form (form calendar) choice calendar names text first last found civil span)
+
+known_by : (a b c : Bool) → (b || c) ≡ true → ((a || b) || c) ≡ true
+known_by true b c e = refl
+known_by false b c e = e
+
+known_dated : (choice : Choice) (calendar : Calendar) (names : List Name) (text : List ℕ)
+    → is_dated choice calendar names text ≡ true → is_known choice calendar names text ≡ true
+unfolding is_known is_dated
+known_dated choice calendar names text h =
+    known_by (is_some (runs_behind_minus (tokens 0 text)))
+    (is_some (unless_turned choice.order (three_runs (tokens 0 text)))) (is_found (answer choice calendar names text)) h
+
+pub times_change_no_span : TimesChangeNoSpan
+times_change_no_span choice calendar names text before first last found civil span h =
+    of_date choice calendar names text before first last found civil span
+    (dated_before choice calendar names (unmarked text).0 before h.midnight h.time h.plain h.undated h.dated)
+    (date_of (is_dual choice calendar names before) false (is_known choice calendar names before) h.single
+    (known_dated choice calendar names before h.dated))
 
 -- ---- what is known of a text, and what is written for it
 pub stood : (choice : Choice) (calendar : Calendar) (names : List Name) (text : List ℕ)
@@ -86,7 +125,7 @@ unfolding is_known
 stood choice calendar names text h = rw h refl
 
 pub read : (choice : Choice) (calendar : Calendar) (names : List Name) (text : List ℕ)
-    → stands choice text ≡ false → is_known choice calendar names text ≡ is_read (answer choice calendar names text)
+    → stands choice text ≡ false → is_known choice calendar names text ≡ is_found (answer choice calendar names text)
 unfolding is_known
 read choice calendar names text h = rw h refl
 
@@ -98,10 +137,11 @@ by_runs choice calendar names text None (Some b) h = absurd (let no : ⊥ = cc i
 by_runs choice calendar names text (Some a) b h = absurd (let no : ⊥ = cc in no)
 
 pub answered : (choice : Choice) (calendar : Calendar) (names : List Name) (text : List ℕ) → form calendar ≡ Civil
-    → stands choice text ≡ false
+    → stands choice text ≡ false → is_found (answer choice calendar names text) ≡ true
     → written choice (Some calendar) names text ≡ answer_text text (answer choice calendar names text)
-answered choice calendar names text e h =
-    rw e (by_runs choice calendar names text (runs_behind_minus (tokens 0 text))
+answered choice calendar names text e h found =
+    rw (dated_whole choice calendar names text (read_dated choice calendar names text found), e)
+    (by_runs choice calendar names text (runs_behind_minus (tokens 0 text))
     (unless_turned choice.order (three_runs (tokens 0 text))) h)
 
 -- a text with a dual year is no date, nor is one that is not known

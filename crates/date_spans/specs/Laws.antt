@@ -9,15 +9,16 @@ use Rattle.written_dates.specs.declared.calendars.Form.TheVariants.{Civil}
 use Rattle.written_dates.specs.declared.meanings.Name.{Name}
 use Rattle.written_dates.specs.declared.written.Choice.{Choice}
 use Rattle.written_dates.specs.Calendars.{form}
-use Rattle.written_dates.specs.Signs.{three_runs}
+use Rattle.written_dates.specs.Signs.{has_minus, three_runs}
 use Rattle.written_dates.specs.Tokens.{tokens}
-use Rattle.written_dates.specs.Written.{answer, unless_turned, written}
+use Rattle.written_dates.specs.Times.{timeless}
+use Rattle.written_dates.specs.Written.{answer, begins_at_midnight, is_dated, is_found, unless_turned, written}
 use Rattle.date_spans.specs.declared.ends.Numbers.{Numbers}
 use Rattle.date_spans.specs.declared.extents.Extent.{Extent}
 use Rattle.date_spans.specs.declared.extents.Extent.TheVariants as extent
 use Rattle.date_spans.specs.declared.spans.Marks.{Marks}
 use Rattle.date_spans.specs.Cuts.{unmarked}
-use Rattle.date_spans.specs.Spans.{IsSpan, is_dual, is_read}
+use Rattle.date_spans.specs.Spans.{IsSpan, is_dual}
 use Rattle.date_spans.specs.Ends.{HasDay, first_of, last_of, year_of}
 use Rattle.date_spans.specs.Months.{first_month, last_month, months_in}
 
@@ -103,7 +104,7 @@ SaidIsForwards choice calendar said = (n k : ℤ) → HasEnds choice calendar sa
 
 -- a text, without a sign at its end, that is read as a date today, and has no dual year
 pub record IsReadToday (choice : Choice) (calendar : Calendar) (names : List Name) (text : List ℕ) : Type 0 where
-  pub reads : is_read (answer choice calendar names (unmarked text).0) ≡ true
+  pub reads : is_found (answer choice calendar names (unmarked text).0) ≡ true
   pub single : is_dual choice calendar names (unmarked text).0 ≡ false
 
 -- or stands as registers have it
@@ -129,3 +130,20 @@ RegisterDatesAreTheirOwnSpans =
     (choice : Choice) (calendar : Calendar) (names : List Name) (text first last : List ℕ) (found : Marks)
     → form calendar ≡ Civil → IsSpan choice (Some calendar) names text first last found
     → StandsToday choice calendar names text → AreWrittenToday choice calendar names text first last
+
+-- a text, without a sign at its end, is a date before a time of day, and none with it; days begin at midnight
+pub record HasTime (choice : Choice) (calendar : Calendar) (names : List Name) (text before : List ℕ) : Type 0 where
+  pub midnight : begins_at_midnight calendar ≡ true
+  pub time : timeless (unmarked text).0 ≡ Some before
+  pub plain : has_minus (tokens 0 (unmarked text).0) ≡ false
+  pub undated : is_dated choice calendar names (unmarked text).0 ≡ false
+  pub dated : is_dated choice calendar names before ≡ true
+  pub single : is_dual choice calendar names before ≡ false
+
+-- then both days are that of the date
+abbrev pub TimesChangeNoSpan : Type 0
+TimesChangeNoSpan =
+    (choice : Choice) (calendar : Calendar) (names : List Name) (text before first last : List ℕ) (found : Marks)
+    → form calendar ≡ Civil → IsSpan choice (Some calendar) names text first last found
+    → HasTime choice calendar names text before
+    → (first ≡ written choice (Some calendar) names before) × (last ≡ written choice (Some calendar) names before)

@@ -8,15 +8,13 @@ use Rattle.written_dates.specs.declared.calendars.Form.TheVariants as forms
 use Rattle.written_dates.specs.declared.items.Item.{Item}
 use Rattle.written_dates.specs.declared.meanings.Name.{Name}
 use Rattle.written_dates.specs.declared.rules.Order.{Order}
-use Rattle.written_dates.specs.declared.written.Answer.{Answer}
-use Rattle.written_dates.specs.declared.written.Answer.TheVariants as answers
 use Rattle.written_dates.specs.declared.written.Choice.{Choice}
 use Rattle.written_dates.specs.Calendars.{form}
 use Rattle.written_dates.specs.Signs.{differ, has_minus, has_mixed_signs, has_other, is_bar, runs_behind_minus}
 use Rattle.written_dates.specs.Signs.{signs_between, three_runs}
 use Rattle.written_dates.specs.Sums.{found_items}
 use Rattle.written_dates.specs.Tokens.{tokens}
-use Rattle.written_dates.specs.Written.{answer, unless_turned, written}
+use Rattle.written_dates.specs.Written.{answer, dated_text, is_found, unless_turned, written}
 use Rattle.date_spans.specs.declared.cuts.Cut.{Cut}
 use Rattle.date_spans.specs.declared.cuts.Cut.TheVariants.{Dash, WideDash, Slash}
 use Rattle.date_spans.specs.declared.extents.Signs.{Signs}
@@ -131,19 +129,13 @@ said_in choice calendar names text =
     else if_held choice calendar (said_by_sides choice calendar names text)
 
 -- ---- first and last day
--- something is read as a date, if it be of a short year that is refused
-abbrev pub is_read : Answer → Bool
-is_read (answers.Date year month day) = true
-is_read answers.Refused = true
-is_read answer = false
-
 -- the text is a date as registers have it, or one that is read
 abbrev pub stands : Choice → List ℕ → Bool
 stands choice text =
     is_some (runs_behind_minus (tokens 0 text)) || is_some (unless_turned choice.order (three_runs (tokens 0 text)))
 
 unfoldable pub is_known : Choice → Calendar → List Name → List ℕ → Bool
-is_known choice calendar names text = stands choice text || is_read (answer choice calendar names text)
+is_known choice calendar names text = stands choice text || is_found (answer choice calendar names text)
 
 -- and has no dual year
 abbrev pub is_date : Choice → Calendar → List Name → List ℕ → Bool
@@ -180,11 +172,17 @@ IsSpanOfText choice calendar names text kept first last found true =
 IsSpanOfText choice calendar names text kept first last found false =
     AreEndsOf choice calendar names text kept (said_in choice calendar names kept.0) first last found
 
+-- a text without blanks and a sign at its ends, and whether this says `uncertain` and `about`; and where it is a date
+-- before a time of day, without the time
+abbrev pub kept_of : Choice → Calendar → List Name → List ℕ → List ℕ × Bool × Bool
+kept_of choice calendar names text =
+    (dated_text choice calendar names (unmarked text).0, (unmarked text).1, (unmarked text).2)
+
 -- where the calendar has no years, months and days, what is written is both
 abbrev pub IsSpanByForm : Form → Choice → Calendar → List Name → List ℕ → List ℕ → List ℕ → Marks → Type 0
 IsSpanByForm forms.Civil choice calendar names text first last found =
-    IsSpanOfText choice calendar names text (unmarked text) first last found
-    (is_date choice calendar names (unmarked text).0)
+    IsSpanOfText choice calendar names text (kept_of choice calendar names text) first last found
+    (is_date choice calendar names (kept_of choice calendar names text).0)
 IsSpanByForm form choice calendar names text first last found =
     (first ≡ written choice (Some calendar) names text) × (last ≡ written choice (Some calendar) names text)
     × (found ≡ marks kinds.One false false)

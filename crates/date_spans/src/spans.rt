@@ -1,6 +1,6 @@
 //! The first and the last day that a text can mean.
 
-ghost use Rattle.std.specs.Prelude.{◌≡◌, false, IfOk, Some};
+ghost use Rattle.std.specs.Prelude.{◌≡◌, false, true, IfOk, Some};
 ghost use Rattle.std.specs.List.{list_any};
 ghost use Rattle.written_dates.specs.declared.calendars.Form.TheVariants.{Civil};
 ghost use Rattle.written_dates.specs.Calendars.{form as form_spec};
@@ -8,7 +8,7 @@ ghost use Rattle.written_dates.specs.Written.{written};
 ghost use Rattle.date_spans.specs.Sayings.{is_about as is_about_spec};
 ghost use Rattle.date_spans.specs.Spans.{AreEndsOf, IsSpan, IsSpanByForm, has_about as about_spec, is_known as known_spec};
 ghost use Rattle.date_spans.specs.Spans.{as_whole as whole_spec, at_dash as dash_spec, at_slash as slash_spec};
-ghost use Rattle.date_spans.specs.Spans.{cut_sides as cut_spec, is_dual as dual_spec, is_read as read_spec};
+ghost use Rattle.date_spans.specs.Spans.{cut_sides as cut_spec, is_dual as dual_spec};
 ghost use Rattle.date_spans.specs.Spans.{marks as new_marks, marks_of as marks_spec, one_side as one_spec, said_by_sides as by_sides_spec};
 ghost use Rattle.date_spans.specs.Spans.{said_in as said_spec, stands as stands_spec, two_sides as two_spec, words_in as words_spec};
 
@@ -23,8 +23,9 @@ use crate::sayings::{
 use date_texts::Calendar;
 use std::alloc::AllocError;
 use written_dates::{
-    Answer, Choice, Form, Item, Names, answer_of, count_bars, form_of, has_mixed_signs,
-    has_other_signs_between, push_answer, runs_behind_minus, signs_of, standing, write_date,
+    Answer, Choice, Form, Item, Names, answer_of, count_bars, dated_text, form_of, has_mixed_signs,
+    has_other_signs_between, is_found, push_answer, runs_behind_minus, signs_of, standing,
+    write_date,
 };
 
 /// What else a text says of its day.
@@ -213,16 +214,6 @@ fn said_in(choice: &Choice, calendar: Calendar, names: &Names, text: &[u8]) -> O
     )
 }
 
-/// Whether something is read as a date.
-fn is_read(answer: Answer) -> bool
-    ensures { result ≡ read_spec answer }
-{
-    match answer {
-        Answer::Date(_, _, _) | Answer::Refused => true,
-        _ => false,
-    }
-}
-
 /// Whether a text is a date as registers have it.
 fn stands(choice: &Choice, text: &[u8]) -> bool
     ensures { result ≡ stands_spec choice.now text.now }
@@ -230,7 +221,8 @@ fn stands(choice: &Choice, text: &[u8]) -> bool
     runs_behind_minus(text).is_some() || standing(choice.order, text).is_some()
 }
 
-/// Makes a buffer what is written for a text in a calendar with years, months and days, and says whether that is a date.
+/// Makes a buffer what is written for a text, if that is a date, in a calendar with years, months and days; and says
+/// whether it is.
 #[tactic(auto, using(crate::proofs::SpanLemmas::stood, crate::proofs::SpanLemmas::read, crate::proofs::SpanLemmas::answered))]
 fn set_written(
     out: &mut Vec<u8>,
@@ -241,7 +233,7 @@ fn set_written(
 ) -> Result<bool, AllocError>
     requires { form_spec calendar ≡ Civil }
     ensures { IfOk result (λ known. (known ≡ known_spec choice.now calendar names.now.listed.now text.now)
-        × (out.new.items ≡ written choice.now (Some calendar) names.now.listed.now text.now)) }
+        × (known ≡ true → out.new.items ≡ written choice.now (Some calendar) names.now.listed.now text.now)) }
 {
     out.clear();
     if stands(choice, text) {
@@ -250,7 +242,7 @@ fn set_written(
     }
     let answer = answer_of(choice, calendar, names, text);
     push_answer(out, text, answer)?;
-    Ok(is_read(answer))
+    Ok(is_found(answer))
 }
 
 /// Whether a word for `about` is among items.
@@ -352,7 +344,8 @@ fn set_civil(
     ensures { IfOk result (λ found. IsSpanByForm Civil choice.now calendar names.now.listed.now text.now
         first.new.items last.new.items found) }
 {
-    let (kept, uncertain, about) = unmarked(text);
+    let (unmarked, uncertain, about) = unmarked(text);
+    let kept = dated_text(choice, calendar, names, unmarked);
     if is_dual(choice, calendar, names, kept) {
         return set_said(
             first, last, text, kept, uncertain, about, calendar, names, choice,

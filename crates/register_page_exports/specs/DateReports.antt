@@ -11,8 +11,8 @@ use Rattle.register_sheets.specs.declared.name_lists.NameListFault.TheVariants a
 use Rattle.register_sheets.specs.declared.name_lists.NameLine.{NameLine}
 use Rattle.register_sheets.specs.DateStops.{DateStop, IsStopIn, reason_number}
 use Rattle.register_sheets.specs.declared.reasons.Reason.TheVariants as reasons
-use Rattle.written_dates.specs.Stops.{beside_by}
-use Rattle.written_dates.specs.Written.{answer, written}
+use Rattle.written_dates.specs.Stops.{beside}
+use Rattle.written_dates.specs.Written.{written}
 use Rattle.written_dates.specs.declared.meanings.Name.{Name}
 use Rattle.written_dates.specs.declared.rules.Order.{Order}
 use Rattle.written_dates.specs.declared.rules.Order.TheVariants.{YearFirst, DayFirst, MonthFirst}
@@ -52,7 +52,7 @@ plain_date (Some date) = decimal date.0 ++ (45 ∷ (decimal date.1 ++ (45 ∷ de
 abbrev pub blamed : Choice → Calendar → List Name → List ℕ → Option DateStop → List ℕ
 blamed choice calendar names text (Some (inl name)) = name.0
 blamed choice calendar names text (Some (inr reasons.OtherWeekday)) =
-    plain_date (beside_by (answer choice calendar names text))
+    plain_date (beside choice calendar names text)
 blamed choice calendar names text stop = []
 
 -- this number is that of what stops a text of a calendar, by the names of a list, and this is to blame

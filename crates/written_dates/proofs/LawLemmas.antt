@@ -1,6 +1,6 @@
 -- A date as registers have it is three runs of digits.
 use Rattle.std.proofs.Common.{◌≡◌, ℕ, ◌<◌, true, false, ◌==◌, List, [], ◌∷◌, ◌++◌, length, refl, sym, ap}
-use Rattle.std.proofs.Common.{◌∙◌, arith, Bool, cond, Option, Some, None, append-nil}
+use Rattle.std.proofs.Common.{◌∙◌, arith, Bool, cond, Option, Some, None, is_some, append-nil}
 use Rattle.std.specs.Char.{is_ascii_digit}
 use Rattle.std.specs.List.{list_all}
 use Rattle.std.proofs.lemmas.Bool.{and_parts}
@@ -14,9 +14,10 @@ use Rattle.written_dates.specs.declared.written.Short.TheVariants.{Keep}
 use Rattle.written_dates.specs.declared.written.Choice.{Choice}
 use Rattle.written_dates.specs.Tokens.{Piece, first, in_front, tokens}
 use Rattle.written_dates.specs.Items.{number_of_digits}
-use Rattle.written_dates.specs.Signs.{◌>>=◌, three_runs, runs_behind_minus, runs_in_front, digits_first, behind_hyphen}
+use Rattle.written_dates.specs.Signs.{◌>>=◌, has_minus, three_runs, runs_behind_minus, runs_in_front, digits_first, behind_hyphen}
 use Rattle.written_dates.specs.Laws.{AreDigits, RegisterDatesStay, MinusDatesStay}
-use Rattle.written_dates.specs.Written.{joined, numbers, short_rule, stood}
+use Rattle.written_dates.specs.Written.{is_turned, joined, numbers, short_rule, stood, unless_turned}
+use Rattle.written_dates.proofs.TimeLemmas.{dated_whole, minus_whole, stands_dated}
 use Rattle.written_dates.proofs.TokenLemmas.{alone}
 
 abbrev pub piece_of : Kind → List ℕ → Piece
@@ -92,8 +93,17 @@ minus_runs : (y m d : List ℕ) → AreDigits y → AreDigits m → AreDigits d
 unfolding runs_in_front digits_first behind_hyphen
 minus_runs y m d hy hm hd = rw (hyphen_token (joined y m d), joined_tokens y m d hy hm hd) refl
 
+has_the_minus : (y m d : List ℕ) → AreDigits y → AreDigits m → AreDigits d
+    → has_minus (tokens 0 (45 ∷ joined y m d)) ≡ true
+has_the_minus y m d hy hm hd = rw (hyphen_token (joined y m d), joined_tokens y m d hy hm hd) refl
+
 pub minus_stays : MinusDatesStay
-minus_stays choice calendar names y m d civil hy hm hd = rw (civil, minus_runs y m d hy hm hd) refl
+minus_stays choice calendar names y m d civil hy hm hd =
+    rw (
+      minus_whole choice calendar names (45 ∷ joined y m d) (has_the_minus y m d hy hm hd),
+      civil,
+      minus_runs y m d hy hm hd,
+    ) refl
 
 kept_by : (choice : Choice) (calendar : Calendar) (kept : List ℕ) (y m d : Option Number)
     → ((year : Number) → y ≡ Some year → short_rule choice calendar year ≡ Keep)
@@ -129,7 +139,19 @@ long_stands choice calendar y m d long =
     kept_by choice calendar (joined y m d) (number_of_digits y) (number_of_digits m) (number_of_digits d)
     (λ year e. long_kept choice calendar year (omega (arith, digits_counted y year e, long)))
 
+stands_by : (choice : Choice) (y m d : List ℕ) → AreDigits y → AreDigits m → AreDigits d
+    → is_turned choice.order y d ≡ false
+    → is_some (unless_turned choice.order (three_runs (tokens 0 (joined y m d)))) ≡ true
+stands_by choice y m d hy hm hd turned = rw (joined_runs y m d hy hm hd, turned) refl
+
 pub they_stay : RegisterDatesStay
 they_stay choice calendar names y m d civil hy hm hd turned kept =
-    rw (civil, no_minus y m d hy hm hd, joined_runs y m d hy hm hd, turned)
+    rw (
+      dated_whole choice calendar names (joined y m d)
+          (stands_dated choice calendar names (joined y m d) (stands_by choice y m d hy hm hd turned)),
+      civil,
+      no_minus y m d hy hm hd,
+      joined_runs y m d hy hm hd,
+      turned,
+    )
     (kept_by choice calendar (joined y m d) (number_of_digits y) (number_of_digits m) (number_of_digits d) kept)

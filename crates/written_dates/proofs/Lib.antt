@@ -18,6 +18,7 @@ pub mod RuleLemmas
 pub mod RomanLawLemmas
 pub mod UseLemmas
 pub mod LawLemmas
+pub mod TimeLemmas
 pub mod MinusLemmas
 pub mod ReadLawLemmas
 pub mod WeekdayLawLemmas

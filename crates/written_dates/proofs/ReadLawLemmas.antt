@@ -45,6 +45,7 @@ use Rattle.written_dates.specs.ReadLaws.{MinusesAreNotRead, MinusesStay, YearsOf
 use Rattle.written_dates.specs.ReadLaws.{is_numeral, IsOfChurch, IsRepublican, NamedYearsAreWhole, DaysStandBehindMonths, RomanNumbersAreMonths}
 use Rattle.written_dates.proofs.DayLemmas.{on_parts}
 use Rattle.written_dates.proofs.LawLemmas.{long_kept}
+use Rattle.written_dates.proofs.TimeLemmas.{minus_whole}
 use Rattle.written_dates.proofs.UseLemmas.{Uses, civil_uses}
 
 -- ---- a date that is read is what the items say
@@ -605,7 +606,9 @@ stay_by forms.Other choice calendar names text runs below e = rw e refl
 
 pub minuses_stay : MinusesStay
 minuses_stay choice calendar names text minus runs below =
-    stay_by (form calendar) choice calendar names text runs below (minuses_are_not_read choice calendar names text minus)
+    rw (minus_whole choice calendar names text minus)
+    (stay_by (form calendar) choice calendar names text runs below
+    (minuses_are_not_read choice calendar names text minus))
 
 -- ---- years of the Republic
 few_by : (b : Bool) (v : ℕ) → nat_le v 99 ≡ b → b ≡ true → v ≤ 99

@@ -32,7 +32,7 @@ use Rattle.written_dates.specs.Written.{agrees, answer, answer_by, date_by_rule,
 use Rattle.written_dates.specs.Written.{if_agreed, in_month, items_answer, month_and_day, reading_by, short_rule}
 use Rattle.written_dates.specs.ReadLaws.{NumberedWeekdays}
 use Rattle.written_dates.specs.declared.stops.Stop.TheVariants as stops
-use Rattle.written_dates.specs.Stops.{stop, stop_by, missing, missing_in, IsNotOn, SaysOtherWeekday, OtherWeekdaysStop}
+use Rattle.written_dates.specs.Stops.{stop, stop_by, stop_in, without_time, missing, missing_in, IsNotOn, SaysOtherWeekday, OtherWeekdaysStop}
 use Rattle.written_dates.proofs.ReadLawLemmas.{date_by, says, agreed_by, made_by, uses_by, year_by}
 
 -- ---- weekdays that are numbered
@@ -269,9 +269,15 @@ stop_if false false o Refused e = absurd (cc)
 stop_if false false o (Date _ _ _) e = absurd (cc)
 stop_if false false o (RomanDate _ _ _ _) e = absurd (cc)
 
-pub other_weekdays_stop : OtherWeekdaysStop
-unfolding stop
-other_weekdays_stop choice calendar names text e =
+stops_so : (choice : Choice) (calendar : Calendar) (names : List Name) (text : List ℕ)
+    → stop_in choice calendar names text ≡ Some stops.OtherWeekday → SaysOtherWeekday choice calendar names text
+unfolding stop_in
+stops_so choice calendar names text e =
     says_other choice calendar names text
     (stop_if (has_other (tokens 0 text)) (has_minus (tokens 0 text) || begins_with_dash (bare (tokens 0 text)))
     (found_items calendar names text) (answer choice calendar names text) e)
+
+pub other_weekdays_stop : OtherWeekdaysStop
+unfolding stop
+other_weekdays_stop choice calendar names text e =
+    stops_so choice calendar names (without_time choice calendar names text) e

@@ -15,6 +15,7 @@ pub mod Keys
 pub mod SignViews
 pub mod Fields
 pub mod Weekdays
+pub mod Times
 pub mod Written
 pub mod WholeNames
 pub mod Unknown

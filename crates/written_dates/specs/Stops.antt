@@ -19,7 +19,7 @@ use Rattle.written_dates.specs.Rules.{beside_weekday}
 use Rattle.written_dates.specs.Signs.{bare, begins_with_dash, has_minus, has_other}
 use Rattle.written_dates.specs.Sums.{found_items}
 use Rattle.written_dates.specs.Weekdays.{is_decade_day, is_on}
-use Rattle.written_dates.specs.Written.{answer, date_by_rule, short_rule}
+use Rattle.written_dates.specs.Written.{answer, before_time, date_by_rule, short_rule}
 
 -- what is missing in items that say no date: the day, where a year stands alone or beside a month; or the year beside a
 -- month and a day
@@ -40,17 +40,33 @@ stop_by missing (answers.OtherWeekday year month day) = Some stops.OtherWeekday
 stop_by missing answers.Refused = Some stops.ShortYear
 stop_by missing answer = None
 
--- why no date is read of a text
-unfoldable pub stop : Choice → Calendar → List Name → List ℕ → Option Stop
-stop choice calendar names text =
+-- why no date is read of a text without a time of day
+unfoldable pub stop_in : Choice → Calendar → List Name → List ℕ → Option Stop
+stop_in choice calendar names text =
     if has_other (tokens 0 text) then Some stops.Character
     else if has_minus (tokens 0 text) || begins_with_dash (bare (tokens 0 text)) then Some stops.Minus
     else stop_by (missing_in (found_items calendar names text)) (answer choice calendar names text)
+
+abbrev pub or_whole : List ℕ → Option (List ℕ) → List ℕ
+or_whole text None = text
+or_whole text (Some before) = before
+
+-- the text that has to be a date: without a time of day at its end
+abbrev pub without_time : Choice → Calendar → List Name → List ℕ → List ℕ
+without_time choice calendar names text = or_whole text (before_time choice calendar names text)
+
+-- why no date is read of a text
+unfoldable pub stop : Choice → Calendar → List Name → List ℕ → Option Stop
+stop choice calendar names text = stop_in choice calendar names (without_time choice calendar names text)
 
 -- the year, the month and the day that a text says beside another weekday
 abbrev pub beside_by : Answer → Option (ℕ × ℕ × ℕ)
 beside_by (answers.OtherWeekday year month day) = Some (year, month, day)
 beside_by answer = None
+
+abbrev pub beside : Choice → Calendar → List Name → List ℕ → Option (ℕ × ℕ × ℕ)
+beside choice calendar names text =
+    beside_by (answer choice calendar names (without_time choice calendar names text))
 
 -- the item is a weekday, or a day of a decade, and not that of the date
 abbrev pub IsNotOn : Calendar → ℕ → ℕ → ℕ → Item → Type 0
@@ -74,8 +90,9 @@ pub record SaysOtherWeekday (choice : Choice) (calendar : Calendar) (names : Lis
   pub stands : Contains found weekday
   pub other : IsNotOn calendar year month day weekday
 
--- where another weekday is the reason, this is so
+-- where another weekday is the reason, this is so of the text without a time of day at its end
 abbrev pub OtherWeekdaysStop : Type 0
 OtherWeekdaysStop =
     (choice : Choice) (calendar : Calendar) (names : List Name) (text : List ℕ)
-    → stop choice calendar names text ≡ Some stops.OtherWeekday → SaysOtherWeekday choice calendar names text
+    → stop choice calendar names text ≡ Some stops.OtherWeekday
+    → SaysOtherWeekday choice calendar names (without_time choice calendar names text)

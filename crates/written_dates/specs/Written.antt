@@ -1,6 +1,6 @@
 -- What is written for a text: the rules of this project for dates as people write them.
 use Rattle.std.specs.Prelude.{ℕ, ◌+◌, Bool, true, false, not, ◌&&◌, ◌||◌, nat_le, nat_lt, if◌then◌else◌}
-use Rattle.std.specs.Prelude.{List, [], ◌∷◌, ◌++◌, length, Option, Some, None}
+use Rattle.std.specs.Prelude.{List, [], ◌∷◌, ◌++◌, length, Option, Some, None, is_some}
 use Rattle.std.specs.Fmt.{decimal}
 use Rattle.std.specs.List.{list_all}
 use Rattle.date_texts.specs.declared.calendar.Calendar.{Calendar}
@@ -34,6 +34,7 @@ use Rattle.written_dates.specs.Items.{number_of_digits}
 use Rattle.written_dates.specs.Signs.{◌>>=◌, has_other, has_minus, bare, begins_with_dash, three_runs}
 use Rattle.written_dates.specs.Signs.{runs_behind_minus}
 use Rattle.written_dates.specs.Sums.{found_items}
+use Rattle.written_dates.specs.Times.{timeless}
 use Rattle.written_dates.specs.Weekdays.{is_decade_day, is_on, numbered_weekday}
 use Rattle.written_dates.specs.Rules.{is_year_first, civil_reading, roman_reading}
 
@@ -211,7 +212,47 @@ written_form forms.Civil choice calendar names text =
     (unless_turned choice.order (three_runs (tokens 0 text)))
 written_form form choice calendar names text = answer_text text (answer choice calendar names text)
 
+-- a date is found, if it be one whose short year is refused
+abbrev pub is_found : Answer → Bool
+is_found (Date year month day) = true
+is_found Refused = true
+is_found answer = false
+
+-- a text is a date as registers have it, or says one
+unfoldable pub is_dated : Choice → Calendar → List Name → List ℕ → Bool
+is_dated choice calendar names text =
+    is_some (unless_turned choice.order (three_runs (tokens 0 text))) || is_found (answer choice calendar names text)
+
+abbrev pub unless : Bool → Option (List ℕ) → Option (List ℕ)
+unless true before = None
+unless false before = before
+
+-- days begin at midnight, and in other calendars in the evening or at dawn
+abbrev pub begins_at_midnight : Calendar → Bool
+begins_at_midnight Gregorian = true
+begins_at_midnight Julian = true
+begins_at_midnight French = true
+begins_at_midnight Republican = true
+begins_at_midnight calendar = false
+
+-- the text before a time of day at the end of one that is no date with it, and has no minus, in such a calendar
+unfoldable pub before_time : Choice → Calendar → List Name → List ℕ → Option (List ℕ)
+before_time choice calendar names text =
+    unless (not (begins_at_midnight calendar) || has_minus (tokens 0 text) || is_dated choice calendar names text)
+    (timeless text)
+
+-- this one where it is a date, and else the whole text
+abbrev pub if_dated : Choice → Calendar → List Name → List ℕ → Option (List ℕ) → List ℕ
+if_dated choice calendar names text None = text
+if_dated choice calendar names text (Some before) = if is_dated choice calendar names before then before else text
+
+-- the text that is read: a time of day behind a date is left out
+unfoldable pub dated_text : Choice → Calendar → List Name → List ℕ → List ℕ
+dated_text choice calendar names text =
+    if_dated choice calendar names text (before_time choice calendar names text)
+
 -- what is written for a text: where no calendar is known, the text as it is
 abbrev pub written : Choice → Option Calendar → List Name → List ℕ → List ℕ
 written choice None names text = text
-written choice (Some calendar) names text = written_form (form calendar) choice calendar names text
+written choice (Some calendar) names text =
+    written_form (form calendar) choice calendar names (dated_text choice calendar names text)

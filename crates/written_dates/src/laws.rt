@@ -4,6 +4,7 @@ ghost use Rattle.written_dates.specs.Laws.{FoldedWordsMatch, LettersAreAlike};
 ghost use Rattle.written_dates.specs.Laws.{FoundIsLongest, FoundStands, MinusDatesStay, RegisterDatesStay};
 ghost use Rattle.written_dates.specs.ReadLaws.{WeekdaysAgree, WeekdaysOnlyTest, NumberedWeekdays, NothingIsLeftOver};
 ghost use Rattle.written_dates.specs.ReadLaws.{LongNumbersAreYears, NamedYearsAreWhole};
+ghost use Rattle.written_dates.specs.Laws.{TimesAreFound, TimesAreLeftOut, TimesStandLast, UndatedTextsStay, WholeDatesStay};
 ghost use Rattle.written_dates.specs.Stops.{OtherWeekdaysStop};
 ghost use Rattle.written_dates.specs.Sums.{SumsStay};
 ghost use Rattle.written_dates.specs.ReadLaws.{MonthsAreMonths, HyphensAreMinuses, MinusesAreNotRead, MinusesStay};
@@ -16,6 +17,16 @@ ghost use Rattle.written_dates.specs.ReadLaws.{MixedSignsStay, DaysToDaysStay, Y
 pub fn register_dates_stay()
     ensures year { RegisterDatesStay }
     ensures minus { MinusDatesStay }
+{}
+
+/// A time of day behind a date changes nothing; it is the end of its text, and found behind any text without a sign that
+/// parts it; what is a date without this stays as it was, and so does what is no date before a time of day.
+pub fn times_are_left_out()
+    ensures out { TimesAreLeftOut }
+    ensures whole { WholeDatesStay }
+    ensures undated { UndatedTextsStay }
+    ensures last { TimesStandLast }
+    ensures found { TimesAreFound }
 {}
 
 /// What is found in front of parts is the longest name that stands there.

@@ -15,6 +15,7 @@ mod roman;
 mod rules;
 mod signs;
 mod stops;
+mod times;
 mod tokens;
 mod unknown;
 mod weekdays;
@@ -36,6 +37,6 @@ pub use tokens::{Kind, Token, next_token};
 pub use unknown::unknown_word;
 pub use words::is_same_word;
 pub use written::{
-    Answer, Choice, Short, agrees, answer_of, has_year, is_half_year, push_answer, push_dated,
-    short_rule, standing, write_date,
+    Answer, Choice, Short, agrees, answer_of, dated_text, has_year, is_found, is_half_year,
+    push_answer, push_dated, short_rule, standing, write_date,
 };

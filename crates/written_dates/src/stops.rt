@@ -1,16 +1,16 @@
 //! Why a date as people write it is not read.
 
 ghost use Rattle.std.specs.Prelude.{◌≡◌};
-ghost use Rattle.written_dates.specs.Stops.{stop as stop_spec, stop_by as by_spec, beside_by};
+ghost use Rattle.written_dates.specs.Stops.{stop as stop_spec, stop_by as by_spec, stop_in as stop_in_spec, beside};
+ghost use Rattle.written_dates.specs.Stops.{without_time as without_spec};
 ghost use Rattle.written_dates.specs.Stops.{missing as missing_spec, missing_in as missing_in_spec};
 ghost use Rattle.written_dates.specs.Sums.{found_items};
-ghost use Rattle.written_dates.specs.Written.{answer};
 
 use crate::items::{Item, is_long, items_of};
 use crate::names::Names;
 use crate::rules::beside_weekday;
 use crate::signs::{begins_with_dash, signs_of};
-use crate::written::{Answer, Choice, answer_of};
+use crate::written::{Answer, Choice, answer_of, before_time};
 use date_texts::Calendar;
 
 /// Why a date as people write it is not read.
@@ -74,10 +74,20 @@ fn stop_by(text: &[u8], names: &Names, calendar: Calendar, answer: Answer) -> Op
     }
 }
 
-/// Why no date is read of a text, which is none that registers have.
-#[tactic(auto, unfolding(crate::specs::Stops::stop))]
-pub fn stop_of(text: &[u8], calendar: Calendar, names: &Names, choice: &Choice) -> Option<Stop>
-    ensures { result ≡ stop_spec choice.now calendar names.now.listed.now text.now }
+/// A text without a time of day at its end.
+fn without_time<'a>(text: &'a [u8], calendar: Calendar, names: &Names, choice: &Choice) -> &'a [u8]
+    ensures { result.now ≡ without_spec choice.now calendar names.now.listed.now text.now }
+{
+    match before_time(choice, calendar, names, text) {
+        Some(before) => before,
+        None => text,
+    }
+}
+
+/// Why no date is read of a text without a time of day, which is none that registers have.
+#[tactic(auto, unfolding(crate::specs::Stops::stop_in))]
+fn stop_in(text: &[u8], calendar: Calendar, names: &Names, choice: &Choice) -> Option<Stop>
+    ensures { result ≡ stop_in_spec choice.now calendar names.now.listed.now text.now }
 {
     let (other, minus) = signs_of(text);
     if other {
@@ -94,6 +104,19 @@ pub fn stop_of(text: &[u8], calendar: Calendar, names: &Names, choice: &Choice) 
     )
 }
 
+/// Why no date is read of a text, which is none that registers have.
+#[tactic(auto, unfolding(crate::specs::Stops::stop))]
+pub fn stop_of(text: &[u8], calendar: Calendar, names: &Names, choice: &Choice) -> Option<Stop>
+    ensures { result ≡ stop_spec choice.now calendar names.now.listed.now text.now }
+{
+    stop_in(
+        without_time(text, calendar, names, choice),
+        calendar,
+        names,
+        choice,
+    )
+}
+
 /// The year, the month and the day that a text says beside a weekday which is not theirs. The calendar may not have them.
 pub fn date_beside_weekday(
     text: &[u8],
@@ -101,8 +124,9 @@ pub fn date_beside_weekday(
     names: &Names,
     choice: &Choice,
 ) -> Option<(u64, u32, u32)>
-    ensures { result ≡ beside_by (answer choice.now calendar names.now.listed.now text.now) }
+    ensures { result ≡ beside choice.now calendar names.now.listed.now text.now }
 {
+    let text = without_time(text, calendar, names, choice);
     match answer_of(choice, calendar, names, text) {
         Answer::OtherWeekday(year, month, day) => Some((year, month, day)),
         _ => None,

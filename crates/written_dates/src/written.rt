@@ -6,7 +6,7 @@ ghost use Rattle.std.specs.List.{list_all};
 ghost use Rattle.written_dates.specs.Calendars.{form as form_spec};
 ghost use Rattle.written_dates.specs.Tokens.{tokens};
 ghost use Rattle.written_dates.specs.Signs.{three_runs as runs_spec, runs_behind_minus as minus_spec};
-ghost use Rattle.written_dates.specs.SignViews.{seen_runs};
+ghost use Rattle.written_dates.specs.SignViews.{seen_runs, seen_text};
 ghost use Rattle.written_dates.specs.Written.{short_rule as rule_spec, joined, dated, letter, stood, numbers};
 ghost use Rattle.written_dates.specs.Written.{is_turned as turned_spec, unless_turned};
 ghost use Rattle.written_dates.specs.Written.{church_of as church_spec, feast_of as feast_spec};
@@ -18,6 +18,8 @@ ghost use Rattle.written_dates.specs.Written.{answer as answer_spec, answer_text
 ghost use Rattle.church_year.specs.FeastDates.{feast_date_in};
 ghost use Rattle.written_dates.specs.declared.rules.Reading.TheVariants.{Civil};
 ghost use Rattle.written_dates.specs.Written.{written_by, written as written_spec};
+ghost use Rattle.written_dates.specs.Written.{before_time as before_spec, begins_at_midnight as midnight_spec, dated_text as dated_text_spec};
+ghost use Rattle.written_dates.specs.Written.{is_dated as dated_spec, is_found as found_spec};
 
 use crate::calendars::{Form, form_of};
 use crate::items::{Item, Number, items_of, number_of_digits};
@@ -25,6 +27,7 @@ use crate::meanings::Mark;
 use crate::names::Names;
 use crate::rules::{InYear, Order, Reading, civil_of, is_year_first, roman_of};
 use crate::signs::{begins_with_dash, runs_behind_minus, signs_of, three_runs};
+use crate::times::timeless;
 use crate::weekdays::{is_decade_day, is_on, numbered_weekday};
 use church_year::{Church, Feast, Place, feast_date};
 use date_texts::Calendar;
@@ -447,6 +450,72 @@ fn push_civil(
     push_answer(out, text, answer_of(choice, calendar, names, text))
 }
 
+/// Whether a date is found, if it be one whose short year is refused.
+pub fn is_found(answer: Answer) -> bool
+    ensures { result ≡ found_spec answer }
+{
+    match answer {
+        Answer::Date(_, _, _) | Answer::Refused => true,
+        _ => false,
+    }
+}
+
+/// Whether a text is a date as registers have it, or says one.
+#[tactic(auto, unfolding(crate::specs::Written::is_dated))]
+fn is_dated(choice: &Choice, calendar: Calendar, names: &Names, text: &[u8]) -> bool
+    ensures { result ≡ dated_spec choice.now calendar names.now.listed.now text.now }
+{
+    standing(choice.order, text).is_some() || is_found(answer_of(choice, calendar, names, text))
+}
+
+/// Whether the days of a calendar begin at midnight, and not in the evening or at dawn.
+fn begins_at_midnight(calendar: Calendar) -> bool
+    ensures { result ≡ midnight_spec calendar }
+{
+    match calendar {
+        Calendar::Gregorian | Calendar::Julian | Calendar::French | Calendar::Republican => true,
+        _ => false,
+    }
+}
+
+/// The text before a time of day at the end of one that is no date with it, and has no minus, in a calendar whose days
+/// begin at midnight. Most texts end with no time.
+#[tactic(auto, unfolding(crate::specs::Written::before_time))]
+pub(crate) fn before_time<'a>(
+    choice: &Choice,
+    calendar: Calendar,
+    names: &Names,
+    text: &'a [u8],
+) -> Option<&'a [u8]>
+    ensures { seen_text result ≡ before_spec choice.now calendar names.now.listed.now text.now }
+{
+    if !begins_at_midnight(calendar) {
+        return None;
+    }
+    let before = timeless(text)?;
+    let (_, minus) = signs_of(text);
+    if minus || is_dated(choice, calendar, names, text) {
+        return None;
+    }
+    Some(before)
+}
+
+/// The text that is read: without a time of day behind a date.
+#[tactic(auto, unfolding(crate::specs::Written::dated_text))]
+pub fn dated_text<'a>(
+    choice: &Choice,
+    calendar: Calendar,
+    names: &Names,
+    text: &'a [u8],
+) -> &'a [u8]
+    ensures { result.now ≡ dated_text_spec choice.now calendar names.now.listed.now text.now }
+{
+    match before_time(choice, calendar, names, text) {
+        Some(before) if is_dated(choice, calendar, names, before) => before,
+        _ => text,
+    }
+}
+
 /// Appends what is written for a date as people write it: the date as registers have it, nothing where its year is short
 /// and such years are refused, and the text as it is where it says no date. `calendar` is that of the record, `None`
 /// where no calendar has the name that stands there; of the names those count that hold in it.
@@ -469,6 +538,7 @@ pub fn write_date(
         out.extend_from_slice(text)?;
         return Ok(());
     };
+    let text = dated_text(choice, calendar, names, text);
     match form_of(calendar) {
         Form::Civil => push_civil(out, choice, calendar, names, text),
         Form::Roman => push_answer(out, text, answer_of(choice, calendar, names, text)),

@@ -299,8 +299,13 @@ fn wrong_by_list<'a>(alloc: Global, list: &str, lines: &'a str) -> Option<&'a st
 }
 
 /// Lists of names, and dates by them. In the second the first of two names holds.
-static LISTED: [(&str, &str); 5] = [
+static LISTED: [(&str, &str); 7] = [
     (NAMES, dates::DATES),
+    (NAMES, dates::TIMES),
+    (
+        "h||\nMai|month 5|",
+        "#gregorian year refuse refuse day-of-mark\n1806 5 12 h|1806-5-12\n1806 Mai 12 h|1806-5-12",
+    ),
     (
         "Mai|month 4|gregorian\nMai|month 5|\nmai|month 6|",
         "#gregorian day refuse refuse day-of-mark\n12 Mai 1806|1806-4-12\n\
@@ -353,6 +358,12 @@ Jan 1710/11|NoDate
 12. Mai 06|ShortYear
 Montag 12.5.06|ShortYear
 12. Mai 1806|read
+12. Mai 1806 10:00|read
+12. Mai 1806 25:00|Character
+-44-3-15 10:00|Character
+12. Mai 06 10 Uhr|ShortYear
+Mai 1806 10:00|NoDay
+Sonntag, 12. Mai 1806 10:00|OtherWeekday
 ";
 
 /// The name of a reason.
@@ -424,6 +435,7 @@ fn other_stops(alloc: Global) -> bool {
         && stop("décadi 20 ventôse an 6").is_none()
         && beside(sunday) == Some((1806, 5, 12))
         && beside(monday).is_none()
+        && beside("Sonntag, 12. Mai 1806, 10 Uhr".as_bytes()) == Some((1806, 5, 12))
 }
 
 #[test]

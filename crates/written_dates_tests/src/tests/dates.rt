@@ -543,3 +543,74 @@ Ostern anno 1712|1712-4-20
 décadi 20 ventôse an 6|6-6-20
 primidi 20 ventôse an 6|=
 ";
+
+/// Texts that end with a time of day.
+pub(super) const TIMES: &str = "\
+#gregorian day refuse refuse day-of-mark
+1806-05-12 00:00:00|1806-05-12
+1806-05-12 00:00:00.000|1806-05-12
+1806-05-12T14:30|1806-05-12
+1806-05-12T14:30:59|1806-05-12
+1806-05-12T14|=
+1806-05-12t14:30|=
+1806-05-12T14:30Z|=
+1806-05-12T14:30+01:00|=
+1806-05-12 24:00|1806-05-12
+1806-05-12 25:00|=
+1806-05-12 14:60|=
+1806-05-12 14:30:60|=
+1806-05-12 4:3|=
+1806-05-12 4:30|1806-05-12
+1806-05-12 14:30:|=
+1806-05-12 14:30.5|=
+12.5.1806 14:30|1806-5-12
+12.5.1806 14:30 |1806-5-12
+12.5.1806\t14:30|1806-5-12
+12.5.1806 14.30|=
+12.5.1806 14.30 Uhr|1806-5-12
+12.5.18:06|=
+12 5 18:06|=
+12. Mai 1806, 10 Uhr|1806-5-12
+12. Mai 1806,10 uhr|1806-5-12
+12. Mai 1806 10 UHR|1806-5-12
+12. Mai 1806 10-12 Uhr|=
+12. Mai 1806 Uhr|=
+12 May 1806, 3 p.m.|1806-5-12
+12 May 1806 3 PM|1806-5-12
+12 May 1806 3pm|1806-5-12
+12 May 1806, 3.30 a.m.|1806-5-12
+12 May 1806 3 p.m|=
+12/5/1806 12:00:00 AM|1806-5-12
+12 septembre 1806, 10 h|1806-9-12
+12 septembre 1806, 10h30|=
+Montag, 12. Mai 1806 10 Uhr|1806-5-12
+Sonntag, 12. Mai 1806 10 Uhr|=
+Ostern 1712 10 Uhr|1712-3-27
+Mai 1806 10:00|=
+12. Mai 10 Uhr|=
+12. Mai 06 10:00|
+31.4.1801 10:00|1801-4-31
+-44-3-15 10:00|=
+10 Uhr|=
+#gregorian month refuse refuse day-of-mark
+5/12/1806 12:00:00 AM|1806-5-12
+#gregorian year refuse refuse day-of-mark
+12.5.1806 14:30|=
+1806.5.12 14:30|1806-5-12
+#gregorian day 1800 refuse day-of-mark
+12. Mai 06 10:00|1806-5-12
+#julian day refuse refuse day-of-mark
+12. Mai 1706, 10 Uhr|1706-5-12
+#republican day refuse refuse day-of-mark
+18 Brumaire an VIII, 10 h|8-2-18
+#hebrew day refuse refuse day-of-mark
+5 Tischri 5507|5507-7-5
+5 Tischri 5507 10:00|=
+#roman day refuse refuse day-of-mark
+Id Mai 1806|1806-5-I1
+Id Mai 1806 10 Uhr|=
+#iso day refuse refuse day-of-mark
+1806-05-12 10:00|=
+#none day refuse refuse day-of-mark
+1806-05-12 10:00|=
+";

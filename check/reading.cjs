@@ -4,6 +4,7 @@
 const { dayOf, dateIn, placed, sundayOf, weekdayOf } = require("./day_counts.cjs");
 
 const WITHOUT_WORDS = ["iso", "longcount"], CHURCHES = ["gregorian", "julian"], REPUBLICAN = ["french", "republican"];
+const BEGIN_AT_MIDNIGHT = [...CHURCHES, ...REPUBLICAN];
 const BLANKS = " \\t\\r\\n\\u00a0\\u202f", DASHES = "\\-\\u2010-\\u2014\\u2212";
 const ENDS = new RegExp(`^[${BLANKS}]+|[${BLANKS}]+$`, "g");
 const OTHER = new RegExp(`[\\x00-\\x7f]`), KNOWN = new RegExp(`[A-Za-z0-9'.,/${DASHES}${BLANKS}]`);
@@ -307,7 +308,7 @@ const isDate = found => found.rule !== null || found.reason === "short year";
 
 // A text, or the date that stands before a time of day at its end, where it is none with it.
 function withoutTime(text, calendar, choice, names) {
-  if (calendar === null || calendar === "roman" || WITHOUT_WORDS.includes(calendar)) return text;
+  if (!BEGIN_AT_MIDNIGHT.includes(calendar)) return text;
   const before = beforeTime(text);
   if (before === null || isDate(whole(text, calendar, choice, names))) return text;
   return isDate(whole(before, calendar, choice, names)) ? before : text;

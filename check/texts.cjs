@@ -24,6 +24,9 @@ const DASHES = ["-", "-", "-", "\u2010", "\u2011", "\u2012", "\u2013", "\u2014",
 const SIGNS = [".", ".", ". ", ", ", "/", ...DASHES, " - ", " -", "- ", "--", ". -", ",", ".,", "", " / "];
 const SAME_SIGNS = [".", ".", "/", "-", " ", ". ", ", ", " - "];
 const OTHERS = [..."?(*xäKN:[&", "ca.", "\u2019", "\u200b", "\u2015", "\u00b7", "\u0308"];
+const TIMES = [" 14:30", " 00:00:00", "T14:30", ", 10 Uhr", " 3 p.m.", ", 3.30 PM", " 24:00", " 25:00", " 14:60", "T14:30Z",
+  " 4:3", " 12:00:00 AM", " 00:00:00.000", ", 10 h", " h", " 10 Uhr -", "\t7:05 ", " 10:30:00 - 11:00", "14:30",
+  ",09:05:07 uhr\u00a0"];
 const ROMANS = words("I II III IV V VI IX X XII XIV XVI XXIV XXXI XCIX C CD MDCCC MMMCMXCIX IIII VX iv Iv IC MM");
 // The forms of dates: d, m and y a day, a month by name and a year, n and r a month in digits and as a Roman number.
 const ORDERS = words("dmy dmy dmy dmy dmy dmy mdy mdy ymd dny dny ndy ynd dry dry yrd rdy dym my ym y ddmy mdd dnn");
@@ -236,7 +239,7 @@ class Texts {
     const end = () => chance(12) ? one([one(BLANKS), ..."..,-?"]) : "";
     this.sign = chance(3) ? one([" ", " ", ". ", "-", ".", " - "]) : null;
     const form = this.kinds.a.length > 0 && chance(4) ? "dayOfDecade" : one(forms);
-    return end() + this[form]() + end();
+    return end() + this[form]() + (chance(10) ? one(TIMES) : "") + end();
   }
 }
 

@@ -171,4 +171,4 @@ def said_by_help():
         elif words:
             yield f"{', '.join(words[:-1])} or {words[-1]}. Without it: {default}."
         elif it["most"] is not None:
-            yield f"{it['least']} to {it['most']}. Without it: {default}."
+            yield f"{it['least']} to {it['most']}. Without it: {default or 'what fits the machine'}."

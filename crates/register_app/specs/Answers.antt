@@ -8,7 +8,6 @@ use Rattle.register_run.specs.Reports.{IsReport, stripes_of}
 use Rattle.register_run.specs.Threads.{AreThreads}
 use Rattle.register_run.specs.declared.reports.Ran.{Ran}
 use Rattle.register_run.specs.declared.reports.Report.{Report}
-use Rattle.register_records.specs.Views.{layout_of, reading_of}
 use Rattle.register_records.specs.declared.outputs.Output as outputs
 use Rattle.register_records.specs.declared.setups.Setup.{Setup}
 use Rattle.register_run.specs.declared.reports.Verdict.TheVariants.{Complete}
@@ -17,7 +16,7 @@ use Rattle.register_app.specs.Namings.{AreNamed}
 use Rattle.register_app.specs.ProgramFaults.{IsOfAsked, fault_line, fault_status, request_fault_in}
 use Rattle.register_app.specs.Reports.{lines_from}
 use Rattle.command_lines.specs.Meanings.{help, version, work}
-use Rattle.register_arguments.specs.Requests.{IsFaultOf, MeanJust, Task}
+use Rattle.register_arguments.specs.Requests.{IsFaultOf, IsSetupOf, MeanJust, Task}
 use Rattle.register_arguments.specs.declared.help.TheConstants.{HELP, PRINT_FAULT}
 use Rattle.register_app.specs.declared.program_faults.ProgramFault.{ProgramFault}
 use Rattle.register_arguments.specs.declared.requests.TheConstants.{VERSION}
@@ -40,20 +39,16 @@ pub record IsPrinted {W E : Type 0} (o : outputs.Ghosts W) (e : outputs.Ghosts E
   pub failed : status ≢ 0 → (o.has_failed written ≡ true)
       × (e.has_failed after ≡ false → Appends (e.contents before) (e.contents after) PRINT_FAULT.now)
 
--- the setup is the task's: how registers are read and tables written, the size of rings, and the converters of a source
-abbrev pub IsSetupOf : Task → Setup → Type 0
-IsSetupOf task setup =
-    (reading_of setup ≡ task.reading) × (layout_of setup ≡ task.layout) × (setup.ring ≡ task.ring)
-    × (setup.stripes ≡ task.stripes)
-
--- tables were made: the threads of each source, which ran as is handed on, were started by the setup that the task asks
--- for, with its ring and its stripes, each source has ended as it should, the status is 0 exactly where all are whole,
--- and standard error has gained the lines on them, unless it failed, and nothing where there are none
+-- tables were made: the threads of each source, which ran as is handed on, were started by the task's setup, with its
+-- ring and its stripes, those that are written, or else those that fit a machine of some number of processors, which the
+-- system says; each source has ended as it should, the status is 0 exactly where all are whole, and standard error has
+-- gained the lines on them, unless it failed, and nothing where there are none
 pub record IsConverted {R W E : Type 0} (r : reads.Ghosts R) (o : outputs.Ghosts W) (e : outputs.Ghosts E)
     (task : Task) (status : ℕ) (sources : List R) (given written : List W) (ran : List Ran) (before after : E) : Type 0
   where
+    pub processors : ℕ
     pub setup : Setup
-    pub asked : IsSetupOf task setup
+    pub asked : IsSetupOf task processors setup
     pub report : Report W
     pub reports : IsReport r o setup sources given report
     pub machine : AreOfMachine r o setup sources given report.outputs.items report.ends.items (stripes_of report)

@@ -29,7 +29,7 @@ use register_run::{MAX_SOURCES, Ran, Report, Verdict, run};
 use std::alloc::Global;
 use std::io::Read;
 use std::sync::Wait;
-use std::thread::Threads;
+use std::thread::{Threads, available_parallelism};
 use std::time::{Clock, CpuClock};
 
 /// The exit status, and the outputs as they were left.
@@ -174,6 +174,16 @@ fn report_run<W, E: Output>(errors: &mut E, summary: bool, report: &Report<W>) -
     }
 }
 
+/// How many processors the system says that this program may use; one where it does not say.
+fn usable_processors(rt: &impl Threads) -> usize
+    ensures { 1 ≤ result }
+{
+    match available_parallelism(rt) {
+        Ok(count) => count.get(),
+        Err(_) => 1,
+    }
+}
+
 /// Converts the sources, each to the output with its number, and reports how they have ended. There are no more sources
 /// than a run takes, and as many outputs, so that only running out of memory keeps a run from its beginning.
 fn run_job<
@@ -199,7 +209,8 @@ fn run_job<
     ensures statuses { (result.status ≡ 0) ⊎ (result.status ≡ 1) ⊎ (result.status ≡ 3) }
     ensures mark { E.own_mark errors.new ≡ E.own_mark errors.old }
 {
-    match run(rt, alloc, sources, outputs, &job.setup) {
+    let setup = job.setup(usable_processors(rt));
+    match run(rt, alloc, sources, outputs, &setup) {
         Ok(report) => JobEnd {
             status: report_run(errors, job.summary, &report),
             outputs: report.outputs,
@@ -312,6 +323,9 @@ fn convert_files<
 /// - 2 where the arguments were refused, with one line of the program's own or the text of clap;
 /// - 3 where a file could not be opened or made, a table would go to its own register or to the file of another table,
 ///   or memory ran out before the run, with one line.
+///
+/// Where no ring or no number of stripes is written, the run has those that [`register_arguments::fitting`] gives for
+/// the processors that the system says it may use.
 ///
 /// Nothing is read where the status is 2 or 3, or where the arguments ask for a page. A fault of `errors` changes
 /// neither the status nor the outputs.

@@ -2,6 +2,7 @@
 //! `check/answers` has what it answers to arguments, texts and files.
 
 mod breaking;
+mod fits;
 pub mod helpers;
 mod streams;
 mod terminal;

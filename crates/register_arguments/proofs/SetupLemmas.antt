@@ -2,7 +2,7 @@
 -- since their names differ.
 use Rattle.std.proofs.Common.{◌≡◌, ◌&&◌, ℕ, true, nat_le, le-leb, refl, rules, ◌∙◌, ◌<◌, false, List, [], length, map}
 use Rattle.std.proofs.Common.{sym, ap, arith, Some, None, Option, Result, Err, inl, inr, true≢false, get_or, Bool}
-use Rattle.std.specs.Prelude.{if◌then◌else◌}
+use Rattle.std.specs.Prelude.{if◌then◌else◌, option_map, unwrap_or}
 use Rattle.std.specs.List.{IsDistinct}
 use Rattle.std.proofs.lemmas.List.{get_or-map}
 use Rattle.std.proofs.lemmas.Map.Made.{AllPairs-from_IsDistinct}
@@ -22,6 +22,8 @@ use Rattle.register_records.specs.declared.setups.SetupFault.{SetupFault}
 use Rattle.register_records.specs.declared.setups.SetupFault.TheVariants.{TargetTwice, RingSize, Delimiter, Stripes}
 use Rattle.command_lines.specs.declared.values.Delimiter.{Delimiter as DelimiterWord}
 use Rattle.register_arguments.specs.Requests.{AreTargetsOf}
+use Rattle.register_arguments.specs.declared.option_values.Ring.{Ring}
+use Rattle.register_arguments.specs.declared.option_values.Stripes.{Stripes as StripesValue}
 use Rattle.register_arguments.proofs.ListLemmas.{never_twice}
 
 -- a number that a word names is from 1 to the most
@@ -66,3 +68,14 @@ no_fault made TargetTwice targets ring byte stripes is once fits cuts twice size
 no_fault made RingSize targets ring byte stripes is once fits cuts twice size other few many = grind (arith, true≢false)
 no_fault made Delimiter targets ring byte stripes is once fits cuts twice size other few many = search rules
 no_fault made Stripes targets ring byte stripes is once fits cuts twice size other few many = search (rules, true≢false)
+
+-- the number that is written, or else the other
+pub size_or : (written : Option Ring) (other : Ring) (size : ℕ) → other.size ≡ size
+    → (unwrap_or written other).size ≡ unwrap_or (option_map (λ ring. ring.size) written) size
+size_or None other size is = is
+size_or (Some ring) other size is = refl
+
+pub count_or : (written : Option StripesValue) (other : StripesValue) (count : ℕ) → other.count ≡ count
+    → (unwrap_or written other).count ≡ unwrap_or (option_map (λ stripes. stripes.count) written) count
+count_or None other count is = is
+count_or (Some stripes) other count is = refl

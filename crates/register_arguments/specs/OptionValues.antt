@@ -1,11 +1,14 @@
 -- What the values of the options mean.
 use Rattle.std.specs.Prelude.{◌≡◌, ◌≢◌, ◌↔◌, ◌⊎◌, ◌==◌, ◌++◌, ℕ, List, [], ◌∷◌, codes, ⊤, Contains, Result, Ok, Err}
+use Rattle.std.specs.Prelude.{Option, Some, None}
 use Rattle.std.specs.List.{slice_split}
 use Rattle.date_texts.specs.Calendars.{target_name}
 use Rattle.date_texts.specs.Names.{IsNamed}
 use Rattle.date_texts.specs.declared.target.Target.{Target}
-use Rattle.register_records.specs.SetupRules.{NamesTwice, largest_ring, most_stripes}
-use Rattle.command_lines.specs.Values.{IsNumberWord, ValueOption}
+use Rattle.register_records.specs.SetupRules.{NamesTwice}
+use Rattle.clap.specs.Words.{Text}
+use Rattle.command_lines.specs.Meanings.{Check}
+use Rattle.command_lines.specs.Values.{IsNumberWord}
 use Rattle.register_arguments.specs.Faults.{Fault, target_twice, unknown_target}
 
 -- the names in a list: what stands between its commas (44)
@@ -64,10 +67,14 @@ ListMeans list (Err fault) = IsListFault list fault
 abbrev pub ListMeansJust : List ℕ → Result (List Target) Fault → Type 0
 ListMeansJust list meaning = (other : Result (List Target) Fault) → (other ≡ meaning) ↔ ListMeans list other
 
--- the size of a ring
-abbrev pub ring_option : ValueOption
-ring_option = record { names = IsNumberWord largest_ring; default = 16 }
+-- this is the number that is written, from 1 to the most, or none where there is no word
+abbrev pub IsWritten : ℕ → Option Text → Option ℕ → Type 0
+IsWritten most None number = number ≡ None
+IsWritten most (Some word) number = (n : ℕ) × (number ≡ Some n) × IsNumberWord most word n
 
--- the number of converters
-abbrev pub stripes_option : ValueOption
-stripes_option = record { names = IsNumberWord most_stripes; default = 1 }
+-- the check of a number that may be written: a word that names none is a fault
+abbrev pub number_check : ℕ → (Text → Fault) → Option Text → Check Fault
+number_check most fault value = record {
+  fails = λ f. (word : Text) × (f ≡ fault word) × (value ≡ Some word) × ((n : ℕ) → ¬ IsNumberWord most word n);
+  passes = (number : Option ℕ) × IsWritten most value number;
+}

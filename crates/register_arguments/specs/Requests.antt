@@ -1,32 +1,37 @@
 -- What the arguments ask for.
-use Rattle.std.specs.Prelude.{◌≡◌, ℕ, Bool, List, [], ◌∷◌, map, if◌then◌else◌, Option, Some, None, option_map}
+use Rattle.std.specs.Prelude.{◌≡◌, ℕ, Bool, List, [], ◌∷◌, map, if◌then◌else◌, Option, Some, None, option_map, length}
+use Rattle.std.specs.Prelude.{unwrap_or}
 use Rattle.clap.specs.Words.{Text}
 use Rattle.date_texts.specs.Calendars.{default_targets}
 use Rattle.date_texts.specs.declared.target.Target.{Target}
 use Rattle.register_records.specs.Entries.{Reading}
+use Rattle.register_records.specs.Records.{has_notes}
+use Rattle.register_records.specs.SetupRules.{largest_ring, most_stripes}
 use Rattle.register_records.specs.Tables.{Layout}
 use Rattle.register_records.specs.Views.{layout_of, reading_of}
 use Rattle.register_records.specs.declared.setups.Form.TheVariants.{Plain, Sealed}
+use Rattle.register_records.specs.declared.setups.Setup.{Setup}
 use Rattle.command_lines.specs.FileLists.{AreFilesToConvert}
 use Rattle.command_lines.specs.Meanings as lines
 use Rattle.command_lines.specs.Meanings.{Check, CommandLine, Meaning, file_check, help, option_check, version, work}
-use Rattle.command_lines.specs.Values.{IsValueOf, delimiter_option}
+use Rattle.command_lines.specs.Values.{IsValueOf, byte_of, delimiter_option}
 use Rattle.register_arguments.specs.CommandLine.{Values, command_line, values_of}
 use Rattle.register_arguments.specs.Faults.{Fault, bad_ring, bad_stripes, file_twice, too_many_files}
 use Rattle.register_arguments.specs.Faults.{unknown_delimiter, usage}
-use Rattle.register_arguments.specs.OptionValues.{AsksForTargets, IsListFault, ring_option, stripes_option}
-use Rattle.register_arguments.specs.declared.requests.Job.{Job}
+use Rattle.register_arguments.specs.Fittings.{fitting_for}
+use Rattle.register_arguments.specs.OptionValues.{AsksForTargets, IsListFault, IsWritten, number_check}
+use Rattle.register_arguments.specs.declared.jobs.Job.{Job}
 use Rattle.register_arguments.specs.declared.requests.Options.{Options}
 use Rattle.register_arguments.specs.declared.requests.Request.{Request}
 use Rattle.register_arguments.specs.declared.requests.Request.TheVariants as request
 
--- what arguments can ask of a run: how its registers are read and how its tables are written, the size of its rings,
--- the converters of a source, whether a summary is wanted, and the files
+-- what arguments can ask of a run: how its registers are read and how its tables are written, the size of its rings and
+-- the converters of a source where they are written, whether a summary is wanted, and the files
 pub record Task : Type 0 where
   pub reading : Reading
   pub layout : Layout
-  pub ring : ℕ
-  pub stripes : ℕ
+  pub ring : Option ℕ
+  pub stripes : Option ℕ
   pub summary : Bool
   pub files : List Text
 
@@ -38,10 +43,10 @@ AreTargetsOf (Some list) targets = AsksForTargets list targets
 -- the values ask for this task
 pub record Ask (values : Values) (task : Task) : Type 0 where
   pub targets : AreTargetsOf values.to task.layout.targets
-  pub ring : IsValueOf ring_option values.ring task.ring
+  pub ring : IsWritten largest_ring values.ring task.ring
   pub delimiter : IsValueOf delimiter_option values.delimiter task.reading.delimiter
   pub same_delimiter : task.layout.writing.delimiter ≡ task.reading.delimiter
-  pub stripes : IsValueOf stripes_option values.stripes task.stripes
+  pub stripes : IsWritten most_stripes values.stripes task.stripes
   pub form : task.reading.form ≡ (if values.sealed then Sealed else Plain)
   pub notes : task.layout.writing.has_notes ≡ values.sealed
   pub summary : task.summary ≡ values.summary
@@ -64,9 +69,9 @@ target_check value = record {
 abbrev pub value_checks : Values → List (Check Fault)
 value_checks values =
     target_check values.to
-    ∷ option_check ring_option bad_ring values.ring
+    ∷ number_check largest_ring bad_ring values.ring
     ∷ option_check delimiter_option unknown_delimiter values.delimiter
-    ∷ option_check stripes_option bad_stripes values.stripes
+    ∷ number_check most_stripes bad_stripes values.stripes
     ∷ file_check too_many_files file_twice values.files
     ∷ []
 
@@ -92,13 +97,24 @@ AreWrong = lines.AreWrong register_line
 -- what a job asks of a run
 abbrev pub task_of : Job → Task
 task_of job = record {
-  reading = reading_of job.setup;
-  layout = layout_of job.setup;
-  ring = job.setup.ring;
-  stripes = job.setup.stripes;
+  reading = record { delimiter = byte_of job.delimiter; form = job.form };
+  layout = record {
+    writing = record { delimiter = byte_of job.delimiter; has_notes = has_notes job.form };
+    targets = job.targets.items;
+  };
+  ring = option_map (λ ring. ring.size) job.ring;
+  stripes = option_map (λ stripes. stripes.count) job.stripes;
   summary = job.summary;
   files = map (λ file. file.now) job.files.items;
 }
+
+-- the setup is the task's, on a machine of so many processors: how registers are read and tables written, and the ring
+-- and the converters that are written, or else those that fit
+abbrev pub IsSetupOf : Task → ℕ → Setup → Type 0
+IsSetupOf task processors setup =
+    (reading_of setup ≡ task.reading) × (layout_of setup ≡ task.layout)
+    × (setup.ring ≡ unwrap_or task.ring (fitting_for processors (length task.files)).ring)
+    × (setup.stripes ≡ unwrap_or task.stripes (fitting_for processors (length task.files)).stripes)
 
 -- what a request stands for
 abbrev pub meaning_of : Request → Meaning Task Fault

@@ -62,9 +62,10 @@ Options:
     --summary         report on standard error, for each whole table, its
                       rows and how many were refused by each number.
     --ring N          how many records may wait between two threads, 1 to
-                      4096. Without it: 16.
+                      4096. Without it: what fits the machine.
     --stripes N       how many threads convert each register, 1 to 4.
-                      Without it: 1. Neither N changes a table.
+                      Without it: what fits the machine. Neither N changes a
+                      table.
     -h, --help        print this page and read nothing.
     -V, --version     print the version and read nothing.
 

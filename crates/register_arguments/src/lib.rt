@@ -1,13 +1,17 @@
 //! What the arguments ask for, and what is wrong with them.
 #![tactic(auto)]
 
+mod fittings;
 mod help;
+mod jobs;
 mod option_values;
 mod request_faults;
 mod requests;
 
 pub use command_lines::MAX_FILES;
+pub use fittings::{Fit, fitting};
 pub use help::{HELP, PRINT_FAULT};
-pub use option_values::NO_TARGET;
+pub use jobs::Job;
+pub use option_values::{NO_TARGET, Ring, Stripes};
 pub use request_faults::{MEMORY_FAULT, RequestFault, own_line};
-pub use requests::{Job, Request, VERSION, command, read_request};
+pub use requests::{Request, VERSION, command, read_request};

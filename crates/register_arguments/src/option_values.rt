@@ -1,14 +1,14 @@
 //! The values of the options.
 
 ghost use Rattle.std.specs.Prelude.{◌≡◌, Ok, Err, IfOk, IfErr, IfSome, IsSomeAnd, option_map, true};
-ghost use Rattle.register_records.specs.SetupRules.{is_ring_size, is_stripe_count};
+ghost use Rattle.register_records.specs.SetupRules.{is_ring_size, is_stripe_count, largest_ring, most_stripes};
 ghost use Rattle.command_lines.specs.Meanings.{option_check};
 ghost use Rattle.command_lines.specs.Values.{IsValueOf, byte_of, delimiter_option};
 ghost use Rattle.register_arguments.specs.Faults.{bad_ring, bad_stripes, fault_of_error, unknown_delimiter};
-ghost use Rattle.register_arguments.specs.OptionValues.{ListMeansJust, ring_option, stripes_option};
+ghost use Rattle.register_arguments.specs.OptionValues.{IsWritten, ListMeansJust, number_check};
 
 use crate::request_faults::RequestFault;
-use command_lines::{Delimiter, OptionValue, chosen, number_named};
+use command_lines::{Delimiter, chosen, number_named};
 use date_texts::laws::one_target;
 use date_texts::{Target, target_named};
 use register_records::{MAX_RING, MAX_STRIPES};
@@ -49,65 +49,40 @@ pub fn read_targets(alloc: Global, list: &str) -> Result<Vec<Target>, RequestFau
     Ok(targets)
 }
 
-/// How many items a ring holds, by `--ring`.
+/// How many items a ring holds.
 #[derive(Clone, Copy)]
 pub struct Ring {
+    /// From 1 to 4096.
     pub size: usize,
     ghost fits: { is_ring_size size ≡ true },
 }
 
-impl OptionValue for Ring {
-    ghost option = { ring_option };
-
-    ghost number = { λ ring. ring.size };
-
-    fn default() -> Ring {
-        Ring { size: 16 }
-    }
-
-    fn named(word: &str) -> Option<Ring> {
-        match number_named(word, MAX_RING) {
-            Some(size) => Some(Ring { size }),
-            None => None,
-        }
-    }
-}
-
-/// How many converters a source has, by `--stripes`.
+/// How many converters a source has.
 #[derive(Clone, Copy)]
 pub struct Stripes {
+    /// From 1 to 4.
     pub count: usize,
     ghost fits: { is_stripe_count count ≡ true },
 }
 
-impl OptionValue for Stripes {
-    ghost option = { stripes_option };
-
-    ghost number = { λ stripes. stripes.count };
-
-    fn default() -> Stripes {
-        Stripes { count: 1 }
-    }
-
-    fn named(word: &str) -> Option<Stripes> {
-        match number_named(word, MAX_STRIPES) {
-            Some(count) => Some(Stripes { count }),
-            None => None,
-        }
-    }
-}
-
-/// The size of a ring that `--ring` asks for.
+/// The size of a ring that `--ring` asks for, if it is given.
 ///
 /// # Errors
 ///
 /// `BadRing` for a word that names none.
-pub fn chosen_ring<'a>(word: Option<&'a str>) -> Result<Ring, RequestFault<'a>>
-    ensures value { IfOk result (λ value. IsValueOf ring_option (option_map (λ w. w.now) word.entry) (value.size)) }
+pub fn chosen_ring<'a>(word: Option<&'a str>) -> Result<Option<Ring>, RequestFault<'a>>
+    ensures value { IfOk result (λ ring. IsWritten largest_ring (option_map (λ w. w.now) word.entry)
+        (option_map (λ r. r.size) ring)) }
     ensures fault { IfErr result (λ error. IsSomeAnd (fault_of_error error)
-        ((option_check ring_option bad_ring (option_map (λ w. w.now) word.entry)).fails)) }
+        ((number_check largest_ring bad_ring (option_map (λ w. w.now) word.entry)).fails)) }
 {
-    chosen::<Ring>(word).map_err(RequestFault::BadRing)
+    let Some(word) = word else {
+        return Ok(None);
+    };
+    match number_named(word, MAX_RING) {
+        Some(size) => Ok(Some(Ring { size })),
+        None => Err(RequestFault::BadRing(word)),
+    }
 }
 
 /// The delimiter that `--delimiter` asks for.
@@ -126,15 +101,22 @@ pub fn chosen_delimiter<'a>(word: Option<&'a str>) -> Result<Delimiter, RequestF
     }
 }
 
-/// The number of converters that `--stripes` asks for.
+/// The number of converters that `--stripes` asks for, if it is given.
 ///
 /// # Errors
 ///
 /// `BadStripes` for a word that names none.
-pub fn chosen_stripes<'a>(word: Option<&'a str>) -> Result<Stripes, RequestFault<'a>>
-    ensures value { IfOk result (λ value. IsValueOf stripes_option (option_map (λ w. w.now) word.entry) (value.count)) }
+pub fn chosen_stripes<'a>(word: Option<&'a str>) -> Result<Option<Stripes>, RequestFault<'a>>
+    ensures value { IfOk result (λ stripes. IsWritten most_stripes (option_map (λ w. w.now) word.entry)
+        (option_map (λ s. s.count) stripes)) }
     ensures fault { IfErr result (λ error. IsSomeAnd (fault_of_error error)
-        ((option_check stripes_option bad_stripes (option_map (λ w. w.now) word.entry)).fails)) }
+        ((number_check most_stripes bad_stripes (option_map (λ w. w.now) word.entry)).fails)) }
 {
-    chosen::<Stripes>(word).map_err(RequestFault::BadStripes)
+    let Some(word) = word else {
+        return Ok(None);
+    };
+    match number_named(word, MAX_STRIPES) {
+        Some(count) => Ok(Some(Stripes { count })),
+        None => Err(RequestFault::BadStripes(word)),
+    }
 }

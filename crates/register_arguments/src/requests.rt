@@ -10,6 +10,7 @@ ghost use Rattle.register_arguments.specs.Faults.{fault_of_error, file_twice, to
 ghost use Rattle.register_arguments.specs.Requests.{AreTargetsOf, Ask, IsTargetFault, MeanJust, meaning_of};
 ghost use Rattle.register_arguments.specs.Requests.{register_line, task_of, value_checks, values_by};
 
+use crate::jobs::Job;
 use crate::option_values::{chosen_delimiter, chosen_ring, chosen_stripes, read_targets};
 use crate::request_faults::RequestFault;
 use clap::error::ErrorKind;
@@ -17,7 +18,7 @@ use clap::{ArgMatches, Command};
 use command_lines::{Argument, check_files, command_with, is_given, value_given, values_given};
 use date_texts::Target;
 use date_texts::laws::{default_targets, one_target};
-use register_records::{Form, Setup};
+use register_records::Form;
 use std::alloc::{AllocError, Global};
 
 /// The version of the program.
@@ -33,17 +34,6 @@ const ARGUMENTS: [Argument<'static>; 7] = [
     Argument::Flag("summary"),
     Argument::Files("file", "FILE"),
 ];
-
-/// A conversion that the arguments ask for.
-#[derive(Drop)]
-pub struct Job<'a> {
-    /// What is asked of each table and of the run.
-    pub setup: Setup,
-    /// Whether a summary is asked for.
-    pub summary: bool,
-    /// The files to convert, in order; with none, one text from standard input.
-    pub files: Vec<&'a str>,
-}
 
 /// What the arguments ask for.
 #[derive(Drop)]
@@ -153,16 +143,15 @@ fn chosen_job<'a>(alloc: Global, options: Options<'a>) -> Result<Job<'a>, Reques
     let delimiter = chosen_delimiter(options.delimiter)?;
     let stripes = chosen_stripes(options.stripes)?;
     check_files(options.files.as_slice())?;
-    let form = chosen_form(options.sealed);
-    let byte = delimiter.byte();
-    match Setup::new(targets.as_slice(), ring.size, byte, stripes.count, form) {
-        Ok(setup) => Ok(Job {
-            setup,
-            summary: options.summary,
-            files: options.files,
-        }),
-        Err(_) => unreachable!(),
-    }
+    Ok(Job {
+        targets,
+        delimiter,
+        form: chosen_form(options.sealed),
+        ring,
+        stripes,
+        summary: options.summary,
+        files: options.files,
+    })
 }
 
 /// What the arguments ask for.

@@ -4,12 +4,14 @@
 #![tactic(auto)]
 
 mod calendars;
+mod fits;
 mod named;
 mod options;
 mod tables;
 
 use calendars::{calendar_facts, target_facts};
 use command_lines::{COMPLETE, INCOMPLETE};
+use fits::fit_facts;
 use named::Named;
 use options::{option_facts, sheet_option_facts};
 use register_arguments::{MAX_FILES, RequestFault, VERSION};
@@ -82,6 +84,7 @@ impl Serialize for Facts {
         write_part(out, "causes", cause_sentences(alloc))?;
         write_part(out, "statuses", known_statuses(alloc))?;
         write_part(out, "options", option_facts(alloc))?;
+        write_part(out, "fits", fit_facts(alloc))?;
         write_part(out, "sheet_options", sheet_option_facts(alloc))?;
         write_part(out, "limits", known_limits(alloc))?;
         out.end_map()

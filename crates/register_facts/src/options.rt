@@ -27,29 +27,47 @@ pub struct OptionFacts {
 /// More than any number that is taken.
 const MOST: usize = 1 << 17;
 
+/// What is asked of a run: its setup on a machine of one processor, and whether the ring and the stripes are written.
+#[derive(Clone, Copy)]
+struct Asked {
+    setup: Setup,
+    has_ring: bool,
+    has_stripes: bool,
+}
+
 /// What these arguments ask for, or `None` where they ask for no table.
-fn asked_by(alloc: Global, arguments: &[String]) -> Option<Setup> {
+fn asked_by(alloc: Global, arguments: &[String]) -> Option<Asked> {
     match read_request(alloc, arguments) {
-        Ok(Request::Convert(job)) => Some(job.setup),
+        Ok(Request::Convert(job)) => Some(Asked {
+            setup: job.setup(1),
+            has_ring: job.ring.is_some(),
+            has_stripes: job.stripes.is_some(),
+        }),
         _ => None,
+    }
+}
+
+fn asked_for(alloc: Global, arguments: &[String]) -> io::Result<Asked> {
+    match asked_by(alloc, arguments) {
+        Some(asked) => Ok(asked),
+        None => Err(io::Error::from(io::ErrorKind::InvalidInput)),
     }
 }
 
 /// What these arguments ask for, which has to be a table.
 pub fn setup_of(alloc: Global, arguments: &[String]) -> io::Result<Setup> {
-    match asked_by(alloc, arguments) {
-        Some(setup) => Ok(setup),
-        None => Err(io::Error::from(io::ErrorKind::InvalidInput)),
-    }
+    Ok(asked_for(alloc, arguments)?.setup)
 }
 
-/// Whether two conversions are asked for alike.
-fn are_alike(one: &Setup, other: &Setup) -> bool {
-    one.targets() == other.targets()
-        && one.ring() == other.ring()
-        && one.delimiter() == other.delimiter()
-        && one.stripes() == other.stripes()
-        && one.form() == other.form()
+/// Whether two conversions are asked for alike, on every machine.
+fn are_alike(one: &Asked, other: &Asked) -> bool {
+    one.setup.targets() == other.setup.targets()
+        && one.has_ring == other.has_ring
+        && one.setup.ring() == other.setup.ring()
+        && one.setup.delimiter() == other.setup.delimiter()
+        && one.has_stripes == other.has_stripes
+        && one.setup.stripes() == other.setup.stripes()
+        && one.setup.form() == other.setup.form()
 }
 
 impl OptionFacts {
@@ -75,7 +93,7 @@ impl OptionFacts {
     fn try_value(
         &mut self,
         alloc: Global,
-        without: &Setup,
+        without: &Asked,
         value: &str,
     ) -> Result<bool, AllocError> {
         let mut argument = String::from_str(alloc, "--")?;
@@ -83,17 +101,17 @@ impl OptionFacts {
         argument.push_str("=")?;
         argument.push_str(value)?;
         let arguments = [argument];
-        let Some(setup) = asked_by(alloc, &arguments) else {
+        let Some(asked) = asked_by(alloc, &arguments) else {
             return Ok(false);
         };
-        if are_alike(&setup, without) {
+        if are_alike(&asked, without) {
             self.default = Some(String::from_str(alloc, value)?);
         }
         Ok(true)
     }
 
     /// Asks for this word.
-    fn try_word(&mut self, alloc: Global, without: &Setup, word: &str) -> Result<(), AllocError> {
+    fn try_word(&mut self, alloc: Global, without: &Asked, word: &str) -> Result<(), AllocError> {
         if self.try_value(alloc, without, word)? {
             self.words.push(String::from_str(alloc, word)?)?;
         }
@@ -104,15 +122,15 @@ impl OptionFacts {
     fn try_number(
         &mut self,
         alloc: Global,
-        without: &Setup,
+        without: &Asked,
         number: usize,
     ) -> Result<bool, AllocError> {
         let mut buffer = Buffer::new();
         self.try_value(alloc, without, buffer.format(number))
     }
 
-    /// Asks for numbers: for the greatest by halving, where 1 is taken, and for those that hold without options.
-    fn try_numbers(&mut self, alloc: Global, without: &Setup) -> Result<(), AllocError> {
+    /// Asks for numbers: for the greatest by halving, where 1 is taken.
+    fn try_numbers(&mut self, alloc: Global, without: &Asked) -> Result<(), AllocError> {
         if !self.try_number(alloc, without, 1)? {
             return Ok(());
         }
@@ -128,20 +146,17 @@ impl OptionFacts {
         let takes_zero = self.try_number(alloc, without, 0)?;
         self.least = Some(usize::from(!takes_zero));
         self.most = Some(taken);
-        for number in [without.ring(), without.stripes()] {
-            self.try_number(alloc, without, number)?;
-        }
         Ok(())
     }
 
     /// Finds out which values it takes: a list of names, those names, the words between the bars of what stands for its
     /// value, and numbers.
-    fn try_values(&mut self, alloc: Global, without: &Setup) -> Result<(), AllocError> {
+    fn try_values(&mut self, alloc: Global, without: &Asked) -> Result<(), AllocError> {
         let Some(value) = &self.value else {
             return Ok(());
         };
         let named = value.clone()?;
-        let list = names_of(alloc, without.targets())?.join(alloc, ",")?;
+        let list = names_of(alloc, without.setup.targets())?.join(alloc, ",")?;
         self.try_value(alloc, without, list.as_str())?;
         for target in Target::ALL {
             self.try_word(alloc, without, target.name())?;
@@ -169,7 +184,7 @@ fn options_of(alloc: Global, mut command: Command<'_>) -> io::Result<Vec<OptionF
 
 /// What is known of each option.
 pub fn option_facts(alloc: Global) -> io::Result<Vec<OptionFacts>> {
-    let without = setup_of(alloc, &[])?;
+    let without = asked_for(alloc, &[])?;
     let mut all = options_of(alloc, command(alloc)?)?;
     for option in &mut all {
         option.try_values(alloc, &without)?;

@@ -105,7 +105,12 @@ pub returns-then-is_empty-clause-reported : goal.returns-then-is_empty-clause-re
 returns-then-is_empty-clause-reported g c = search (rules, at_most_three)
 
 pub returns-else-is_empty-clause-reported : goal.returns-else-is_empty-clause-reported
-returns-else-is_empty-clause-reported g c = search (rules, at_most_three)
+returns-else-is_empty-clause-reported g c = λ high good.
+    let arguments = map string_bytes c.args.arguments.now in
+    let just : MeanJust arguments (work (task_of c.in-Ok-Convert.job))
+    = search (rules, c.in-Ok-Convert.ensures.asked) in
+    let three = at_most_three c.convert_files.result.status high c.convert_files.ensures.statuses in
+    c.convert_files.ensures.reported three good arguments just
 
 pub returns-in-Err-clause-reported : goal.returns-in-Err-clause-reported
 returns-in-Err-clause-reported g c = λ high good.

@@ -1,4 +1,4 @@
--- What the options mean, and that it fits a setup.
+-- What the options mean.
 use Rattle.std.proofs.Common.{rules, arith, ap, ◌≡◌, ◌∙◌, refl, Result, IfErr, IfSome, IsErrAnd, IsSomeAnd}
 use Rattle.clap.proofs.TakesLemmas.{passed_up}
 use Rattle.register_records.specs.Records.{has_notes}
@@ -8,8 +8,8 @@ use Rattle.register_arguments.specs.CommandLine.{Values}
 use Rattle.register_arguments.specs.Faults.{Fault, fault_of_error}
 use Rattle.register_arguments.specs.Requests.{value_checks}
 use Rattle.register_arguments.specs.declared.request_faults.RequestFault.{RequestFault}
-use Rattle.register_arguments.specs.declared.requests.Job.{Job}
-use Rattle.register_arguments.proofs.SetupLemmas.{asked_once, no_fault, notes_by, separates}
+use Rattle.register_arguments.specs.declared.jobs.Job.{Job}
+use Rattle.register_arguments.proofs.SetupLemmas.{asked_once, notes_by}
 use Rattle.register_arguments.proofs.requests.chosen_job.Goals as goal
 
 -- where a check finds a fault, which is that of the first check that fails, the error that is passed up is that
@@ -35,20 +35,18 @@ pub returns-in_err-check_files-clause-fault : goal.returns-in_err-check_files-cl
 returns-in_err-check_files-clause-fault c = grind (arith, passed_up)
 
 pub returns-clause-asked : goal.returns-clause-asked
-returns-clause-asked c =
-    let fields = c.in-Ok.ensures.value in
-    record {
-      targets = rw (fields.0, c.as_slice-2.ensures.value) c.in_ok-targets.ensures.value;
-      ring = rw fields.1 c.in_ok-ring.ensures.value;
-      delimiter = rw (fields.2, c.byte-byte.ensures) c.in_ok-delimiter.ensures.value;
-      stripes = rw fields.3 c.in_ok-stripes.ensures.value;
-      same_delimiter = refl;
-      form = fields.4 ∙ c.chosen_form-form.ensures;
-      notes = ap has_notes (fields.4 ∙ c.chosen_form-form.ensures) ∙ notes_by c.args.options.sealed;
-      summary = refl;
-      files = refl;
-      files_fit = rw c.as_slice.ensures.value at c.in_ok-check_files.ensures.fine;
-    }
+returns-clause-asked c = record {
+  targets = c.in_ok-targets.ensures.value;
+  ring = c.in_ok-ring.ensures.value;
+  delimiter = c.in_ok-delimiter.ensures.value;
+  same_delimiter = refl;
+  stripes = c.in_ok-stripes.ensures.value;
+  form = c.chosen_form.ensures;
+  notes = ap has_notes c.chosen_form.ensures ∙ notes_by c.args.options.sealed;
+  summary = refl;
+  files = refl;
+  files_fit = rw c.as_slice.ensures.value at c.in_ok-check_files.ensures.fine;
+}
 
-pub unreachable-requires : goal.unreachable-requires
-unreachable-requires c = search (rules, asked_once, no_fault, separates)
+pub invariant_of-result : goal.invariant_of-result
+invariant_of-result c = record { once = asked_once _ _ c.in_ok-targets.ensures.value }

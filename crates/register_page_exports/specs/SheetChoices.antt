@@ -11,6 +11,7 @@ use Rattle.register_sheets.specs.declared.choices.DateColumn.{DateColumn}
 use Rattle.register_sheets.specs.declared.choices.IdField.{IdField}
 use Rattle.register_sheets.specs.declared.choices.IdField.TheVariants as id
 use Rattle.written_dates.specs.Signs.{◌>>=◌}
+use Rattle.written_dates.specs.declared.fields.CalendarMeaning.TheVariants.{One}
 use Rattle.written_dates.specs.declared.rules.Order.{Order}
 use Rattle.written_dates.specs.declared.rules.Order.TheVariants.{YearFirst, DayFirst, MonthFirst}
 use Rattle.written_dates.specs.declared.written.Choice.{Choice}
@@ -65,8 +66,8 @@ spans_by n =
 -- the calendar of a date is at this place, or that of this number
 abbrev pub calendar_by : ℕ → ℕ → Option CalendarField
 calendar_by place number =
-    if place == no_place then (slice_get all_calendars number >>= λ c. Some (calendar.All c))
-    else Some (calendar.Column place)
+    if place == no_place then (slice_get all_calendars number >>= λ c. Some (calendar.All (One c)))
+    else Some (calendar.Column (record { place = place; otherwise = None }))
 
 abbrev pub date_by : ℕ → ℕ → ℕ → Option DateColumn
 date_by date place number = calendar_by place number >>= λ c. Some (record { date = date; calendar = c })

@@ -8,9 +8,11 @@ ghost use Rattle.register_page_exports.specs.SheetChoices.{spans_by};
 
 use date_texts::laws::{all_calendars, all_targets};
 use date_texts::{Calendar, MAX_TARGETS, Target};
-use register_sheets::{AskedColumn, AskedOfSheet, CalendarField, DateColumn, IdField, Spans};
+use register_sheets::{
+    AskedColumn, AskedOfSheet, CalendarColumn, CalendarField, DateColumn, IdField, Spans,
+};
 use std::alloc::{AllocError, Global};
-use written_dates::{Choice, Order, Short};
+use written_dates::{CalendarMeaning, Choice, Order, Short};
 
 /// Stands for the number of the record where the place of its id is wanted, and for one calendar for all where that of
 /// its calendar is.
@@ -111,9 +113,12 @@ fn calendar_of(place: u32, calendar: u32) -> Option<CalendarField>
     if place == NO_PLACE {
         all_calendars();
         let calendar = Calendar::ALL.get(calendar as usize)?;
-        Some(CalendarField::All(*calendar))
+        Some(CalendarField::All(CalendarMeaning::One(*calendar)))
     } else {
-        Some(CalendarField::Column(place))
+        Some(CalendarField::Column(CalendarColumn {
+            place,
+            otherwise: None,
+        }))
     }
 }
 

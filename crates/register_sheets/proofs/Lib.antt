@@ -14,6 +14,7 @@ pub mod NameLemmas
 pub mod CountLemmas
 pub mod RowLemmas
 pub mod DateLemmas
+pub mod AcceptedLemmas
 pub mod WidthLemmas
 pub mod AskedLemmas
 pub mod AskedOfSheetLemmas

@@ -11,13 +11,13 @@ use Rattle.std.proofs.KnownBytes.{Appends-nil}
 use Rattle.register_records.specs.Entries.{Fields, record_limit}
 use Rattle.register_records.specs.declared.outputs.Output as outputs
 use Rattle.register_sheets.specs.Choices.{id_text, register_record}
-use Rattle.register_sheets.specs.DateEnds.{Dated, IsDated, end_text}
+use Rattle.register_sheets.specs.DateEnds.{Dated, IsDated, as_text, one_end}
 use Rattle.register_sheets.specs.Converted.{AreFirstRows, AreRowsFrom, below, body_records, sheet_records}
 use Rattle.register_sheets.specs.SheetOutputs.{AreMadeRegisters, IsMadeRegister, IsMadeSheet, OfColumn, registers_by}
 use Rattle.register_sheets.specs.SheetOutputs.{sheet_ending}
 use Rattle.register_sheets.specs.Produced.{Agrees, AreLines, Ending, Produced, cut, ending_of, first_fault, lost}
 use Rattle.register_sheets.specs.Produced.{untouched, whole}
-use Rattle.register_sheets.specs.RecordLines.{body_line, entry_line, if_dated}
+use Rattle.register_sheets.specs.RecordLines.{body_line, entry_at, entry_line, if_dated}
 use Rattle.register_sheets.specs.Registers.{AreEntries, AreFirstEntries, IsEntry, register_head}
 use Rattle.register_sheets.specs.Sending.{top_records}
 use Rattle.register_sheets.specs.SheetNotes.{HasNotes}
@@ -111,15 +111,15 @@ entry_is : (choice : SheetChoice) (place : ℕ) (column : DateColumn) (end : End
     → IsDateRead choice read.number read.fields column date
     → IsEntry choice column end (k + 1) read.fields (entry_line place end choice read)
 entry_is choice place column end k read date numbered there is =
-    let text = end_text end date.dated.first.text date.dated.last.text in
+    let one = one_end end (as_text date.dated.first) (as_text date.dated.last) in
     record {
-      first = date.dated.first.text;
-      last = date.dated.last.text;
+      first = as_text date.dated.first;
+      last = as_text date.dated.last;
       marks = date.dated.marks;
       ends = is.dated.ends;
       is = ap (if_dated choice read end) there
-          ∙ ap (λ (calendar : List ℕ). id_text choice.id read.number read.fields ∷ calendar ∷ text ∷ []) is.calendar
-          ∙ ap (λ (n : ℕ). register_record choice column n read.fields text) numbered;
+          ∙ ap (λ (calendar : List ℕ). entry_at choice read calendar one) is.calendar
+          ∙ ap (λ (n : ℕ). register_record choice column n read.fields one) numbered;
     }
 
 entries_are : (choice : SheetChoice) (place : ℕ) (column : DateColumn) (end : End)

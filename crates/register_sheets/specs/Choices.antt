@@ -1,6 +1,6 @@
 -- What is chosen of a sheet, and the register of a column of dates.
 use Rattle.std.specs.Prelude.{◌+◌, ◌*◌, ◌≡◌, ◌<◌, ◌||◌, ℕ, Bool, List, [], ◌∷◌, true, false, length}
-use Rattle.std.specs.Prelude.{Option, None, get_or, nat_lt, count_by, if◌then◌else◌}
+use Rattle.std.specs.Prelude.{Option, None, Some, get_or, nat_lt, count_by, if◌then◌else◌, option_map}
 use Rattle.std.specs.Fmt.{decimal}
 use Rattle.std.specs.List.{find, flat_map}
 use Rattle.std.specs.Str.{bytes_eq, is_utf8, str_to_ascii_lowercase}
@@ -12,8 +12,11 @@ use Rattle.date_texts.specs.declared.target.TheConstants.{MAX_TARGETS}
 use Rattle.register_records.specs.Entries.{Fields, Numbered, body_of}
 use Rattle.register_records.specs.SetupRules.{NamesTwice}
 use Rattle.register_records.specs.declared.setups.Form.TheVariants.{Plain}
-use Rattle.written_dates.specs.Fields.{calendar_meant, entries, is_both, written_calendar}
+use Rattle.written_dates.specs.Fields.{calendar_meant, calendar_of, entries, or_field, without_blanks}
+use Rattle.written_dates.specs.declared.fields.CalendarMeaning.{CalendarMeaning}
+use Rattle.written_dates.specs.declared.fields.CalendarMeaning.TheVariants.{One}
 use Rattle.written_dates.specs.declared.fields.CalendarNames.{CalendarNames}
+use Rattle.register_sheets.specs.CalendarChanges.{EndText, end_calendar, row_calendar, row_text}
 use Rattle.register_sheets.specs.declared.choices.AskedColumn.{AskedColumn}
 use Rattle.register_sheets.specs.declared.choices.AskedColumn.TheVariants.{Cells, Church, DayNumber, Weekday}
 use Rattle.register_sheets.specs.declared.choices.CalendarField.{CalendarField}
@@ -73,15 +76,25 @@ abbrev pub id_text : IdField → ℕ → Fields → List ℕ
 id_text id.Number number fields = decimal number
 id_text (id.Column place) number fields = get_or fields place []
 
--- the calendar of a record as its register has it: one for all, or a field by the names
-abbrev pub calendar_text : CalendarNames → CalendarField → Fields → List ℕ
-calendar_text names (calendar.All calendar) fields = calendar_name calendar
-calendar_text names (calendar.Column place) fields = written_calendar (entries names) (get_or fields place [])
+-- what is meant where nothing but blanks stands in the field of a calendar
+abbrev pub if_empty : Option CalendarMeaning → List ℕ → Option CalendarMeaning
+if_empty otherwise [] = otherwise
+if_empty otherwise (byte ∷ text) = None
 
--- the field of the calendar says that dates stand in both styles, by the names
-abbrev pub in_both_styles : CalendarNames → CalendarField → Fields → Bool
-in_both_styles names (calendar.All calendar) fields = false
-in_both_styles names (calendar.Column place) fields = is_both (calendar_meant (entries names) (get_or fields place []))
+abbrev pub or_meant : Option CalendarMeaning → Option CalendarMeaning → Option CalendarMeaning
+or_meant None other = other
+or_meant (Some meaning) other = Some meaning
+
+-- what a field of a calendar means: by the names, or where it is empty
+abbrev pub meant_in : CalendarNames → Option CalendarMeaning → List ℕ → Option CalendarMeaning
+meant_in names otherwise field =
+    or_meant (calendar_meant (entries names) field) (if_empty otherwise (without_blanks field))
+
+-- the calendar of a record as its register has it: one for all, or by a field
+abbrev pub calendar_text : CalendarNames → CalendarField → Fields → List ℕ
+calendar_text names (calendar.All meaning) fields = calendar_name (calendar_of meaning)
+calendar_text names (calendar.Column column) fields =
+    or_field (get_or fields column.place []) (meant_in names column.otherwise (get_or fields column.place []))
 
 -- the calendar that a text of a register names
 abbrev pub is_name : List ℕ → Calendar → Bool
@@ -90,19 +103,37 @@ is_name text calendar = bytes_eq (str_to_ascii_lowercase (trimmed text)) (calend
 unfoldable pub calendar_called : List ℕ → Option Calendar
 calendar_called text = if is_utf8 text then find (is_name text) all_calendars else None
 
--- the calendar of a record's date, where its register names a known one
+abbrev pub one_called : List ℕ → Option CalendarMeaning
+one_called text = option_map One (calendar_called text)
+
+-- what is meant for a record: that for all; what its field means, or else the calendar that the field names
+abbrev pub meaning_in : CalendarNames → CalendarField → Fields → Option CalendarMeaning
+meaning_in names (calendar.All meaning) fields = Some meaning
+meaning_in names (calendar.Column column) fields =
+    or_meant (meant_in names column.otherwise (get_or fields column.place []))
+    (one_called (get_or fields column.place []))
+
+abbrev pub meaning_for : SheetChoice → DateColumn → Fields → Option CalendarMeaning
+meaning_for choice column fields = meaning_in choice.calendars.now column.calendar fields
+
+-- the calendar of a record's date, where one is meant
 abbrev pub called_for : SheetChoice → DateColumn → Fields → Option Calendar
-called_for choice column fields = calendar_called (calendar_text choice.calendars.now column.calendar fields)
+called_for choice column fields = option_map calendar_of (meaning_for choice column fields)
 
--- the record that the register of a column of dates has of the record with this number, with this text of its date
-abbrev pub register_record : SheetChoice → DateColumn → ℕ → Fields → List ℕ → Fields
-register_record choice column number fields date =
-    id_text choice.id number fields ∷ calendar_text choice.calendars.now column.calendar fields ∷ date ∷ []
+-- the record that the register of a column of dates has of the record with this number, for this end of its date
+abbrev pub register_record : SheetChoice → DateColumn → ℕ → Fields → EndText → Fields
+register_record choice column number fields end =
+    id_text choice.id number fields
+    ∷ end_calendar end.calendar (calendar_text choice.calendars.now column.calendar fields) ∷ end.text ∷ []
 
--- its entry
-abbrev pub register_entry : SheetChoice → DateColumn → ℕ → Fields → List ℕ → Numbered
-register_entry choice column number fields date =
-    record { number = number; body = body_of Plain (register_record choice column number fields date) }
+-- the entry whose row this end has
+abbrev pub row_entry : SheetChoice → DateColumn → ℕ → Fields → EndText → Numbered
+row_entry choice column number fields end = record {
+  number = number;
+  body = body_of Plain (id_text choice.id number fields
+      ∷ row_calendar end.calendar (calendar_text choice.calendars.now column.calendar fields)
+      ∷ row_text end.calendar end.text ∷ []);
+}
 
 -- what is wrong with a choice, and that nothing is
 pub record HasDates (choice : SheetChoice) : Type 0 where

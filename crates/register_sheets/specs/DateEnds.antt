@@ -1,6 +1,6 @@
 -- The first and the last day of a date of a sheet.
-use Rattle.std.specs.Prelude.{◌≡◌, ℕ, Bool, true, false, not, ◌&&◌, ◌||◌, ◌==◌, if◌then◌else◌, is_err, List, [], ◌∷◌}
-use Rattle.std.specs.Prelude.{◌++◌, Option, codes, get_or, length}
+use Rattle.std.specs.Prelude.{◌≡◌, ℕ, ℤ, Bool, true, false, not, ◌&&◌, ◌||◌, ◌==◌, if◌then◌else◌, is_err, List, [], ◌∷◌}
+use Rattle.std.specs.Prelude.{◌++◌, Option, None, Some, codes, get_or, length}
 use Rattle.std.specs.Result.{result_ok}
 use Rattle.date_texts.specs.declared.calendar.Calendar.{Calendar}
 use Rattle.date_spans.specs.Spans.{IsSpan, marks}
@@ -15,7 +15,13 @@ use Rattle.register_records.specs.Outcomes.{IsRowOf, TableRow}
 use Rattle.written_dates.specs.Written.{written}
 use Rattle.written_dates.specs.declared.meanings.Name.{Name}
 use Rattle.written_dates.specs.declared.written.Choice.{Choice}
-use Rattle.register_sheets.specs.Choices.{asked_targets, called_for, in_both_styles, register_entry}
+use Rattle.date_texts.specs.declared.calendar.Calendar.TheVariants.{Gregorian, Julian}
+use Rattle.written_dates.specs.declared.fields.CalendarMeaning.{CalendarMeaning}
+use Rattle.written_dates.specs.declared.fields.CalendarMeaning.TheVariants.{One, Both, Changed}
+use Rattle.register_sheets.specs.CalendarChanges.{EndText, IsAtChange}
+use Rattle.register_sheets.specs.Choices.{asked_targets, meaning_for, row_entry}
+use Rattle.register_sheets.specs.declared.calendar_changes.EndCalendar.{EndCalendar}
+use Rattle.register_sheets.specs.declared.calendar_changes.EndCalendar.TheVariants.{OfRecord, OldStyle, Neither}
 use Rattle.register_sheets.specs.declared.choices.DateColumn.{DateColumn}
 use Rattle.register_sheets.specs.declared.choices.End.{End}
 use Rattle.register_sheets.specs.declared.choices.End.TheVariants as ends
@@ -36,28 +42,62 @@ AreEndsBy spans.Ends reading calendar names field first last found = IsSpan read
 AreEndsBy spans.EndsAndEdtf reading calendar names field first last found =
     IsSpan reading calendar names field first last found
 
--- in both styles it is one day: the Gregorian date that is written for it
-abbrev pub AreEndsIn : Bool → Spans → Choice → Option Calendar → List Name → List ℕ → List ℕ → List ℕ → Marks → Type 0
-AreEndsIn true kind reading calendar names field first last found =
-    IsWrittenInBoth reading names field first × (last ≡ first) × (found ≡ day_marks)
-AreEndsIn false kind reading calendar names field first last found =
-    AreEndsBy kind reading calendar names field first last found
+-- both are in the calendar of the record
+abbrev pub AreOfRecord : EndText → EndText → Type 0
+AreOfRecord first last = (first.calendar ≡ OfRecord) × (last.calendar ≡ OfRecord)
 
--- those of a record's date in a column, in both styles or by the rules of dates in the calendar that was found
-abbrev pub AreEnds : SheetChoice → DateColumn → Fields → List ℕ → List ℕ → Marks → Type 0
+-- the marks are those found in the calendar of the first day
+abbrev pub marks_at_change : EndCalendar → Marks → Marks → Marks
+marks_at_change OldStyle julian gregorian = julian
+marks_at_change end julian gregorian = gregorian
+
+-- at a change of calendars: each end by what is written for the field in the one and in the other
+pub record AreAtChange (from : ℤ) (kind : Spans) (reading : Choice) (names : List Name) (field : List ℕ)
+    (first last : EndText) (found : Marks) : Type 0 where
+  pub old_first : List ℕ
+  pub old_last : List ℕ
+  pub old_marks : Marks
+  pub new_first : List ℕ
+  pub new_last : List ℕ
+  pub new_marks : Marks
+  pub julian : AreEndsBy kind reading (Some Julian) names field old_first old_last old_marks
+  pub gregorian : AreEndsBy kind reading (Some Gregorian) names field new_first new_last new_marks
+  pub first_is : IsAtChange from old_first new_first first
+  pub last_is : IsAtChange from old_last new_last last
+  pub marks_are : found ≡ marks_at_change first.calendar old_marks new_marks
+
+-- the ends by what is meant for the record: a calendar, or none; in both styles it is one day, the Gregorian date that is
+-- written for it
+abbrev pub AreEndsIn : Option CalendarMeaning → Spans → Choice → List Name → List ℕ → EndText → EndText → Marks → Type 0
+AreEndsIn None kind reading names field first last found =
+    AreOfRecord first last × AreEndsBy kind reading None names field first.text last.text found
+AreEndsIn (Some (One calendar)) kind reading names field first last found =
+    AreOfRecord first last × AreEndsBy kind reading (Some calendar) names field first.text last.text found
+AreEndsIn (Some Both) kind reading names field first last found =
+    AreOfRecord first last × IsWrittenInBoth reading names field first.text × (last.text ≡ first.text)
+    × (found ≡ day_marks)
+AreEndsIn (Some (Changed from)) kind reading names field first last found =
+    AreAtChange from kind reading names field first last found
+
+-- those of a record's date in a column
+abbrev pub AreEnds : SheetChoice → DateColumn → Fields → EndText → EndText → Marks → Type 0
 AreEnds choice column fields first last found =
-    AreEndsIn (in_both_styles choice.calendars.now column.calendar fields) choice.spans choice.reading
-    (called_for choice column fields) choice.names.now.listed.now (get_or fields column.date []) first last found
+    AreEndsIn (meaning_for choice column fields) choice.spans choice.reading choice.names.now.listed.now
+    (get_or fields column.date []) first last found
 
 -- one of them
-abbrev pub end_text : End → List ℕ → List ℕ → List ℕ
-end_text ends.First first last = first
-end_text ends.Last first last = last
+abbrev pub one_end : End → EndText → EndText → EndText
+one_end ends.First first last = first
+one_end ends.Last first last = last
 
--- the first or the last day: the text of its date, and the row that the table of its register has for it
+-- the first or the last day: its calendar, the text of its date, and its row
 pub record DatedEnd : Type 0 where
+  pub calendar : EndCalendar
   pub text : List ℕ
   pub row : TableRow
+
+abbrev pub as_text : DatedEnd → EndText
+as_text end = record { calendar = end.calendar; text = end.text }
 
 -- no date is written there
 abbrev pub is_open : DatedEnd → Bool
@@ -115,11 +155,11 @@ IsEdtfOf kind dated = IsEdtfIf (has_edtf kind dated.first dated.last) dated
 -- this is what a column has of the record with this number
 pub record IsDated (choice : SheetChoice) (number : ℕ) (fields : Fields) (column : DateColumn) (dated : Dated) : Type 0
   where
-    pub ends : AreEnds choice column fields dated.first.text dated.last.text dated.marks
+    pub ends : AreEnds choice column fields (as_text dated.first) (as_text dated.last) dated.marks
     pub first : IsRowOf (asked_targets choice.columns.now)
-        (register_entry choice column number fields dated.first.text) dated.first.row
+        (row_entry choice column number fields (as_text dated.first)) dated.first.row
     pub last : IsRowOf (asked_targets choice.columns.now)
-        (register_entry choice column number fields dated.last.text) dated.last.row
+        (row_entry choice column number fields (as_text dated.last)) dated.last.row
     pub edtf : IsEdtfOf choice.spans dated
 
 -- the words of marks, with a space (32) between two

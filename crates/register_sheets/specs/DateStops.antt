@@ -18,6 +18,7 @@ use Rattle.written_dates.specs.declared.stops.Stop.{Stop}
 use Rattle.written_dates.specs.declared.stops.Stop.TheVariants as stops
 use Rattle.written_dates.specs.declared.written.Choice.{Choice}
 use Rattle.date_spans.specs.declared.spans.Marks.{Marks}
+use Rattle.register_sheets.specs.CalendarChanges.{EndText}
 use Rattle.register_sheets.specs.Choices.{called_for}
 use Rattle.register_sheets.specs.DateEnds.{AreEnds}
 use Rattle.register_sheets.specs.declared.choices.CalendarField.{CalendarField}
@@ -107,8 +108,8 @@ calendar_stop [] = inr reasons.NoCalendar
 calendar_stop (byte ∷ name) = inl (byte ∷ name, None)
 
 abbrev pub calendar_field : CalendarField → Fields → List ℕ
-calendar_field (calendar.All calendar) fields = []
-calendar_field (calendar.Column place) fields = get_or fields place []
+calendar_field (calendar.All meaning) fields = []
+calendar_field (calendar.Column column) fields = get_or fields column.place []
 
 abbrev pub unless_empty : List ℕ → DateStop → Option DateStop
 unless_empty [] stop = None
@@ -129,11 +130,11 @@ SheetDate = DateColumn × Fields
 
 -- this stops it: the text of its first day is what is written for it
 pub record IsStopOf (choice : SheetChoice) (date : SheetDate) (found : Option DateStop) : Type 0 where
-  pub first : List ℕ
-  pub last : List ℕ
+  pub first : EndText
+  pub last : EndText
   pub marks : Marks
   pub ends : AreEnds choice date.0 date.1 first last marks
-  pub stop : IsStopBy choice date.0 date.1 first (called_for choice date.0 date.1) found
+  pub stop : IsStopBy choice date.0 date.1 first.text (called_for choice date.0 date.1) found
 
 -- the name that stopped a date
 abbrev pub name_in : Option DateStop → Option NameStop

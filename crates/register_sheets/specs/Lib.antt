@@ -3,6 +3,7 @@ pub mod Reading
 pub mod LineViews
 pub mod NameMeanings
 pub mod NameLists
+pub mod CalendarChanges
 pub mod Choices
 pub mod ChurchNames
 pub mod ChoiceViews

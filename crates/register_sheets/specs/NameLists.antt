@@ -10,7 +10,6 @@ use Rattle.date_texts.specs.Trimmed.{trimmed}
 use Rattle.date_texts.specs.declared.calendar.Calendar.{Calendar}
 use Rattle.register_records.specs.Entries.{Fields}
 use Rattle.written_dates.specs.declared.fields.CalendarMeaning.{CalendarMeaning}
-use Rattle.written_dates.specs.declared.fields.CalendarMeaning.TheVariants as meant
 use Rattle.written_dates.specs.declared.fields.CalendarName.{CalendarName}
 use Rattle.written_dates.specs.declared.meanings.Calendars.{Calendars}
 use Rattle.written_dates.specs.declared.meanings.Meaning.{Meaning}
@@ -135,14 +134,13 @@ calendar_seen name = (name.text.now, name.meaning)
 
 -- what a name means in the field of a calendar, if it does
 abbrev pub calendar_in : Means → Option CalendarMeaning
-calendar_in (means.Calendar calendar) = Some (meant.One calendar)
-calendar_in means.Both = Some meant.Both
+calendar_in (means.Calendar meaning) = Some meaning
 calendar_in other = None
 
 abbrev pub of_calendar : NameLine → Option CalendarMeaning → List (List ℕ × CalendarMeaning)
 of_calendar line None = []
 of_calendar line (Some meaning) = (line.text.items, meaning) ∷ []
 
--- the names of a list that mean a calendar or both styles
+-- the names of a list that mean something there
 abbrev pub calendar_names_in : List NameLine → List (List ℕ × CalendarMeaning)
 calendar_names_in lines = flat_map (λ line. of_calendar line (calendar_in line.means)) lines

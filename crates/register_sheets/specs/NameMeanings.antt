@@ -7,10 +7,18 @@ use Rattle.church_year.specs.declared.feasts.Feast.{Feast}
 use Rattle.church_year.specs.declared.feasts.Feast.TheVariants.{Day, Sunday}
 use Rattle.church_year.specs.declared.feasts.Season.{Season}
 use Rattle.church_year.specs.declared.feasts.Season.TheVariants as seasons
+use Rattle.day_numbers.specs.Days.{IsDayNumber}
 use Rattle.day_numbers.specs.declared.day.Weekday.{Weekday}
 use Rattle.day_numbers.specs.declared.day.Weekday.TheVariants as weekdays
 use Rattle.date_texts.specs.Calendars.{calendar_name}
+use Rattle.date_texts.specs.DateText.{IsDateText}
+use Rattle.date_texts.specs.Dates.{IsDateOfCalendar, day_number_of_date}
 use Rattle.date_texts.specs.Names.{IsNamed}
+use Rattle.date_texts.specs.declared.calendar.Calendar.{Calendar}
+use Rattle.date_texts.specs.declared.calendar.Calendar.TheVariants.{Gregorian}
+use Rattle.date_texts.specs.declared.date.Date.{Date}
+use Rattle.written_dates.specs.declared.fields.CalendarMeaning.{CalendarMeaning}
+use Rattle.written_dates.specs.declared.fields.CalendarMeaning.TheVariants.{One, Both, Changed}
 use Rattle.written_dates.specs.declared.meanings.Mark.{Mark}
 use Rattle.written_dates.specs.declared.meanings.Mark.TheVariants.{Kalends, Nones, Ides}
 use Rattle.written_dates.specs.declared.meanings.Meaning.{Meaning}
@@ -106,9 +114,26 @@ SaysMeaning field (meaning.Feast feast) = SaysFeast field feast
 SaysMeaning field (meaning.Sundays season) = field ≡ codes "sundays " ++ season_name season
 SaysMeaning field (meaning.Word word) = field ≡ word_name word
 
+-- no calendar has the name, which says that the Gregorian calendar is in use from a day on, by its date in it, and the
+-- Julian one before
+pub record SaysChange (field : List ℕ) (from : ℤ) : Type 0 where
+  pub no_calendar : (calendar : Calendar) → ¬ (IsNamed field (calendar_name calendar))
+  pub text : List ℕ
+  pub is : field ≡ codes "julian/gregorian:" ++ text
+  pub date : Date
+  pub says : IsDateText Gregorian text date
+  pub is_date : IsDateOfCalendar date
+  pub day : from ≡ day_number_of_date date
+  pub is_day : IsDayNumber from
+
+-- the field says this of the calendar of dates
+abbrev pub SaysCalendar : List ℕ → CalendarMeaning → Type 0
+SaysCalendar field (One calendar) = IsNamed field (calendar_name calendar)
+SaysCalendar field Both = field ≡ codes "both"
+SaysCalendar field (Changed from) = SaysChange field from
+
 -- the field says this of a name
 abbrev pub Says : List ℕ → Means → Type 0
 Says field (means.InDates meaning) = SaysMeaning field meaning
-Says field (means.Calendar calendar) = IsNamed field (calendar_name calendar)
-Says field means.Both = field ≡ codes "both"
+Says field (means.Calendar meaning) = SaysCalendar field meaning
 Says field means.Open = field ≡ codes "?"

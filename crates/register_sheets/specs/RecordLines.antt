@@ -1,9 +1,10 @@
 -- The lines that are made of a sheet's records.
 use Rattle.std.specs.Prelude.{ℕ, List, [], ◌∷◌, Option, None, Some, slice_get}
 use Rattle.register_records.specs.Entries.{Fields}
+use Rattle.register_sheets.specs.CalendarChanges.{EndText, end_calendar}
 use Rattle.register_sheets.specs.Choices.{id_text}
 use Rattle.register_sheets.specs.Converted.{body_record}
-use Rattle.register_sheets.specs.DateEnds.{end_text}
+use Rattle.register_sheets.specs.DateEnds.{as_text, one_end}
 use Rattle.register_sheets.specs.SheetRecords.{DateRead, RecordRead, rows_read}
 use Rattle.register_sheets.specs.declared.choices.End.{End}
 use Rattle.register_sheets.specs.declared.choices.SheetChoice.{SheetChoice}
@@ -13,10 +14,13 @@ abbrev pub body_line : ℕ → SheetChoice → RecordRead → Fields
 body_line width choice read = body_record width choice read.fields (rows_read read)
 
 -- that of a register of a column of dates
+abbrev pub entry_at : SheetChoice → RecordRead → List ℕ → EndText → Fields
+entry_at choice read calendar end =
+    id_text choice.id read.number read.fields ∷ end_calendar end.calendar calendar ∷ end.text ∷ []
+
 abbrev pub entry_of : SheetChoice → RecordRead → End → DateRead → Fields
 entry_of choice read end date =
-    id_text choice.id read.number read.fields ∷ date.calendar
-    ∷ end_text end date.dated.first.text date.dated.last.text ∷ []
+    entry_at choice read date.calendar (one_end end (as_text date.dated.first) (as_text date.dated.last))
 
 abbrev pub if_dated : SheetChoice → RecordRead → End → Option DateRead → Fields
 if_dated choice read end None = []

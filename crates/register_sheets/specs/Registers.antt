@@ -2,9 +2,10 @@
 use Rattle.std.specs.Prelude.{◌≡◌, ◌⊎◌, ◌+◌, ◌<◌, ◌≤◌, ⊤, ℕ, List, [], ◌∷◌, codes, length, take}
 use Rattle.register_records.specs.Entries.{Fields, record_limit}
 use Rattle.date_spans.specs.declared.spans.Marks.{Marks}
+use Rattle.register_sheets.specs.CalendarChanges.{EndText}
 use Rattle.register_sheets.specs.Choices.{register_record}
 use Rattle.register_sheets.specs.Converted.{below}
-use Rattle.register_sheets.specs.DateEnds.{AreEnds, end_text}
+use Rattle.register_sheets.specs.DateEnds.{AreEnds, one_end}
 use Rattle.register_sheets.specs.Sheets.{records_text}
 use Rattle.register_sheets.specs.declared.choices.DateColumn.{DateColumn}
 use Rattle.register_sheets.specs.declared.choices.End.{End}
@@ -13,11 +14,11 @@ use Rattle.register_sheets.specs.declared.choices.SheetChoice.{SheetChoice}
 -- this is what the register of the first or the last days of a column has of the record with this number
 pub record IsEntry (choice : SheetChoice) (column : DateColumn) (end : End) (number : ℕ) (fields entry : Fields)
     : Type 0 where
-  pub first : List ℕ
-  pub last : List ℕ
+  pub first : EndText
+  pub last : EndText
   pub marks : Marks
   pub ends : AreEnds choice column fields first last marks
-  pub is : entry ≡ register_record choice column number fields (end_text end first last)
+  pub is : entry ≡ register_record choice column number fields (one_end end first last)
 
 -- what it has of these records, the first of which has the number after k
 abbrev pub AreEntries : SheetChoice → DateColumn → End → ℕ → List Fields → List Fields → Type 0

@@ -1,5 +1,6 @@
 -- What is read of a record of a sheet.
 use Rattle.std.specs.Prelude.{◌≡◌, ◌+◌, ◌∷◌, [], ⊤, ℕ, Bool, false, true, List, Option, None, Some, map}
+use Rattle.std.specs.Prelude.{if◌then◌else◌}
 use mathlib.Core.Logic.{inl, inr}
 use Rattle.std.specs.List.{AllZip}
 use Rattle.csv.specs.Records.{fields_of}
@@ -9,6 +10,7 @@ use Rattle.register_sheets.specs.Choices.{calendar_text, called_for}
 use Rattle.register_sheets.specs.DateEnds.{Dated, DatedEnd, IsDated}
 use Rattle.register_sheets.specs.DateStops.{DateStop, IsStopBy}
 use Rattle.register_sheets.specs.declared.choices.DateColumn.{DateColumn}
+use Rattle.register_sheets.specs.declared.end_texts.EndTexts.{EndTexts}
 use Rattle.register_sheets.specs.declared.choices.SheetChoice.{SheetChoice}
 use Rattle.register_sheets.specs.declared.sheet_records.ColumnDates.{ColumnDates}
 use Rattle.register_sheets.specs.declared.sheet_records.ReadEnd.{ReadEnd}
@@ -62,7 +64,11 @@ abbrev pub stop_read : ReadStop → Option DateStop
 stop_read stop = stop_of_kind stop.kind stop.name.items
 
 abbrev pub end_seen : ReadEnd → DatedEnd
-end_seen end = record { text = end.text.items; row = row_seen end.row }
+end_seen end = record { calendar = end.calendar; text = end.text.items; row = row_seen end.row }
+
+-- the text of a last day
+abbrev pub last_text : EndTexts → List ℕ
+last_text ends = if ends.has_last then ends.last.items else ends.first.items
 
 -- the last day is a day of its own where its text is another than that of the first
 abbrev pub last_seen : Bool → ReadEnd → ReadEnd → DatedEnd

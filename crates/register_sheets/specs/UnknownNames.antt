@@ -12,6 +12,7 @@ use Rattle.written_dates.specs.Words.{same_word}
 use Rattle.date_spans.specs.declared.sayings.Kind.{Kind}
 use Rattle.date_spans.specs.declared.sayings.Kind.TheVariants as kinds
 use Rattle.date_spans.specs.declared.spans.Marks.{Marks}
+use Rattle.register_sheets.specs.CalendarChanges.{EndText}
 use Rattle.register_sheets.specs.DateEnds.{AreEnds}
 use Rattle.register_sheets.specs.Converted.{below}
 use Rattle.register_sheets.specs.DateStops.{DateStop, IsStopOf, NameStop, SheetDate, count_of, is_for, name_in}
@@ -78,11 +79,11 @@ abbrev pub is_short_by : List ℕ → List ℕ → List ℕ → Marks → Bool
 is_short_by field first last marks = is_emptied field first && is_emptied field last && not (is_beside marks.kind)
 
 pub record IsShort (choice : SheetChoice) (date : SheetDate) (short : Bool) : Type 0 where
-  pub first : List ℕ
-  pub last : List ℕ
+  pub first : EndText
+  pub last : EndText
   pub marks : Marks
   pub ends : AreEnds choice date.0 date.1 first last marks
-  pub is : short ≡ is_short_by (get_or date.1 date.0.date []) first last marks
+  pub is : short ≡ is_short_by (get_or date.1 date.0.date []) first.text last.text marks
 
 -- of these dates, which these stopped, so many were stopped by a name, so many are left empty for their short year, and so
 -- many stay for each reason

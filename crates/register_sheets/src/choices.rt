@@ -10,10 +10,10 @@ ghost use Rattle.register_sheets.specs.Choices.{asks_twice, column_limit};
 ghost use Rattle.register_sheets.specs.Choices.{date_limit, is_church, is_day_number, is_weekday, target_in};
 ghost use Rattle.register_sheets.specs.ChoiceViews.{HasFault};
 
-use date_texts::{Calendar, MAX_TARGETS, Target};
+use date_texts::{MAX_TARGETS, Target};
 use register_records::{Form, Setup, SetupFault};
 use thiserror::Error;
-use written_dates::{CalendarNames, Choice, Names};
+use written_dates::{CalendarMeaning, CalendarNames, Choice, Names};
 
 /// The most columns of dates.
 pub const MAX_DATES: usize = 8;
@@ -30,13 +30,22 @@ pub enum IdField {
     Number,
 }
 
+/// A column of calendars.
+#[derive(Clone, Copy, PartialEq, Eq)]
+pub struct CalendarColumn {
+    /// Where the calendar of a record is.
+    pub place: u32,
+    /// What is meant where nothing but blanks stands there.
+    pub otherwise: Option<CalendarMeaning>,
+}
+
 /// Where the calendar of a date is.
 #[derive(Clone, Copy, PartialEq, Eq)]
 pub enum CalendarField {
     /// In a column.
-    Column(u32),
-    /// All dates of the column have this one.
-    All(Calendar),
+    Column(CalendarColumn),
+    /// This is meant for all dates of the column.
+    All(CalendarMeaning),
 }
 
 /// A column of dates.

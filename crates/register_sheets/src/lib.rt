@@ -7,10 +7,12 @@
 
 mod asked;
 mod asked_of_sheets;
+mod calendar_changes;
 mod choices;
 mod converting;
 mod date_counts;
 mod date_marks;
+mod end_texts;
 mod feast_names;
 mod line_writers;
 mod lines;
@@ -41,13 +43,13 @@ mod unread_dates;
 
 pub use asked_of_sheets::{AskedByNames, AskedOfSheet};
 pub use choices::{
-    AskedColumn, CalendarField, ChoiceFault, DateColumn, End, IdField, MAX_COLUMNS, MAX_DATES,
+    AskedColumn, CalendarColumn, CalendarField, ChoiceFault, DateColumn, End, IdField, MAX_COLUMNS, MAX_DATES,
     SheetChoice, SheetSetup, Spans,
 };
 pub use converting::{OutputsEnd, convert_outputs, convert_sheet};
 pub use date_counts::{DateCounts, SheetCounts};
 pub use name_lists::{NameLine, NameList, NameListFault};
-pub use name_meanings::Means;
+pub use name_meanings::{Means, calendar_said};
 pub use reading::{field_at, head_record, read_next, records_of};
 pub use reasons::{Reason, ReasonCounts};
 pub use registers::write_register;

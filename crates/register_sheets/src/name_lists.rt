@@ -86,8 +86,7 @@ fn calendar_in(means: Means) -> Option<CalendarMeaning>
     ensures { result ≡ calendar_spec means }
 {
     match means {
-        Means::Calendar(calendar) => Some(CalendarMeaning::One(calendar)),
-        Means::Both => Some(CalendarMeaning::Both),
+        Means::Calendar(meaning) => Some(meaning),
         _ => None,
     }
 }

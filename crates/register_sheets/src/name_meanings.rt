@@ -1,18 +1,23 @@
 //! What the second field of a list says.
 
-ghost use Rattle.std.specs.Prelude.{◌≡◌, ◌<◌, ◌^◌, ◌↔◌, ◌++◌, ℕ, None, IfSome, codes, true};
+ghost use Rattle.std.specs.Prelude.{◌≡◌, ◌<◌, ◌^◌, ◌↔◌, ◌++◌, ℕ, ℤ, None, IfSome, codes, true};
 ghost use Rattle.std.specs.Fmt.{decimal};
-ghost use Rattle.register_sheets.specs.NameMeanings.{IsNumberIn, IsWordAndNumber, Says};
+ghost use Rattle.date_texts.specs.Calendars.{calendar_name};
+ghost use Rattle.date_texts.specs.Names.{IsNamed};
+ghost use Rattle.date_texts.specs.declared.calendar.Calendar.{Calendar as CalendarValue};
+ghost use Rattle.register_sheets.specs.NameMeanings.{IsNumberIn, IsWordAndNumber, Says, SaysCalendar, SaysChange};
+ghost use Rattle.written_dates.specs.declared.fields.CalendarMeaning.{CalendarMeaning as CalendarMeaningValue};
 ghost use Rattle.register_sheets.specs.NameMeanings.{SaysMeaning, mark_name, relation_name, season_name, weekday_name, word_name};
 ghost use Rattle.register_sheets.specs.declared.name_meanings.Means.{Means as MeansValue};
 ghost use Rattle.written_dates.specs.declared.meanings.Meaning.{Meaning as MeaningValue};
 
 use crate::feast_names::{feast_said, season_said};
 use church_year::Season;
-use date_texts::{Calendar, calendar_named};
+use date_texts::laws::one_date_text;
+use date_texts::{Calendar, calendar_named, day_of_date, read_date};
 use day_numbers::Weekday;
 use itoa::Buffer;
-use written_dates::{Mark, Meaning, Relation, Word};
+use written_dates::{CalendarMeaning, Mark, Meaning, Relation, Word};
 
 /// The largest number that a name can mean.
 const MAX_NUMBER: u32 = 999_999_999;
@@ -22,10 +27,8 @@ const MAX_NUMBER: u32 = 999_999_999;
 pub enum Means {
     /// This, in dates.
     InDates(Meaning),
-    /// This calendar.
-    Calendar(Calendar),
-    /// Both styles, where the calendar of a date stands.
-    Both,
+    /// This, where the calendar of a date stands.
+    Calendar(CalendarMeaning),
     /// That is not said yet.
     Open,
 }
@@ -178,6 +181,38 @@ fn meaning_said(field: &str) -> Option<Meaning>
     }
 }
 
+/// The number of the day from which on the Gregorian calendar is in use, by `julian/gregorian:` and its date.
+fn change_said(field: &str) -> Option<i64>
+    requires { (calendar : CalendarValue) → ¬ (IsNamed field.now (calendar_name calendar)) }
+    ensures some { IfSome result (SaysChange field.now) }
+    ensures none { result ≡ None → (from : ℤ) → ¬ SaysChange field.now from }
+{
+    one_date_text();
+    let text = field.strip_prefix("julian/gregorian:")?;
+    let Ok(date) = read_date(Calendar::Gregorian, text) else {
+        return None;
+    };
+    match day_of_date(&date) {
+        Ok(day) => Some(day.number()),
+        Err(_) => None,
+    }
+}
+
+/// What a word says of the calendar of dates: the name of a calendar, `both`, or `julian/gregorian:` and the Gregorian
+/// date of the day from which on that calendar is in use. `None` exactly where it says nothing of it.
+pub fn calendar_said(word: &str) -> Option<CalendarMeaning>
+    ensures some { IfSome result (SaysCalendar word.now) }
+    ensures none { result ≡ None → (meaning : CalendarMeaningValue) → ¬ SaysCalendar word.now meaning }
+{
+    if let Some(calendar) = calendar_named(word) {
+        Some(CalendarMeaning::One(calendar))
+    } else if word == "both" {
+        Some(CalendarMeaning::Both)
+    } else {
+        Some(CalendarMeaning::Changed(change_said(word)?))
+    }
+}
+
 /// What a field says; `None` exactly where it says nothing.
 pub(crate) fn means_said(field: &str) -> Option<Means>
     ensures some { IfSome result (λ means. Says field.now means) }
@@ -185,11 +220,9 @@ pub(crate) fn means_said(field: &str) -> Option<Means>
 {
     if field == "?" {
         Some(Means::Open)
-    } else if field == "both" {
-        Some(Means::Both)
     } else if let Some(meaning) = meaning_said(field) {
         Some(Means::InDates(meaning))
     } else {
-        Some(Means::Calendar(calendar_named(field)?))
+        Some(Means::Calendar(calendar_said(field)?))
     }
 }

@@ -154,6 +154,7 @@ fn push_entry(
     let mut buffer = Buffer::new();
     let number = buffer.format(of_sheet.number).as_bytes();
     lines.push(id_of(setup.choice.id, number, &of_sheet.fields))?;
-    lines.push(dates.calendar.as_slice())?;
-    lines.push(dates.end(end).text.as_slice())
+    let end = dates.end(end);
+    lines.push(end.calendar.name(dates.calendar.as_slice()))?;
+    lines.push(end.text.as_slice())
 }

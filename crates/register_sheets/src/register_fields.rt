@@ -1,9 +1,11 @@
 //! The records that the register of a column of dates has.
 
-ghost use Rattle.std.specs.Prelude.{◌≡◌, ℕ};
+ghost use Rattle.std.specs.Prelude.{◌≡◌, ℕ, option_map};
 ghost use Rattle.csv.specs.Records.{fields_of};
-ghost use Rattle.written_dates.specs.Fields.{calendar_meant, entries, is_both as both_spec, written_calendar};
-ghost use Rattle.register_sheets.specs.Choices.{calendar_called as called_spec, calendar_text, id_text, in_both_styles};
+ghost use Rattle.written_dates.specs.Fields.{calendar_of as meant_of, without_blanks as without_spec};
+ghost use Rattle.register_sheets.specs.Choices.{calendar_called as called_spec, calendar_text, id_text};
+ghost use Rattle.register_sheets.specs.Choices.{if_empty as empty_spec, meaning_in, meant_in as in_spec};
+ghost use Rattle.register_sheets.specs.Choices.{one_called as one_spec};
 ghost use Rattle.std.specs.Fmt.{decimal};
 
 use crate::choices::{CalendarField, IdField};
@@ -11,7 +13,7 @@ use crate::reading::field_at;
 use csv::ByteRecord;
 use date_texts::{Calendar, calendar_named};
 use std::str;
-use written_dates::{CalendarNames, is_both};
+use written_dates::{CalendarMeaning, CalendarNames, without_blanks};
 
 /// The calendar that a text of a register names.
 pub(crate) fn calendar_called(text: &[u8]) -> Option<Calendar>
@@ -23,40 +25,68 @@ pub(crate) fn calendar_called(text: &[u8]) -> Option<Calendar>
     }
 }
 
-/// What a register gets for a field by the names, the calendar that this names, and whether dates stand in both styles.
-fn calendar_of_field<'a>(
-    names: &CalendarNames,
-    field: &'a [u8],
-) -> (&'a [u8], Option<Calendar>, bool)
-    ensures text { result.0.now ≡ written_calendar (entries names.now) field.now }
-    ensures called { result.1 ≡ called_spec (written_calendar (entries names.now) field.now) }
-    ensures both { result.2 ≡ both_spec (calendar_meant (entries names.now) field.now) }
+/// What is meant where nothing but blanks stands in the field of a calendar.
+fn if_empty(otherwise: Option<CalendarMeaning>, field: &[u8]) -> Option<CalendarMeaning>
+    ensures { result ≡ empty_spec otherwise (without_spec field.now) }
 {
-    let meant = names.meant(field);
-    let both = is_both(meant);
-    match meant {
-        Some(meaning) => {
-            let calendar = meaning.calendar();
-            (calendar.name().as_bytes(), Some(calendar), both)
-        }
-        None => (field, calendar_called(field), both),
+    match otherwise {
+        Some(_) if without_blanks(field).is_empty() => otherwise,
+        _ => None,
     }
 }
 
-/// The calendar of a record as its register has it, the calendar that this names, and whether its date stands in both
-/// styles.
+/// What a field of a calendar means: by the names, or where it is empty.
+fn meant_in(
+    names: &CalendarNames,
+    otherwise: Option<CalendarMeaning>,
+    field: &[u8],
+) -> Option<CalendarMeaning>
+    ensures { result ≡ in_spec names.now otherwise field.now }
+{
+    match names.meant(field) {
+        Some(meaning) => Some(meaning),
+        None => if_empty(otherwise, field),
+    }
+}
+
+/// The calendar that a field names.
+fn one_called(field: &[u8]) -> Option<CalendarMeaning>
+    ensures { result ≡ one_spec field.now }
+{
+    match calendar_called(field) {
+        Some(calendar) => Some(CalendarMeaning::One(calendar)),
+        None => None,
+    }
+}
+
+/// The calendar of a record as its register has it, and what is meant for its date.
 pub(crate) fn calendar_of<'a>(
     names: &CalendarNames,
     place: CalendarField,
     record: &'a ByteRecord,
-) -> (&'a [u8], Option<Calendar>, bool)
+) -> (&'a [u8], Option<CalendarMeaning>)
     ensures text { result.0.now ≡ calendar_text names.now place (fields_of record.now) }
-    ensures called { result.1 ≡ called_spec (calendar_text names.now place (fields_of record.now)) }
-    ensures both { result.2 ≡ in_both_styles names.now place (fields_of record.now) }
+    ensures meant { result.1 ≡ meaning_in names.now place (fields_of record.now) }
 {
     match place {
-        CalendarField::All(calendar) => (calendar.name().as_bytes(), Some(calendar), false),
-        CalendarField::Column(place) => calendar_of_field(names, field_at(record, place as usize)),
+        CalendarField::All(meaning) => (meaning.calendar().name().as_bytes(), Some(meaning)),
+        CalendarField::Column(column) => {
+            let field = field_at(record, column.place as usize);
+            match meant_in(names, column.otherwise, field) {
+                Some(meaning) => (meaning.calendar().name().as_bytes(), Some(meaning)),
+                None => (field, one_called(field)),
+            }
+        }
+    }
+}
+
+/// The calendar that is meant.
+pub(crate) fn called_by(meaning: Option<CalendarMeaning>) -> Option<Calendar>
+    ensures { result ≡ option_map meant_of meaning }
+{
+    match meaning {
+        Some(meaning) => Some(meaning.calendar()),
+        None => None,
     }
 }
 

@@ -1,6 +1,6 @@
 //! What is read of a record of a sheet: its number, its own fields, and its dates.
 
-ghost use Rattle.std.specs.Prelude.{◌≡◌, ◌≤◌, IfOk, OnOk, length, option_map};
+ghost use Rattle.std.specs.Prelude.{◌≡◌, ◌≤◌, IfOk, IsSome, None, OnOk, Some, length, option_map, true};
 ghost use Rattle.csv.specs.Records.{fields_of};
 ghost use Rattle.register_records.specs.Entries.{record_limit};
 ghost use Rattle.register_records.specs.Outcomes.{IsRowOf};
@@ -8,36 +8,33 @@ ghost use Rattle.register_records.specs.Seen.{outcome_seen};
 ghost use Rattle.register_records.specs.Views.{row_seen};
 ghost use Rattle.register_sheets.specs.Choices.{asked_targets};
 ghost use Rattle.register_sheets.specs.DateCounts.{is_one_day as one_day_spec};
-ghost use Rattle.register_sheets.specs.DateEnds.{AreEndsBy, AreEndsIn, IsEdtfOf, asks_edtf as asks_spec, end_text};
-ghost use Rattle.register_sheets.specs.DateEnds.{has_edtf as has_spec, is_failed, is_open};
+ghost use Rattle.register_sheets.specs.DateEnds.{AreAtChange, AreEndsBy, AreEndsIn, AreOfRecord, IsEdtfOf, as_text};
+ghost use Rattle.register_sheets.specs.DateEnds.{asks_edtf as asks_spec, has_edtf as has_spec, is_failed, is_open, one_end};
 ghost use Rattle.register_sheets.specs.DateEnds.{sense_of as sense_spec, telling as telling_spec, told};
-ghost use Rattle.register_sheets.specs.DateViews.{HasRows, entry_of};
+ghost use Rattle.register_sheets.specs.DateStops.{IsStopBy};
+ghost use Rattle.register_sheets.specs.DateViews.{HasDate, HasRows, end_entry};
 ghost use Rattle.register_sheets.specs.SheetRecords.{IsDateRead, IsRecordRead, date_seen, dated_seen, end_seen};
 ghost use Rattle.register_sheets.specs.SheetRecords.{record_read, stop_read};
 ghost use Rattle.std.specs.Result.{result_ok};
 ghost use Rattle.register_sheets.specs.UnknownViews.{if_stop};
 
+use crate::calendar_changes::{EndCalendar, MAX_DATE, at_change};
 use crate::choices::{DateColumn, End, SheetChoice, SheetSetup, Spans};
+use crate::end_texts::{DAY_MARKS, EndTexts, write_ends};
 use crate::reading::field_at;
 use crate::reasons::Reason;
-use crate::register_fields::{calendar_of, id_of};
+use crate::register_fields::{calendar_of, called_by, id_of};
 use crate::stops::{DateStop, NameStop, stop_by};
 use csv::ByteRecord;
-use date_spans::{Kind, Marks, write_in_both, write_span};
+use date_spans::{Kind, Marks, write_in_both};
+use date_texts::laws::one_calendar;
 use date_texts::{Calendar, Refusal};
 use day_numbers::Day;
 use edtf_texts::{Sense, write_edtf};
 use itoa::Buffer;
 use register_records::{Entry, Row};
 use std::alloc::{AllocError, Global};
-use written_dates::write_date;
-
-/// The marks of a date.
-const DAY_MARKS: Marks = Marks {
-    kind: Kind::One,
-    about: false,
-    uncertain: false,
-};
+use written_dates::CalendarMeaning;
 
 /// What kind of thing stopped a date.
 #[derive(Clone, Copy)]
@@ -55,9 +52,10 @@ pub(crate) struct ReadStop {
     name: Vec<u8>,
 }
 
-/// The first or the last day of a date: its text, and its row.
+/// The first or the last day of a date: what calendar it is in, its text, and its row.
 #[derive(Drop)]
 pub(crate) struct ReadEnd {
+    pub calendar: EndCalendar,
     pub text: Vec<u8>,
     pub row: Row,
 }
@@ -73,6 +71,9 @@ pub(crate) struct ColumnDates {
     pub has_last: bool,
     pub marks: Marks,
     pub edtf: Vec<u8>,
+    // What is written in both calendars where one follows the other.
+    julian: EndTexts,
+    gregorian: EndTexts,
 }
 
 /// A record of a sheet, in memory that serves again.
@@ -134,20 +135,31 @@ impl ReadEnd {
     /// An end before any was read.
     fn blank(alloc: Global) -> ReadEnd {
         ReadEnd {
+            calendar: EndCalendar::OfRecord,
             text: Vec::new(alloc),
             row: Row::blank(),
         }
     }
 
-    /// Makes the row that of the entry with this text.
+    /// Makes these its calendar and its text.
+    fn put(&mut self, calendar: EndCalendar, text: &[u8]) -> Result<(), AllocError>
+        ensures { OnOk result (as_text (end_seen self.new) ≡ record { calendar = calendar; text = text.now }) }
+    {
+        self.calendar = calendar;
+        copy_text(&mut self.text, text)
+    }
+
+    /// Makes the row that of its entry, by what a register names as the calendar of the record.
     fn convert(&mut self, setup: &SheetSetup, number: u32, id: &[u8], calendar: &[u8])
         requires from_one { 1 ≤ number }
         requires limited { number ≤ record_limit }
-        ensures text { self.new.text ≡ self.old.text }
+        ensures text { as_text (end_seen self.new) ≡ as_text (end_seen self.old) }
         ensures row { IsRowOf (asked_targets setup.now.choice.columns.now)
-            (entry_of number id.now calendar.now self.old.text.items) (row_seen self.new.row) }
+            (end_entry number id.now calendar.now (end_seen self.old)) (row_seen self.new.row) }
     {
-        let Some(entry) = Entry::of_fields(number, id, calendar, self.text.as_slice()) else {
+        let calendar = self.calendar.in_row(calendar);
+        let text = self.calendar.date_in_row(self.text.as_slice());
+        let Some(entry) = Entry::of_fields(number, id, calendar, text) else {
             unreachable!()
         };
         self.row.renew(&entry, setup.setup());
@@ -158,6 +170,15 @@ impl ReadEnd {
         ensures { result ≡ is_open (end_seen self.now) }
     {
         self.text.is_empty()
+    }
+
+    /// Whether a date in the calendar of the record is written there, and was accepted.
+    fn has_date(&self) -> bool
+        ensures { result ≡ true → HasDate (end_seen self.now) }
+    {
+        matches!(self.calendar, EndCalendar::OfRecord)
+            && self.text.len() <= MAX_DATE
+            && self.row.outcome().is_ok()
     }
 
     /// Whether a date is written there, and was refused.
@@ -221,6 +242,25 @@ fn sense_of(marks: Marks) -> Sense
     }
 }
 
+/// What stops the date of a record in a column, by the end that is written for it: nothing where its row was accepted.
+fn stop_beside<'a>(
+    choice: &SheetChoice,
+    column: &DateColumn,
+    called: Option<Calendar>,
+    record: &'a ByteRecord,
+    end: &ReadEnd,
+) -> Option<DateStop<'a>>
+    requires { HasDate (end_seen end.now) → IsSome called
+        → IsStopBy choice.now column.now (fields_of record.now) end.now.text.items called None }
+    ensures { IsStopBy choice.now column.now (fields_of record.now) end.now.text.items called (if_stop result) }
+{
+    if end.has_date() && called.is_some() {
+        None
+    } else {
+        stop_by(choice, column, called, record, end.text.as_slice())
+    }
+}
+
 impl ColumnDates {
     /// What a column has before any date was read.
     fn blank(alloc: Global) -> ColumnDates {
@@ -232,6 +272,8 @@ impl ColumnDates {
             has_last: false,
             marks: DAY_MARKS,
             edtf: Vec::new(alloc),
+            julian: EndTexts::blank(alloc),
+            gregorian: EndTexts::blank(alloc),
         }
     }
 
@@ -248,8 +290,8 @@ impl ColumnDates {
 
     /// One of both.
     pub fn end(&self, end: End) -> &ReadEnd
-        ensures { (end_seen result.now).text
-            ≡ end_text end (dated_seen self.now).first.text (dated_seen self.now).last.text }
+        ensures { as_text (end_seen result.now)
+            ≡ one_end end (as_text (dated_seen self.now).first) (as_text (dated_seen self.now).last) }
     {
         match end {
             End::First => &self.first,
@@ -281,7 +323,7 @@ impl ColumnDates {
         }
     }
 
-    /// Writes the first and the last day that a field can mean in a calendar, as date texts of registers.
+    /// Writes the first and the last day that a field can mean in the calendar of the record, or in none.
     fn put_in_calendar(
         &mut self,
         choice: &SheetChoice,
@@ -290,55 +332,78 @@ impl ColumnDates {
     ) -> Result<(), AllocError>
         ensures ends { OnOk result (AreEndsBy choice.now.spans choice.now.reading called choice.now.names.now.listed.now
             field.now (dated_seen self.new).first.text (dated_seen self.new).last.text self.new.marks) }
+        ensures of_record { OnOk result (AreOfRecord (as_text (dated_seen self.new).first)
+            (as_text (dated_seen self.new).last)) }
         ensures calendar { self.new.calendar ≡ self.old.calendar }
     {
-        match choice.spans {
-            Spans::Unread => {
-                self.has_last = false;
-                self.marks = DAY_MARKS;
-                self.first.text.clear();
-                write_date(
-                    &mut self.first.text,
-                    field,
-                    called,
-                    choice.names,
-                    &choice.reading,
-                )
-            }
-            _ => {
-                self.marks = write_span(
-                    &mut self.first.text,
-                    &mut self.last.text,
-                    field,
-                    called,
-                    choice.names,
-                    &choice.reading,
-                )?;
-                self.has_last = self.first.text.as_slice() != self.last.text.as_slice();
-                Ok(())
-            }
-        }
+        self.first.calendar = EndCalendar::OfRecord;
+        self.last.calendar = EndCalendar::OfRecord;
+        let (first, last) = (&mut self.first.text, &mut self.last.text);
+        let (has_last, marks) = write_ends(first, last, choice, called, field)?;
+        self.has_last = has_last;
+        self.marks = marks;
+        Ok(())
     }
 
-    /// Writes them for a field in both styles, or in a calendar.
-    fn put_ends(
-        &mut self,
-        choice: &SheetChoice,
-        called: Option<Calendar>,
-        both: bool,
-        field: &[u8],
-    ) -> Result<(), AllocError>
-        ensures ends { OnOk result (AreEndsIn both choice.now.spans choice.now.reading called
-            choice.now.names.now.listed.now field.now (dated_seen self.new).first.text (dated_seen self.new).last.text
-            self.new.marks) }
+    /// Writes the Gregorian date of a field in both styles.
+    fn put_in_both(&mut self, choice: &SheetChoice, field: &[u8]) -> Result<(), AllocError>
+        ensures ends { OnOk result (AreEndsIn (Some CalendarMeaning.Both) choice.now.spans choice.now.reading
+            choice.now.names.now.listed.now field.now (as_text (dated_seen self.new).first)
+            (as_text (dated_seen self.new).last) self.new.marks) }
         ensures calendar { self.new.calendar ≡ self.old.calendar }
     {
-        if !both {
-            return self.put_in_calendar(choice, called, field);
-        }
+        self.first.calendar = EndCalendar::OfRecord;
         self.has_last = false;
         self.marks = DAY_MARKS;
         write_in_both(&mut self.first.text, field, choice.names, &choice.reading)
+    }
+
+    /// Writes the first and the last day that a field can mean at a change of calendars.
+    fn put_at_change(
+        &mut self,
+        choice: &SheetChoice,
+        from: i64,
+        field: &[u8],
+    ) -> Result<(), AllocError>
+        ensures ends { OnOk result (AreAtChange from choice.now.spans choice.now.reading
+            choice.now.names.now.listed.now field.now (as_text (dated_seen self.new).first)
+            (as_text (dated_seen self.new).last) self.new.marks) }
+        ensures calendar { self.new.calendar ≡ self.old.calendar }
+    {
+        self.julian.put(choice, Some(Calendar::Julian), field)?;
+        self.gregorian.put(choice, Some(Calendar::Gregorian), field)?;
+        let (calendar, text) = at_change(from, self.julian.first(), self.gregorian.first());
+        self.first.put(calendar, text)?;
+        let (end, text) = at_change(from, self.julian.last(), self.gregorian.last());
+        self.last.put(end, text)?;
+        self.has_last = true;
+        self.marks = match calendar {
+            EndCalendar::OldStyle => self.julian.marks,
+            _ => self.gregorian.marks,
+        };
+        Ok(())
+    }
+
+    /// Writes the first and the last day of a field by what is meant for the record.
+    fn put_ends(
+        &mut self,
+        choice: &SheetChoice,
+        meant: Option<CalendarMeaning>,
+        field: &[u8],
+    ) -> Result<(), AllocError>
+        ensures ends { OnOk result (AreEndsIn meant choice.now.spans choice.now.reading
+            choice.now.names.now.listed.now field.now (as_text (dated_seen self.new).first)
+            (as_text (dated_seen self.new).last) self.new.marks) }
+        ensures calendar { self.new.calendar ≡ self.old.calendar }
+    {
+        match meant {
+            None => self.put_in_calendar(choice, None, field),
+            Some(CalendarMeaning::One(calendar)) => {
+                self.put_in_calendar(choice, Some(calendar), field)
+            }
+            Some(CalendarMeaning::Both) => self.put_in_both(choice, field),
+            Some(CalendarMeaning::Changed(from)) => self.put_at_change(choice, from, field),
+        }
     }
 
     /// Whether the text of EDTF is asked, and no date was refused.
@@ -394,15 +459,16 @@ impl ColumnDates {
             (IsDateRead setup.now.choice number (fields_of fields.now) column.now (date_seen self.new)) }
     {
         let choice = &setup.choice;
-        let (calendar, called, both) = calendar_of(choice.calendars, column.calendar, fields);
+        let (calendar, meant) = calendar_of(choice.calendars, column.calendar, fields);
         copy_text(&mut self.calendar, calendar)?;
         let field = field_at(fields, column.date as usize);
-        self.put_ends(choice, called, both, field)?;
-        let stop = stop_by(choice, column, called, fields, self.first.text.as_slice());
-        self.stop.renew(stop)?;
+        self.put_ends(choice, meant, field)?;
         let mut buffer = Buffer::new();
         let id = id_of(choice.id, buffer.format(number).as_bytes(), fields);
         self.convert(setup, number, id);
+        one_calendar();
+        let stop = stop_beside(choice, column, called_by(meant), fields, &self.first);
+        self.stop.renew(stop)?;
         self.put_edtf(choice.spans)
     }
 }

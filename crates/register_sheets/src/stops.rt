@@ -158,7 +158,7 @@ fn calendar_stop(column: CalendarField, record: &ByteRecord) -> DateStop<'_>
 {
     let field = match column {
         CalendarField::All(_) => b"".as_slice(),
-        CalendarField::Column(place) => field_at(record, place as usize),
+        CalendarField::Column(column) => field_at(record, column.place as usize),
     };
     let name = without_blanks(field);
     if name.is_empty() {

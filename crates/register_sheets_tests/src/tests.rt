@@ -1,6 +1,7 @@
 //! Small sheets, and what comes back. The days are from Python's `datetime` (proleptic Gregorian ordinals) and from the
 //! tables of Reingold and Dershowitz.
 
+mod changes;
 mod counts;
 mod dates;
 mod meanings;
@@ -10,7 +11,7 @@ mod table;
 use date_texts::{Calendar, Target};
 use register_records::PlainOutput;
 use register_sheets::{
-    AskedColumn, CalendarField, DateColumn, IdField, ReasonCounts, SheetCause, SheetChoice,
+    AskedColumn, CalendarColumn, CalendarField, DateColumn, IdField, ReasonCounts, SheetCause, SheetChoice,
     SheetEnd, SheetSetup, Spans, Unknown, UnreadDates, convert_sheet, unknown_names,
 };
 use std::alloc::Global;
@@ -50,7 +51,10 @@ const COLUMNS: [AskedColumn; 2] = [
 /// The second field has dates, the third their calendars.
 const ONE_DATE: [DateColumn; 1] = [DateColumn {
     date: 1,
-    calendar: CalendarField::Column(2),
+    calendar: CalendarField::Column(CalendarColumn {
+        place: 2,
+        otherwise: None,
+    }),
 }];
 
 /// What comes behind the sheet's own names.

@@ -2,8 +2,9 @@
 use Rattle.std.specs.Prelude.{◌≡◌, ◌≢◌, ◌<◌, ◌+◌, ◌⊎◌, ℕ, List, [], Option, None, Some, get_or, length, slice_get}
 use Rattle.clap.specs.Words.{Text}
 use Rattle.command_lines.specs.Values.{IsNumberWord}
-use Rattle.date_texts.specs.declared.calendar.Calendar.{Calendar}
 use Rattle.register_records.specs.Entries.{Fields}
+use Rattle.register_sheets.specs.NameMeanings.{SaysCalendar}
+use Rattle.register_sheets.specs.declared.choices.CalendarColumn.{CalendarColumn}
 use Rattle.register_sheets.specs.declared.choices.CalendarField.{CalendarField}
 use Rattle.register_sheets.specs.declared.choices.CalendarField.TheVariants as calendar
 use Rattle.register_sheets.specs.declared.choices.DateColumn.{DateColumn}
@@ -11,6 +12,7 @@ use Rattle.register_sheets.specs.declared.choices.IdField.{IdField}
 use Rattle.register_sheets.specs.declared.choices.IdField.TheVariants as id
 use Rattle.sheet_arguments.specs.Requests.{CalendarsWanted, Task, all_have, in_columns}
 use Rattle.written_dates.specs.Fields.{without_blanks}
+use Rattle.written_dates.specs.declared.fields.CalendarMeaning.{CalendarMeaning}
 
 -- at this index stands the first of these names of which this holds
 pub record IsFirst (Holds : Text → Type 0) (names : Fields) (index : ℕ) : Type 0 where
@@ -53,13 +55,19 @@ IsIdField names (Some word) field = (index : ℕ) × (field ≡ id.Column index)
 abbrev pub IsItsOwn : {A : Type 0} → List A → ℕ → A → Type 0
 IsItsOwn xs index x = ((length xs ≡ 1) × (slice_get xs 0 ≡ Some x)) ⊎ ((length xs ≢ 1) × (slice_get xs index ≡ Some x))
 
+-- what a word says for empty fields, if there is one
+abbrev pub SaysElse : Option Text → Option CalendarMeaning → Type 0
+SaysElse None meant = meant ≡ None
+SaysElse (Some word) meant = (meaning : CalendarMeaning) × (meant ≡ Some meaning) × SaysCalendar word meaning
+
 -- the calendars of the column of dates at an index
 abbrev pub IsCalendarField : Fields → CalendarsWanted → ℕ → CalendarField → Type 0
-IsCalendarField names (in_columns words) index field =
-    (word : Text) × IsItsOwn words index word × (column : ℕ) × (field ≡ calendar.Column column)
-    × IsColumn names word column
-IsCalendarField names (all_have calendars) index field =
-    (one : Calendar) × IsItsOwn calendars index one × (field ≡ calendar.All one)
+IsCalendarField names (in_columns words otherwise) index field =
+    (word : Text) × IsItsOwn words index word × (column : CalendarColumn) × (field ≡ calendar.Column column)
+    × IsColumn names word column.place × SaysElse otherwise column.otherwise
+IsCalendarField names (all_have words) index field =
+    (word : Text) × IsItsOwn words index word × (meaning : CalendarMeaning) × (field ≡ calendar.All meaning)
+    × SaysCalendar word meaning
 
 -- the column of dates at an index
 pub record IsDateColumn (names : Fields) (task : Task) (index : ℕ) (column : DateColumn) : Type 0 where

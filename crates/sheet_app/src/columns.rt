@@ -4,15 +4,17 @@ ghost use Rattle.std.specs.Prelude.{◌≡◌, ◌≤◌, ◌^◌, ◌⊎◌, �
 ghost use Rattle.csv.specs.Records.{fields_of};
 ghost use Rattle.sheet_arguments.specs.Requests.{task_of};
 ghost use Rattle.sheet_app.specs.Columns.{AreDateColumns, HoldsOfNone, IsBareWord, IsCalendarField, IsColumn, IsFirst};
-ghost use Rattle.sheet_app.specs.Columns.{IsIdField, IsItsOwn, IsWord, NamesNoColumn};
+ghost use Rattle.register_sheets.specs.NameMeanings.{SaysCalendar};
+ghost use Rattle.sheet_app.specs.Columns.{IsIdField, IsItsOwn, IsWord, NamesNoColumn, SaysElse};
 
 use command_lines::number_named;
 use csv::ByteRecord;
-use date_texts::Calendar;
-use register_sheets::{CalendarField, DateColumn, IdField, field_at};
+use register_sheets::{
+    CalendarColumn, CalendarField, DateColumn, IdField, calendar_said, field_at,
+};
 use sheet_arguments::{CalendarsAsked, Job};
 use std::alloc::{AllocError, Global};
-use written_dates::without_blanks;
+use written_dates::{CalendarMeaning, without_blanks};
 
 /// Why columns are not found.
 #[derive(Clone, Copy)]
@@ -104,16 +106,6 @@ pub fn id_named<'a>(names: &ByteRecord, id: Option<&'a str>) -> Result<IdField, 
     }
 }
 
-/// The calendar at an index of a list, or its only one.
-fn calendar_at(calendars: &[Calendar], index: usize) -> Option<Calendar>
-    ensures { IfSome result (λ calendar. IsItsOwn calendars.now index calendar) }
-{
-    if calendars.len() == 1 {
-        return Some(calendars[0]);
-    }
-    calendars.get(index).copied()
-}
-
 /// The word at an index of a list, or its only one.
 fn word_at<'a>(words: &[&'a str], index: usize) -> Option<&'a str>
     ensures { IfSome result (λ word. IsItsOwn (map (λ w. w.now) words.now) index word.now) }
@@ -122,6 +114,28 @@ fn word_at<'a>(words: &[&'a str], index: usize) -> Option<&'a str>
         return Some(words[0]);
     }
     words.get(index).copied()
+}
+
+/// What a word says of the calendar of dates.
+fn meaning_said(word: &str) -> Result<CalendarMeaning, ColumnFault<'_>>
+    ensures { IfOk result (SaysCalendar word.entry.now) }
+{
+    match calendar_said(word) {
+        Some(meaning) => Ok(meaning),
+        None => Err(ColumnFault::NoColumn(word)),
+    }
+}
+
+/// What a word says for empty fields, if there is one.
+fn otherwise_said<'a>(
+    word: Option<&'a str>,
+) -> Result<Option<CalendarMeaning>, ColumnFault<'a>>
+    ensures { IfOk result (SaysElse (option_map (λ w. w.now) word.entry)) }
+{
+    match word {
+        Some(word) => Ok(Some(meaning_said(word)?)),
+        None => Ok(None),
+    }
 }
 
 /// Where the calendars of the column of dates at an index are.
@@ -133,17 +147,18 @@ fn calendar_named<'a>(
     ensures { IfOk result (λ field. IsCalendarField (fields_of names.now) (task_of job.now).calendars index field) }
 {
     match &job.calendars {
-        CalendarsAsked::Columns(words) => {
+        CalendarsAsked::Columns(words, otherwise) => {
             let Some(word) = word_at(words.as_slice(), index) else {
                 return Err(ColumnFault::NoColumn(""));
             };
-            match column_named(names, word) {
-                Some(column) => Ok(CalendarField::Column(column)),
-                None => Err(ColumnFault::NoColumn(word)),
-            }
+            let Some(place) = column_named(names, word) else {
+                return Err(ColumnFault::NoColumn(word));
+            };
+            let otherwise = otherwise_said(*otherwise)?;
+            Ok(CalendarField::Column(CalendarColumn { place, otherwise }))
         }
-        CalendarsAsked::All(calendars) => match calendar_at(calendars.as_slice(), index) {
-            Some(calendar) => Ok(CalendarField::All(calendar)),
+        CalendarsAsked::All(words) => match word_at(words.as_slice(), index) {
+            Some(word) => Ok(CalendarField::All(meaning_said(word)?)),
             None => Err(ColumnFault::NoColumn("")),
         },
     }

@@ -1,7 +1,8 @@
 -- What words name, and lists of words.
 use Rattle.std.proofs.Common.{◌≡◌, ◌↔◌, ◌∙◌, ◌+◌, ◌<◌, ◌++◌, ◌∷◌, ℕ, zero, suc, Bool, true, false, List, [], Option, None}
 use Rattle.std.proofs.Common.{Some, true≢false, Bor, ap, ap₂, arith, drop, get_or, length, lit<, map, refl, sym, take}
-use Rattle.std.proofs.Common.{Result, Ok, Err}
+use Rattle.std.proofs.Common.{Result, Ok, Err, inl, inr, subst}
+use Rattle.std.specs.Prelude.{All}
 use Rattle.std.specs.List.{find}
 use Rattle.std.specs.Prelude.{if◌then◌else◌}
 use Rattle.std.specs.Str.{bytes_eq, str_to_ascii_lowercase}
@@ -15,21 +16,19 @@ use Rattle.std.proofs.lemmas.Iterator.Splits.{YieldsList-from_str_split}
 use Rattle.std.proofs.lemmas.List.{get_or-map, length-map, take_more}
 use Rattle.std.proofs.lemmas.Slice.Eq.{bytes_eq-Decides}
 use Rattle.clap.specs.Words.{Text}
-use Rattle.date_texts.specs.Calendars.{all_calendars, calendar_name, target_name}
+use Rattle.date_texts.specs.Calendars.{target_name}
 use Rattle.date_texts.specs.Names.{IsNamed}
 use Rattle.date_texts.specs.Trimmed.{trimmed}
-use Rattle.date_texts.specs.declared.calendar.Calendar.{Calendar}
 use Rattle.date_texts.specs.declared.calendar.Calendar.TheVariants.{Gregorian}
 use Rattle.date_texts.specs.declared.target.Target.{Target}
 use Rattle.date_texts.specs.declared.target.Target.TheVariants.{Date, Haab, Tzolkin}
-use Rattle.register_sheets.specs.Choices.{is_name}
 use Rattle.register_sheets.specs.Headings.{asked_name}
 use Rattle.register_sheets.specs.declared.choices.AskedColumn.{AskedColumn}
 use Rattle.register_sheets.specs.declared.choices.AskedColumn.TheVariants.{Cells, Church, DayNumber, Weekday}
 use Rattle.sheet_arguments.specs.Faults.{Fault, column_twice, unknown_calendar, unknown_column}
-use Rattle.sheet_arguments.specs.WordLists.{all_columns, calendar_named, column_named, is_among, is_column_name, names_in}
+use Rattle.sheet_arguments.specs.WordLists.{IsCalendarWord, IsFirstUnknown, all_columns, column_named, is_among}
 use Rattle.sheet_arguments.specs.WordLists.{or_fault}
-use Rattle.sheet_arguments.specs.WordLists.{with_calendars, with_columns}
+use Rattle.sheet_arguments.specs.WordLists.{is_column_name, names_in, with_columns}
 
 -- where no element passes the test
 none_found : {X : Type 0} (test : X → Bool) (xs : List X) → ((x : X) → test x ≡ false) → find test xs ≡ None
@@ -55,30 +54,6 @@ stays_new : {B : Type 0} (among : Bool) (fault : Fault) (next after : Result B F
     → (if among then Err fault else after) ≡ all
 stays_new true fault next after b all h e = absurd (no_value fault b e)
 stays_new false fault next after b all h e = h e
-
--- ---- calendars
-
-found_itself : (c : Calendar) → find (λ other. bytes_eq (calendar_name c) (calendar_name other)) all_calendars ≡ Some c
-found_itself Gregorian = refl
-found_itself c = refl
-
--- what a text names
-pub named_by : (text : List ℕ) (named : Option Calendar)
-    → ((c : Calendar) → (named ≡ Some c) ↔ IsNamed text (calendar_name c)) → named ≡ calendar_named text
-named_by text None h =
-    sym (none_found (is_name text) all_calendars (λ c. not_true (is_name text c) (λ is.
-    cc ((h c).1 ((bytes_eq-Decides (str_to_ascii_lowercase (trimmed text)) (calendar_name c)).0 is)))))
-named_by text (Some c) h = rw ((h c).0 refl) (sym (found_itself c))
-
--- words before others, of which the calendars are these
-pub calendars_go_on : (before : List Text) (words : List Text) (first calendars : List Calendar)
-    → with_calendars first before ≡ Ok calendars
-    → with_calendars first (before ++ words) ≡ with_calendars calendars words
-calendars_go_on [] words first calendars is =
-    let same : first ≡ calendars = cc in ap (λ (cs : List Calendar). with_calendars cs words) same
-calendars_go_on (w ∷ before) words first calendars is =
-    goes_on (unknown_calendar w) (calendar_named w) _ _ calendars _
-    (λ c e. calendars_go_on before words (first ++ c ∷ []) calendars e) is
 
 -- ---- columns
 
@@ -133,21 +108,18 @@ cut_at [] i d lt = absurd (omega arith)
 cut_at (x ∷ xs) zero d lt = refl
 cut_at (x ∷ xs) (suc i) d lt = ap (λ (ys : List _). x ∷ ys) (cut_at xs i d (omega arith))
 
-module _ (words : List Text) (i : ℕ) (d : Text) (lt : i < length words) (calendars : List Calendar)
-    (so_far : with_calendars [] (take i words) ≡ Ok calendars) where
-  -- the next word names a calendar
-  pub calendar_more : (c : Calendar) → calendar_named (get_or words i d) ≡ Some c
-      → with_calendars [] (take (i + 1) words) ≡ Ok (calendars ++ c ∷ [])
-  calendar_more c is =
-      ap (with_calendars []) (take_more words i d lt)
-      ∙ calendars_go_on (take i words) (get_or words i d ∷ []) [] calendars so_far ∙ rw is refl
+-- words before this one say calendars, and it does, or does not
+pub calendar_more : (words : List Text) (i : ℕ) (d : Text) → i < length words → All IsCalendarWord (take i words)
+    → IsCalendarWord (get_or words i d) → All IsCalendarWord (take (i + 1) words)
+calendar_more [] i d lt said is = absurd (omega arith)
+calendar_more (w ∷ words) zero d lt said is = (is, tt)
+calendar_more (w ∷ words) (suc i) d lt said is = (said.0, calendar_more words i d (omega arith) said.1 is)
 
-  -- it names none
-  pub calendar_fault : calendar_named (get_or words i d) ≡ None
-      → with_calendars [] words ≡ Err (unknown_calendar (get_or words i d))
-  calendar_fault is =
-      ap (with_calendars []) (cut_at words i d lt)
-      ∙ calendars_go_on (take i words) (get_or words i d ∷ drop (suc i) words) [] calendars so_far ∙ rw is refl
+pub calendar_fault : (words : List Text) (i : ℕ) (d : Text) → i < length words → All IsCalendarWord (take i words)
+    → ¬ (IsCalendarWord (get_or words i d)) → IsFirstUnknown words (unknown_calendar (get_or words i d))
+calendar_fault [] i d lt said none = absurd (omega arith)
+calendar_fault (w ∷ words) zero d lt said none = inl (refl, none)
+calendar_fault (w ∷ words) (suc i) d lt said none = inr (said.0, calendar_fault words i d (omega arith) said.1 none)
 
 module _ (before : List Text) (name : Text) (columns : List AskedColumn)
     (so_far : with_columns [] before ≡ Ok columns) where
@@ -191,21 +163,21 @@ cut_behind names before i name place front = (
 
 -- ---- words as a slice holds them
 
-module _ (words : List (Bor Text)) (i : ℕ) (d : Bor Text) (lt : i < length words) (calendars : List Calendar)
-    (so_far : with_calendars [] (take i (map (λ word. word.now) words)) ≡ Ok calendars) where
-  low : i < length (map (λ word. word.now) words)
-  low = omega (arith, lt, length-map words (λ word. word.now))
+module _ (words : List (Bor Text)) (i : ℕ) (d : Bor Text) (lt : i < length words)
+    (said : All IsCalendarWord (take i (map (λ word. word.now) words))) where
+  low : i < length (map (λ (word : Bor Text). word.now) words)
+  low = rw (length-map words (λ (word : Bor Text). word.now)) lt
 
   at : get_or (map (λ word. word.now) words) i [] ≡ (get_or words i d).now
   at = get_or-map (λ word. word.now) words i d [] lt
 
-  pub calendar_more_at : (c : Calendar) → calendar_named (get_or words i d).now ≡ Some c
-      → with_calendars [] (take (i + 1) (map (λ word. word.now) words)) ≡ Ok (calendars ++ c ∷ [])
-  calendar_more_at c is =
-      calendar_more (map (λ word. word.now) words) i [] low calendars so_far c (ap calendar_named at ∙ is)
+  pub calendar_more_at : IsCalendarWord (get_or words i d).now
+      → All IsCalendarWord (take (i + 1) (map (λ word. word.now) words))
+  calendar_more_at is =
+      calendar_more (map (λ word. word.now) words) i [] low said (subst IsCalendarWord (sym at) is)
 
-  pub calendar_fault_at : calendar_named (get_or words i d).now ≡ None
-      → with_calendars [] (map (λ word. word.now) words) ≡ Err (unknown_calendar (get_or words i d).now)
-  calendar_fault_at is =
-      calendar_fault (map (λ word. word.now) words) i [] low calendars so_far (ap calendar_named at ∙ is)
-      ∙ ap (λ (t : Text). Err (unknown_calendar t)) at
+  pub calendar_fault_at : ¬ (IsCalendarWord (get_or words i d).now)
+      → IsFirstUnknown (map (λ word. word.now) words) (unknown_calendar (get_or words i d).now)
+  calendar_fault_at none =
+      subst (λ (t : Text). IsFirstUnknown (map (λ word. word.now) words) (unknown_calendar t)) at
+      (calendar_fault (map (λ word. word.now) words) i [] low said (λ is. none (subst IsCalendarWord at is)))

@@ -3,11 +3,11 @@ use Rattle.std.specs.Prelude.{List, [], ◌∷◌, Bool, codes, fold, Option, un
 use Rattle.clap.specs.Words.{App, Row, Rule, Text, all_of, first_of, one_of, with_rule}
 use Rattle.command_lines.specs.Rules.{bare_command, files_rule, flag_rule, is_set, option_rule, repeated_rule}
 
--- the rules of the arguments: four options as often as wanted, seven with a value each, six flags, and files
+-- the rules of the arguments: four options as often as wanted, eight with a value each, six flags, and files
 abbrev pub argument_rules : List Rule
 argument_rules =
     repeated_rule (codes "date") ∷ repeated_rule (codes "calendar") ∷ repeated_rule (codes "all")
-    ∷ option_rule (codes "id") ∷ option_rule (codes "order") ∷ repeated_rule (codes "names")
+    ∷ option_rule (codes "else") ∷ option_rule (codes "id") ∷ option_rule (codes "order") ∷ repeated_rule (codes "names")
     ∷ option_rule (codes "short-years") ∷ option_rule (codes "short-hebrew-years") ∷ flag_rule (codes "charter-years")
     ∷ option_rule (codes "skip") ∷ option_rule (codes "delimiter") ∷ option_rule (codes "to")
     ∷ flag_rule (codes "spans") ∷ flag_rule (codes "edtf") ∷ flag_rule (codes "register") ∷ flag_rule (codes "unknown") ∷ flag_rule (codes "summary")
@@ -22,6 +22,7 @@ pub record Values : Type 0 where
   pub dates : List Text
   pub calendars : List Text
   pub all : List Text
+  pub otherwise : Option Text
   pub id : Option Text
   pub order : Option Text
   pub names : List Text
@@ -44,6 +45,7 @@ values_of found = record {
   dates = unwrap_or (all_of (codes "date") found) [];
   calendars = unwrap_or (all_of (codes "calendar") found) [];
   all = unwrap_or (all_of (codes "all") found) [];
+  otherwise = first_of (codes "else") found;
   id = first_of (codes "id") found;
   order = first_of (codes "order") found;
   names = unwrap_or (all_of (codes "names") found) [];

@@ -1,8 +1,7 @@
 -- What the arguments ask for.
 use Rattle.std.specs.Prelude.{◌≡◌, ◌==◌, ◌||◌, ◌&&◌, ℕ, Bool, true, false, List, [], ◌∷◌, length, map, nat_lt, not}
-use Rattle.std.specs.Prelude.{if◌then◌else◌, Option, option_map, Result, Ok, Err}
+use Rattle.std.specs.Prelude.{if◌then◌else◌, All, Option, is_some, option_map, option_to_list, Result, Ok, Err}
 use Rattle.clap.specs.Words.{Text}
-use Rattle.date_texts.specs.declared.calendar.Calendar.{Calendar}
 use Rattle.command_lines.specs.FileLists.{AreFilesToConvert}
 use Rattle.command_lines.specs.Meanings as lines
 use Rattle.command_lines.specs.Meanings.{Check, CommandLine, Meaning, file_check, help, option_check, version, work}
@@ -13,12 +12,12 @@ use Rattle.register_sheets.specs.declared.choices.Spans.{Spans}
 use Rattle.register_sheets.specs.declared.choices.Spans.TheVariants as spans_of
 use Rattle.written_dates.specs.declared.written.Choice.{Choice}
 use Rattle.sheet_arguments.specs.CommandLine.{Values, command_line, values_of}
-use Rattle.sheet_arguments.specs.Faults.{Fault, bad_short_hebrew_years, bad_short_years, bad_skip, calendar_count}
+use Rattle.sheet_arguments.specs.Faults.{Fault, bad_short_hebrew_years, bad_short_years, bad_skip, calendar_count, else_alone}
 use Rattle.sheet_arguments.specs.Faults.{file_twice, no_date, register_of_input, too_many_dates, too_many_files}
 use Rattle.sheet_arguments.specs.Faults.{unknown_delimiter, unknown_order, usage}
 use Rattle.sheet_arguments.specs.OptionValues.{order_number, order_option, short_hebrew_option, short_number}
 use Rattle.sheet_arguments.specs.OptionValues.{short_option, skip_option}
-use Rattle.sheet_arguments.specs.WordLists.{columns_asked, with_calendars}
+use Rattle.sheet_arguments.specs.WordLists.{IsCalendarWord, IsFirstUnknown, columns_asked}
 use Rattle.sheet_arguments.specs.declared.requests.CalendarsAsked.{CalendarsAsked}
 use Rattle.sheet_arguments.specs.declared.requests.CalendarsAsked.TheVariants as asked
 use Rattle.sheet_arguments.specs.declared.requests.Job.{Job}
@@ -28,11 +27,11 @@ use Rattle.sheet_arguments.specs.declared.requests.Request.{Request}
 use Rattle.sheet_arguments.specs.declared.requests.Request.TheVariants as request
 use Rattle.sheet_arguments.specs.declared.requests.Words.{Words}
 
--- where the calendars of the dates are: in these columns, or all dates of a column have one; one for all columns of
--- dates, or one for each
+-- where the calendars of the dates are: in these columns, with a word for empty fields, or a word says them for all dates
+-- of a column; one for all columns of dates, or one for each
 pub data CalendarsWanted : Type 0 where
-  in_columns : List Text → CalendarsWanted
-  all_have : List Calendar → CalendarsWanted
+  in_columns : List Text → Option Text → CalendarsWanted
+  all_have : List Text → CalendarsWanted
 
 -- what arguments can ask for
 pub record Task : Type 0 where
@@ -59,14 +58,14 @@ abbrev pub are_misfits : ℕ → ℕ → ℕ → Bool
 are_misfits dates columns calendars =
     if columns == 0 then is_misfit dates calendars else (not (calendars == 0) || is_misfit dates columns)
 
--- the calendars that words ask for: those in columns, or without such, those that the others name
-abbrev pub to_all : Result (List Calendar) Fault → Result CalendarsWanted Fault
-to_all (Ok calendars) = Ok (all_have calendars)
-to_all (Err fault) = Err fault
+-- the calendars that words ask for: those in columns, or without such, those that the others say
+abbrev pub calendars_wanted : List Text → List Text → Option Text → CalendarsWanted
+calendars_wanted [] all otherwise = all_have all
+calendars_wanted (word ∷ words) all otherwise = in_columns (word ∷ words) otherwise
 
-abbrev pub calendars_wanted : List Text → List Text → Result CalendarsWanted Fault
-calendars_wanted [] all = to_all (with_calendars [] all)
-calendars_wanted (word ∷ words) all = Ok (in_columns (word ∷ words))
+-- a calendar is said for the empty fields of no column
+abbrev pub is_else_alone : ℕ → Option Text → Bool
+is_else_alone columns otherwise = (columns == 0) && is_some otherwise
 
 -- registers are asked for, and no file
 abbrev pub asks_for_registers_of_input : Values → Bool
@@ -84,7 +83,10 @@ pub record Ask (values : Values) (task : Task) : Type 0 where
   pub some_dates : (length values.dates == 0) ≡ false
   pub few_dates : nat_lt date_limit (length values.dates) ≡ false
   pub as_many : are_misfits (length values.dates) (length values.calendars) (length values.all) ≡ false
-  pub calendars : calendars_wanted values.calendars values.all ≡ Ok task.calendars
+  pub not_alone : is_else_alone (length values.calendars) values.otherwise ≡ false
+  pub calendars : task.calendars ≡ calendars_wanted values.calendars values.all values.otherwise
+  pub all_say : All IsCalendarWord values.all
+  pub else_says : All IsCalendarWord (option_to_list values.otherwise)
   pub id : task.id ≡ values.id
   pub order : IsValueOf order_option values.order (order_number task.reading.order)
   pub short_years : IsValueOf short_option values.short_years (short_number task.reading.short_years)
@@ -111,13 +113,18 @@ false_check holds fault = record { fails = λ f. (f ≡ fault) × (holds ≡ tru
 abbrev pub result_check : {A : Type 0} → Result A Fault → Check Fault
 result_check {A} result = record { fails = λ f. result ≡ Err f; passes = (a : A) × (result ≡ Ok a) }
 
+-- the check of words that are to say calendars
+abbrev pub calendar_check : List Text → Check Fault
+calendar_check words = record { fails = IsFirstUnknown words; passes = All IsCalendarWord words }
+
 -- the checks of values, in order
 abbrev pub value_checks : Values → List (Check Fault)
 value_checks values =
     false_check (length values.dates == 0) no_date
     ∷ false_check (nat_lt date_limit (length values.dates)) too_many_dates
     ∷ false_check (are_misfits (length values.dates) (length values.calendars) (length values.all)) calendar_count
-    ∷ result_check (calendars_wanted values.calendars values.all)
+    ∷ false_check (is_else_alone (length values.calendars) values.otherwise) else_alone
+    ∷ calendar_check values.all ∷ calendar_check (option_to_list values.otherwise)
     ∷ option_check order_option unknown_order values.order
     ∷ option_check short_option bad_short_years values.short_years
     ∷ option_check short_hebrew_option bad_short_hebrew_years values.short_hebrew_years
@@ -149,8 +156,9 @@ AreWrong = lines.AreWrong sheet_line
 
 -- where a job takes the calendars from
 abbrev pub wanted_by : CalendarsAsked → CalendarsWanted
-wanted_by (asked.Columns words) = in_columns (map (λ word. word.now) words.items)
-wanted_by (asked.All calendars) = all_have calendars.items
+wanted_by (asked.Columns words otherwise) =
+    in_columns (map (λ word. word.now) words.items) (option_map (λ word. word.now) otherwise)
+wanted_by (asked.All words) = all_have (map (λ word. word.now) words.items)
 
 -- what a job asks for
 abbrev pub task_of : Job → Task
@@ -182,6 +190,7 @@ values_by options = record {
   dates = map (λ v. v.now) options.dates.items;
   calendars = map (λ v. v.now) options.calendars.items;
   all = map (λ v. v.now) options.all.items;
+  otherwise = option_map (λ v. v.now) options.otherwise;
   id = option_map (λ v. v.now) options.id;
   order = option_map (λ v. v.now) options.words.order;
   names = map (λ v. v.now) options.names.items;
@@ -214,6 +223,7 @@ abbrev pub FewDates : Values → Type 0
 FewDates values =
     ((length values.dates == 0) ≡ false) × (nat_lt date_limit (length values.dates) ≡ false)
     × (are_misfits (length values.dates) (length values.calendars) (length values.all) ≡ false)
+    × (is_else_alone (length values.calendars) values.otherwise ≡ false)
 
 -- the words say to read so
 abbrev pub AreSaidBy : Words → Reading → Type 0

@@ -1,15 +1,15 @@
 -- What lists of words name.
-use Rattle.std.specs.Prelude.{◌==◌, ◌++◌, ◌∷◌, Bool, List, [], map, Option, Some, None, Result, Ok, Err, if◌then◌else◌}
+use Rattle.std.specs.Prelude.{◌≡◌, ◌==◌, ◌⊎◌, ◌++◌, ◌∷◌, Bool, List, [], map, Option, Some, None, Result, Ok, Err, if◌then◌else◌}
 use Rattle.std.specs.List.{find, list_any, slice_split}
 use Rattle.std.specs.Str.{bytes_eq, str_to_ascii_lowercase}
 use Rattle.clap.specs.Words.{Text}
-use Rattle.date_texts.specs.Calendars.{all_calendars, all_targets}
+use Rattle.date_texts.specs.Calendars.{all_targets}
 use Rattle.date_texts.specs.Trimmed.{trimmed}
-use Rattle.date_texts.specs.declared.calendar.Calendar.{Calendar}
 use Rattle.date_texts.specs.declared.target.Target.TheVariants as target
 use Rattle.date_texts.specs.declared.calendar.Calendar.TheVariants.{Gregorian}
-use Rattle.register_sheets.specs.Choices.{is_name}
 use Rattle.register_sheets.specs.Headings.{asked_name}
+use Rattle.register_sheets.specs.NameMeanings.{SaysCalendar}
+use Rattle.written_dates.specs.declared.fields.CalendarMeaning.{CalendarMeaning}
 use Rattle.register_sheets.specs.declared.choices.AskedColumn.{AskedColumn}
 use Rattle.register_sheets.specs.declared.choices.AskedColumn.TheVariants.{Cells, Church, DayNumber, Weekday}
 use Rattle.sheet_arguments.specs.Faults.{Fault, column_twice, unknown_calendar, unknown_column}
@@ -19,15 +19,15 @@ abbrev pub or_fault : {A B : Type 0} → Fault → Option A → (A → Result B 
 or_fault fault None next = Err fault
 or_fault fault (Some a) next = next a
 
--- the calendar that a word names, as registers name it
-abbrev pub calendar_named : Text → Option Calendar
-calendar_named word = find (is_name word) all_calendars
+-- a word says something of the calendar of dates
+abbrev pub IsCalendarWord : Text → Type 0
+IsCalendarWord word = (meaning : CalendarMeaning) × SaysCalendar word meaning
 
--- these calendars, and behind them those that the words name, or the first word that names none
-abbrev pub with_calendars : List Calendar → List Text → Result (List Calendar) Fault
-with_calendars calendars [] = Ok calendars
-with_calendars calendars (word ∷ words) =
-    or_fault (unknown_calendar word) (calendar_named word) (λ calendar. with_calendars (calendars ++ calendar ∷ []) words)
+-- the fault is the first of these words that says nothing of it
+abbrev pub IsFirstUnknown : List Text → Fault → Type 0
+IsFirstUnknown [] fault = ⊥
+IsFirstUnknown (word ∷ words) fault =
+    ((fault ≡ unknown_calendar word) × ¬ (IsCalendarWord word)) ⊎ (IsCalendarWord word × IsFirstUnknown words fault)
 
 -- the columns that there are
 abbrev pub all_columns : List AskedColumn

@@ -19,8 +19,12 @@ Options:
 
     --date COLUMN     where the dates are; once to eight times.
     --calendar COLUMN where their calendars are; or
-    --all CALENDAR    the calendar that they all have. One of both, once for
-                      all columns of dates or once for each, in order.
+    --all CALENDAR    the calendar that they all have: a name as register has
+                      it, both (dates in both styles), or a change, as
+                      julian/gregorian:1582-10-15 (Julian before that day).
+                      One of both, once for all columns of dates or once for
+                      each, in order.
+    --else CALENDAR   the same for dates whose calendar is empty.
     --id COLUMN       where the ids of a register are. Without it: the number
                       of the record.
     --order WORD      in which order three numbers stand: year (year, month,

@@ -1,9 +1,9 @@
 //! What the arguments of the program `register-sheet` ask for, and what is wrong with them.
 #![tactic(auto)]
 
+mod calendar_words;
 mod column_lists;
 mod help;
-mod named_calendars;
 mod option_values;
 mod request_faults;
 mod requests;

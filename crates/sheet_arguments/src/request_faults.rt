@@ -26,7 +26,9 @@ pub enum RequestFault<'a> {
     /// There is neither `--calendar` nor `--all`, or both, or one of them is there neither once nor once for each
     /// column of dates.
     CalendarCount,
-    /// A word that names no calendar, as it was given.
+    /// There is `--else`, and no `--calendar`.
+    ElseAlone,
+    /// A word that says nothing of the calendar of dates, as it was given.
     UnknownCalendar(&'a str),
     /// An order that is none of the three words, as it was given.
     UnknownOrder(&'a str),
@@ -121,6 +123,7 @@ impl RequestFault<'_> {
                 "give --calendar COLUMN or --all CALENDAR, once or once for each --date",
                 "",
             ),
+            RequestFault::ElseAlone => own_line(alloc, "--else is for --calendar", ""),
             RequestFault::UnknownCalendar(word) => ("unknown calendar: ", *word),
             RequestFault::UnknownOrder(word) => ("unknown order: ", *word),
             RequestFault::BadShortYears(word) => ("bad short years: ", *word),

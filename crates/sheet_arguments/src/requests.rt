@@ -1,6 +1,6 @@
 //! What the arguments ask for.
 
-ghost use Rattle.std.specs.Prelude.{◌≡◌, ◌==◌, ◌&&◌, Err, IfErr, IfOk, IfSome, IsSomeAnd, Ok, OnOk, false, length, map};
+ghost use Rattle.std.specs.Prelude.{◌≡◌, ◌==◌, ◌&&◌, IfErr, IfOk, IfSome, IsSomeAnd, OnOk, false, length, map};
 ghost use Rattle.std.specs.Prelude.{option_map, take};
 ghost use Rattle.std.specs.String.{string_bytes};
 ghost use Rattle.clap.specs.Words.{FailsBy, HasKind, app_of, fault_of, found_of, matches_of, rows_of};
@@ -19,7 +19,7 @@ ghost use Rattle.sheet_arguments.specs.Requests.{AreSaidBy, FewDates, WordsAre, 
 ghost use Rattle.sheet_arguments.specs.Requests.{spans_asked as spans_spec, wanted_by, word_checks};
 
 use crate::column_lists::chosen_columns;
-use crate::named_calendars::named_calendars;
+use crate::calendar_words::{check_calendars, check_otherwise};
 use crate::option_values::{
     chosen_delimiter, chosen_order, chosen_short_hebrew_years, chosen_short_years, chosen_skip,
 };
@@ -27,7 +27,6 @@ use crate::request_faults::RequestFault;
 use clap::error::ErrorKind;
 use clap::{ArgMatches, Command};
 use command_lines::{Argument, check_files, command_with, is_given, value_given, values_given};
-use date_texts::Calendar;
 use register_sheets::{AskedColumn, MAX_DATES, Spans};
 use std::alloc::{AllocError, Global};
 use written_dates::{Choice, Order, Short};
@@ -36,10 +35,11 @@ use written_dates::{Choice, Order, Short};
 pub const VERSION: &str = "1.2.0";
 
 /// The options and flags, and the files.
-const ARGUMENTS: [Argument<'static>; 18] = [
+const ARGUMENTS: [Argument<'static>; 19] = [
     Argument::Repeated("date", "COLUMN"),
     Argument::Repeated("calendar", "COLUMN"),
     Argument::Repeated("all", "CALENDAR"),
+    Argument::Valued("else", "CALENDAR"),
     Argument::Valued("id", "COLUMN"),
     Argument::Valued("order", "year|day|month"),
     Argument::Repeated("names", "FILE"),
@@ -60,10 +60,10 @@ const ARGUMENTS: [Argument<'static>; 18] = [
 /// Where the calendars of the dates are: one for all columns of dates, or one for each.
 #[derive(Drop)]
 pub enum CalendarsAsked<'a> {
-    /// In these columns.
-    Columns(Vec<&'a str>),
-    /// All dates of a column of dates have one of these.
-    All(Vec<Calendar>),
+    /// In these columns; where a field of them is empty, the word says which one.
+    Columns(Vec<&'a str>, Option<&'a str>),
+    /// One of these words says it for all dates of a column of dates.
+    All(Vec<&'a str>),
 }
 
 /// What the arguments ask for of each sheet.
@@ -124,6 +124,7 @@ struct Options<'a> {
     dates: Vec<&'a str>,
     calendars: Vec<&'a str>,
     all: Vec<&'a str>,
+    otherwise: Option<&'a str>,
     id: Option<&'a str>,
     names: Vec<&'a str>,
     words: Words<'a>,
@@ -174,6 +175,7 @@ fn options_found<'a>(alloc: Global, matches: &ArgMatches<'a>) -> Result<Options<
         dates,
         calendars,
         all,
+        otherwise: value_given(matches, "else"),
         id: value_given(matches, "id"),
         names,
         words: words_found(matches),
@@ -233,11 +235,11 @@ fn are_misfits(dates: usize, columns: usize, calendars: usize) -> bool
 ///
 /// # Errors
 ///
-/// `NoDate`, `TooManyDates` and `CalendarCount`, whichever applies first.
+/// `NoDate`, `TooManyDates`, `CalendarCount` and `ElseAlone`, whichever applies first.
 fn dates_fit<'a>(options: &Options<'a>) -> Result<(), RequestFault<'a>>
     ensures fine { OnOk result (FewDates (values_by options.now)) }
     ensures fault { IfErr result (λ error. IfSome (fault_of_error error)
-        (FailFirst (take 3 (value_checks (values_by options.now))))) }
+        (FailFirst (take 4 (value_checks (values_by options.now))))) }
 {
     let dates = count_of(options.dates.as_slice());
     let columns = count_of(options.calendars.as_slice());
@@ -248,32 +250,26 @@ fn dates_fit<'a>(options: &Options<'a>) -> Result<(), RequestFault<'a>>
         Err(RequestFault::TooManyDates)
     } else if are_misfits(dates, columns, all) {
         Err(RequestFault::CalendarCount)
+    } else if columns == 0 && options.otherwise.is_some() {
+        Err(RequestFault::ElseAlone)
     } else {
         Ok(())
     }
 }
 
 /// Where the calendars of the dates are.
-///
-/// # Errors
-///
-/// `UnknownCalendar` for the first word that names none, and `OutOfMemory`.
 fn chosen_calendars<'a>(
-    alloc: Global,
     columns: Vec<&'a str>,
-    all: &[&'a str],
-) -> Result<CalendarsAsked<'a>, RequestFault<'a>>
-    ensures value { IfOk result (λ calendars. calendars_wanted (map (λ v. v.now) columns.entry.items)
-        (map (λ v. v.now) all.now) ≡ Ok (wanted_by calendars)) }
-    ensures fault { IfErr result (λ error. IfSome (fault_of_error error) (λ fault.
-        calendars_wanted (map (λ v. v.now) columns.entry.items) (map (λ v. v.now) all.now) ≡ Err fault)) }
+    all: Vec<&'a str>,
+    otherwise: Option<&'a str>,
+) -> CalendarsAsked<'a>
+    ensures { wanted_by result ≡ calendars_wanted (map (λ v. v.now) columns.entry.items)
+        (map (λ v. v.now) all.entry.items) (option_map (λ v. v.now) otherwise) }
 {
-    if !columns.is_empty() {
-        return Ok(CalendarsAsked::Columns(columns));
-    }
-    match named_calendars(alloc, all) {
-        Ok(calendars) => Ok(CalendarsAsked::All(calendars)),
-        Err(fault) => Err(fault),
+    if columns.is_empty() {
+        CalendarsAsked::All(all)
+    } else {
+        CalendarsAsked::Columns(columns, otherwise)
     }
 }
 
@@ -343,7 +339,7 @@ fn outputs_fit<'a>(register: bool, files: &[&'a str]) -> Result<(), RequestFault
 ///
 /// # Errors
 ///
-/// The first that applies: `NoDate`, `TooManyDates`, `CalendarCount`, `UnknownCalendar`, `UnknownOrder`,
+/// The first that applies: `NoDate`, `TooManyDates`, `CalendarCount`, `ElseAlone`, `UnknownCalendar`, `UnknownOrder`,
 /// `BadShortYears`, `BadShortHebrewYears`, `BadSkip`, `UnknownDelimiter`, the faults of the list of columns as
 /// [`chosen_columns`] has them, `RegisterOfInput`, and the faults of the files as [`check_files`] has them; and
 /// `OutOfMemory` where memory runs out on the way.
@@ -353,13 +349,14 @@ fn chosen_job<'a>(alloc: Global, options: Options<'a>) -> Result<Job<'a>, Reques
         (FailFirst (value_checks (values_by options.entry)))) }
 {
     dates_fit(&options)?;
-    let calendars = chosen_calendars(alloc, options.calendars, options.all.as_slice())?;
+    check_calendars(options.all.as_slice())?;
+    check_otherwise(options.otherwise)?;
     let reading = chosen_reading(&options.words)?;
     let columns = chosen_columns(alloc, options.to)?;
     outputs_fit(options.register, options.files.as_slice())?;
     Ok(Job {
         dates: options.dates,
-        calendars,
+        calendars: chosen_calendars(options.calendars, options.all, options.otherwise),
         id: options.id,
         columns,
         spans: spans_asked(options.spans, options.edtf),

@@ -6,7 +6,7 @@ use Rattle.written_dates.specs.declared.tokens.Kind.TheVariants.{Blank}
 use Rattle.date_texts.specs.declared.calendar.Calendar.{Calendar}
 use Rattle.date_texts.specs.declared.calendar.Calendar.TheVariants.{Gregorian}
 use Rattle.written_dates.specs.declared.fields.CalendarMeaning.{CalendarMeaning}
-use Rattle.written_dates.specs.declared.fields.CalendarMeaning.TheVariants.{One, Both}
+use Rattle.written_dates.specs.declared.fields.CalendarMeaning.TheVariants.{One, Both, Changed}
 use Rattle.written_dates.specs.declared.fields.CalendarName.{CalendarName}
 use Rattle.written_dates.specs.declared.fields.CalendarNames.{CalendarNames}
 use Rattle.date_texts.specs.Calendars.{calendar_name}
@@ -56,10 +56,11 @@ meant_by (e ∷ rest) text = if same_word e.0 text then Some e.1 else meant_by r
 abbrev pub calendar_meant : List (List ℕ × CalendarMeaning) → List ℕ → Option CalendarMeaning
 calendar_meant names field = meant_by names (without_blanks field)
 
--- the calendar of dates in it; of those in both styles the Gregorian one
+-- the calendar of dates in it; of those in both styles, and at a change of calendars, the Gregorian one
 abbrev pub calendar_of : CalendarMeaning → Calendar
 calendar_of (One calendar) = calendar
 calendar_of Both = Gregorian
+calendar_of (Changed from) = Gregorian
 
 abbrev pub or_field : List ℕ → Option CalendarMeaning → List ℕ
 or_field field None = field
@@ -68,8 +69,3 @@ or_field field (Some meaning) = calendar_name (calendar_of meaning)
 -- what a register gets for a field: the calendar that it means by the names, or else the field as it is
 abbrev pub written_calendar : List (List ℕ × CalendarMeaning) → List ℕ → List ℕ
 written_calendar names field = or_field field (calendar_meant names field)
-
--- dates stand in both styles
-abbrev pub is_both : Option CalendarMeaning → Bool
-is_both (Some Both) = true
-is_both other = false

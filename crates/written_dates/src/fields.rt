@@ -3,7 +3,7 @@
 ghost use Rattle.std.specs.Prelude.{◌≡◌, map, IfOk};
 ghost use Rattle.std.specs.List.{list_any};
 ghost use Rattle.written_dates.specs.Fields.{without_blanks as without_spec, bare_name, entry, entries};
-ghost use Rattle.written_dates.specs.Fields.{calendar_meant, calendar_of, is_both as both_spec, meant_by as meant_spec};
+ghost use Rattle.written_dates.specs.Fields.{calendar_meant, calendar_of, meant_by as meant_spec};
 ghost use Rattle.written_dates.specs.Fields.{written_calendar};
 ghost use Rattle.written_dates.specs.SignViews.{may_be_blank as may_be_blank_spec};
 
@@ -22,27 +22,19 @@ pub enum CalendarMeaning {
     One(Calendar),
     /// Both styles: a date has the Julian day before a slash, and the Gregorian one behind it.
     Both,
+    /// The Julian calendar before the day with this number, and the Gregorian one from it on.
+    Changed(i64),
 }
 
 impl CalendarMeaning {
-    /// The calendar of dates in it; of those in both styles the Gregorian one.
+    /// The calendar of dates in it; of those in both styles, and at a change of calendars, the Gregorian one.
     pub fn calendar(self) -> Calendar
         ensures { result ≡ calendar_of self }
     {
         match self {
             CalendarMeaning::One(calendar) => calendar,
-            CalendarMeaning::Both => Calendar::Gregorian,
+            CalendarMeaning::Both | CalendarMeaning::Changed(_) => Calendar::Gregorian,
         }
-    }
-}
-
-/// Whether dates stand in both styles.
-pub fn is_both(meaning: Option<CalendarMeaning>) -> bool
-    ensures { result ≡ both_spec meaning }
-{
-    match meaning {
-        Some(CalendarMeaning::Both) => true,
-        _ => false,
     }
 }
 

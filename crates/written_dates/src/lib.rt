@@ -24,7 +24,7 @@ mod words;
 mod written;
 
 pub use calendars::{Form, form_of};
-pub use fields::{CalendarMeaning, CalendarName, CalendarNames, is_both, without_blanks};
+pub use fields::{CalendarMeaning, CalendarName, CalendarNames, without_blanks};
 pub use items::{Item, Number, is_long, items_of};
 pub use joining::{count_bars, has_mixed_signs, has_other_signs_between, is_bar};
 pub use meanings::{Calendars, Mark, Meaning, Name, Relation, Word};

@@ -3,7 +3,7 @@
 use date_texts::Calendar;
 use register_sheets::{Means, NameLine, NameList, NameListFault};
 use std::alloc::Global;
-use written_dates::{Calendars, Mark, Meaning};
+use written_dates::{CalendarMeaning, Calendars, Mark, Meaning};
 
 const LIST: &str = "name,means,in,how often
 März,month 3,gregorian julian
@@ -31,7 +31,7 @@ static LINES: [(&str, Means, &[Calendar]); 7] = [
         Means::InDates(Meaning::Month(3)),
         &[Calendar::Gregorian, Calendar::Julian],
     ),
-    ("a. St.", Means::Calendar(Calendar::Julian), &Calendar::ALL),
+    ("a. St.", Means::Calendar(CalendarMeaning::One(Calendar::Julian)), &Calendar::ALL),
     ("dem", Means::InDates(Meaning::Nothing), &Calendar::ALL),
     (
         "Ianuarias",

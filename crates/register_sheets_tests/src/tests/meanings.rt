@@ -1,11 +1,12 @@
 //! What lists say of names. The texts are those in which the feasts of the church year are written down.
 
 use church_year::{Anchor, Feast, Season};
+use date_texts::Calendar;
 use day_numbers::Weekday;
 use register_sheets::{Means, NameList, NameListFault};
 use std::alloc::Global;
 use std::test::Fail;
-use written_dates::{Meaning, Relation};
+use written_dates::{CalendarMeaning, Meaning, Relation};
 
 /// A text, and what it says of a name.
 const SAID: [(&str, Meaning); 17] = [
@@ -44,7 +45,7 @@ const SAID: [(&str, Meaning); 17] = [
 ];
 
 /// Texts that say nothing.
-const NOT_SAID: [&str; 15] = [
+const NOT_SAID: [&str; 20] = [
     "both styles",
     "weekday 7",
     "weekday",
@@ -60,6 +61,25 @@ const NOT_SAID: [&str; 15] = [
     "feast 09-29",
     "sunday advent 0",
     "sundays advent 1",
+    "julian/gregorian",
+    "julian/gregorian:",
+    "julian/gregorian:1582-02-30",
+    "julian/gregorian:15.10.1582",
+    "gregorian/julian:1582-10-15",
+];
+
+/// A text, and what it says of the calendar of dates. The day is that of Python's `datetime`.
+const CALENDARS_SAID: [(&str, CalendarMeaning); 4] = [
+    ("julian", CalendarMeaning::One(Calendar::Julian)),
+    ("both", CalendarMeaning::Both),
+    (
+        "julian/gregorian:1582-10-15",
+        CalendarMeaning::Changed(577_736),
+    ),
+    (
+        "julian/gregorian:1752-9-14",
+        CalendarMeaning::Changed(639_797),
+    ),
 ];
 
 /// The list of one name that means this.
@@ -83,14 +103,16 @@ fn meanings_are_said(rt: HostRuntime) -> Result<(), Fail> {
 }
 
 #[test]
-fn both_styles_are_said(rt: HostRuntime) -> Result<(), Fail> {
-    let list = list_of(rt.alloc(), "both")?;
-    assert!(rt;
-        list.is_ok_and(|list| list
-            .lines
-            .first()
-            .is_some_and(|line| line.means == Means::Both))
-    );
+fn calendars_are_said(rt: HostRuntime) -> Result<(), Fail> {
+    for (text, meaning) in CALENDARS_SAID {
+        let list = list_of(rt.alloc(), text)?;
+        assert!(rt;
+            list.is_ok_and(|list| list
+                .lines
+                .first()
+                .is_some_and(|line| line.means == Means::Calendar(meaning)))
+        );
+    }
     Ok(())
 }
 

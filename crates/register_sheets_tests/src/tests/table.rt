@@ -4,12 +4,12 @@
 use date_texts::{Calendar, Target};
 use register_records::PlainOutput;
 use register_sheets::{
-    AskedColumn, AskedOfSheet, CalendarField, DateColumn, IdField, NameList, SheetChoice,
+    AskedColumn, AskedOfSheet, CalendarColumn, CalendarField, DateColumn, IdField, NameList, SheetChoice,
     SheetCounts, SheetEnd, SheetSetup, Spans, convert_sheet,
 };
 use std::alloc::Global;
 use std::test::Fail;
-use written_dates::{CalendarName, CalendarNames, Choice, Name, Names, Order, Short};
+use written_dates::{CalendarMeaning, CalendarName, CalendarNames, Choice, Name, Names, Order, Short};
 
 /// The names that hold in these tests.
 const NAMES: &str = "name,means,in
@@ -35,6 +35,7 @@ grégorien,gregorian,
 n. St.,gregorian,
 a. St.,julian,
 stary/nowy,both,
+Spanien,julian/gregorian:1582-10-15,
 vor,before,
 nach,after,
 ca.,about,
@@ -61,53 +62,59 @@ pub(super) struct Case {
 
 pub(super) const DATE_0_IN_1: [DateColumn; 1] = [DateColumn {
     date: 0,
-    calendar: CalendarField::Column(1),
+    calendar: CalendarField::Column(CalendarColumn {
+        place: 1,
+        otherwise: None,
+    }),
 }];
 
 const DATE_1_IN_2: [DateColumn; 1] = [DateColumn {
     date: 1,
-    calendar: CalendarField::Column(2),
+    calendar: CalendarField::Column(CalendarColumn {
+        place: 2,
+        otherwise: None,
+    }),
 }];
 
 const DATE_0_GREGORIAN: [DateColumn; 1] = [DateColumn {
     date: 0,
-    calendar: CalendarField::All(Calendar::Gregorian),
+    calendar: CalendarField::All(CalendarMeaning::One(Calendar::Gregorian)),
 }];
 
 const DATE_1_JULIAN_AND_2_GREGORIAN: [DateColumn; 2] = [
     DateColumn {
         date: 1,
-        calendar: CalendarField::All(Calendar::Julian),
+        calendar: CalendarField::All(CalendarMeaning::One(Calendar::Julian)),
     },
     DateColumn {
         date: 2,
-        calendar: CalendarField::All(Calendar::Gregorian),
+        calendar: CalendarField::All(CalendarMeaning::One(Calendar::Gregorian)),
     },
 ];
 
 const DATE_0_JULIAN_AND_0_GREGORIAN_AND_1_JULIAN: [DateColumn; 3] = [
     DateColumn {
         date: 0,
-        calendar: CalendarField::All(Calendar::Julian),
+        calendar: CalendarField::All(CalendarMeaning::One(Calendar::Julian)),
     },
     DateColumn {
         date: 0,
-        calendar: CalendarField::All(Calendar::Gregorian),
+        calendar: CalendarField::All(CalendarMeaning::One(Calendar::Gregorian)),
     },
     DateColumn {
         date: 1,
-        calendar: CalendarField::All(Calendar::Julian),
+        calendar: CalendarField::All(CalendarMeaning::One(Calendar::Julian)),
     },
 ];
 
 const DATE_0_GREGORIAN_AND_1_GREGORIAN: [DateColumn; 2] = [
     DateColumn {
         date: 0,
-        calendar: CalendarField::All(Calendar::Gregorian),
+        calendar: CalendarField::All(CalendarMeaning::One(Calendar::Gregorian)),
     },
     DateColumn {
         date: 1,
-        calendar: CalendarField::All(Calendar::Gregorian),
+        calendar: CalendarField::All(CalendarMeaning::One(Calendar::Gregorian)),
     },
 ];
 

@@ -1,4 +1,4 @@
-use Rattle.std.proofs.Common.{◌<◌, ◌∷◌, [], arith, get_or, length, map, rules, subst, sym}
+use Rattle.std.proofs.Common.{None, ◌<◌, ◌∷◌, [], arith, get_or, length, map, rules, subst, sym}
 use Rattle.register_sheets.specs.CountViews.{CountsDates}
 use Rattle.register_sheets.specs.DateCounts.{no_counts}
 use Rattle.register_sheets.specs.declared.sheet_records.ColumnDates.{ColumnDates}
@@ -10,7 +10,7 @@ use Rattle.register_sheets.proofs.CountLemmas.{place_counted, place_left, seen_s
 use Rattle.register_sheets.proofs.date_counts.SheetCounts.add.Goals as goal
 
 abbrev none : DateColumn
-none = record { date = 0; calendar = Column 0 }
+none = record { date = 0; calendar = Column (record { place = 0; otherwise = None }) }
 
 pub columns-preserved : goal.columns-preserved
 columns-preserved c =

@@ -1,6 +1,7 @@
 use Rattle.std.proofs.Common.{◌≡◌, Bool, refl, rules, subst}
 use Rattle.csv.specs.Records.{fields_of}
 use Rattle.register_sheets.specs.Choices.{called_for}
+use Rattle.register_sheets.specs.DateEnds.{as_text}
 use Rattle.register_sheets.specs.DateStops.{IsStopOf}
 use Rattle.register_sheets.specs.SheetRecords.{date_seen}
 use Rattle.register_sheets.specs.UnknownNames.{IsShort}
@@ -25,11 +26,11 @@ returns c dates most found =
     let (number, is) = c.requires.read in
     let seen = date_seen c.args.dates.now in
     let stopped : IsStopOf choice (column, fields) seen.stop
-    = record { first = seen.dated.first.text; last = seen.dated.last.text; marks = seen.dated.marks; ends = is.dated.ends; stop = is.stop } in
+    = record { first = as_text seen.dated.first; last = as_text seen.dated.last; marks = seen.dated.marks; ends = is.dated.ends; stop = is.stop } in
     let short : IsShort choice (column, fields) c.is_short-is_short.result
     = record {
-      first = seen.dated.first.text;
-      last = seen.dated.last.text;
+      first = as_text seen.dated.first;
+      last = as_text seen.dated.last;
       marks = seen.dated.marks;
       ends = is.dated.ends;
       is = search rules;

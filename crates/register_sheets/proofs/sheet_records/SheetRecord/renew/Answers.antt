@@ -1,4 +1,4 @@
-use Rattle.std.proofs.Common.{◌<◌, ◌∙◌, ◌+◌, List, arith, length, length-set, subst, sym, take}
+use Rattle.std.proofs.Common.{None, ◌<◌, ◌∙◌, ◌+◌, List, arith, length, length-set, subst, sym, take}
 use Rattle.std.specs.List.{AllZip}
 use Rattle.csv.specs.Records.{fields_of}
 use Rattle.register_sheets.specs.SheetRecords.{DateRead, IsDateRead, date_seen}
@@ -10,7 +10,7 @@ use Rattle.register_sheets.proofs.RowLemmas.{zip_at}
 use Rattle.register_sheets.proofs.sheet_records.SheetRecord.renew.Goals as goal
 
 abbrev none : DateColumn
-none = record { date = 0; calendar = Column 0 }
+none = record { date = 0; calendar = Column (record { place = 0; otherwise = None }) }
 
 pub dates-preserved : goal.dates-preserved
 dates-preserved c =

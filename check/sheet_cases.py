@@ -16,6 +16,12 @@ REFUSED = {
     "--date=1 --all=iso --calendar=2": NOT_AS_MANY,
     "--date=1 --date=2 --date=3 --all=iso --all=iso": NOT_AS_MANY,
     "--date=1 --all=mars": "unknown calendar: mars",
+    "--date=1 --all=julian/gregorian:1582-02-30": "unknown calendar: julian/gregorian:1582-02-30",
+    "--date=1 --all=julian/gregorian": "unknown calendar: julian/gregorian",
+    "--date=1 --calendar=2 --else=mars": "unknown calendar: mars",
+    "--date=1 --calendar=2 --else=": "unknown calendar: ",
+    "--date=1 --all=iso --else=julian": "--else is for --calendar",
+    "--date=1 --all=mars --else=julian": "--else is for --calendar",
     "--date=1 --all=iso --order=Days": "unknown order: Days",
     "--date=1 --all=iso --short-years=1850": "bad short years: 1850",
     "--date=1 --all=iso --short-years=2100": "bad short years: 2100",
@@ -218,6 +224,16 @@ STREAMS = [
      "No,Calendar,Date,rd,iso,refusal\n"
      "7,greg.,12 Mai 1806,659394,1806-W20-1,\n"
      "8,greg.,1 Meyo 1700,620668,1700-W17-6,\n", lines("standard input: 2 records, refused: 0, empty: 0")),
+    # A change of calendars, as one for all, for empty fields, and by a list; the day before 15 October 1582 was 4 October.
+    ("--date d --all julian/gregorian:1582-10-15 --order day --to rd,gregorian,julian",
+     "d\n4.10.1582\n10.10.1582\n15.10.1582\n", 0,
+     "d,rd,gregorian,julian,refusal\n4.10.1582,577735,1582-10-14,1582-10-04,\n10.10.1582,,,,6\n"
+     "15.10.1582,577736,1582-10-15,1582-10-05,\n", ""),
+    ("--date d --calendar c --else julian/gregorian:1752-09-14 --to rd",
+     "d,c\n1752-09-02,\n1752-09-14, \n1752-09-02,gregorian\n", 0,
+     "d,c,rd,refusal\n1752-09-02,,639796,\n1752-09-14, ,639797,\n1752-09-02,gregorian,639785,\n", ""),
+    ("--date d --calendar c --else both --to gregorian", "d,c\n10/22 January 1863,\n", 0,
+     "d,c,gregorian,refusal\n10/22 January 1863,,1863-01-22,\n", ""),
     # Lists of names: that of the first stands before the others. A word is month 5 by the one, and month 6 by the other.
     ("--date 1 --all gregorian --order day --to gregorian --names names.csv --names other.csv",
      "d\n2 Meyo 1806\n2 Juno 1806\n", 0, "d,gregorian,refusal\n2 Meyo 1806,1806-05-02,\n2 Juno 1806,1806-07-02,\n", ""),

@@ -123,7 +123,7 @@ impl RequestFault<'_> {
                 "give --calendar COLUMN or --all CALENDAR, once or once for each --date",
                 "",
             ),
-            RequestFault::ElseAlone => own_line(alloc, "--else is for --calendar", ""),
+            RequestFault::ElseAlone => ("--else is for --calendar", ""),
             RequestFault::UnknownCalendar(word) => ("unknown calendar: ", *word),
             RequestFault::UnknownOrder(word) => ("unknown order: ", *word),
             RequestFault::BadShortYears(word) => ("bad short years: ", *word),

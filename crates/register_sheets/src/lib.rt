@@ -43,8 +43,8 @@ mod unread_dates;
 
 pub use asked_of_sheets::{AskedByNames, AskedOfSheet};
 pub use choices::{
-    AskedColumn, CalendarColumn, CalendarField, ChoiceFault, DateColumn, End, IdField, MAX_COLUMNS, MAX_DATES,
-    SheetChoice, SheetSetup, Spans,
+    AskedColumn, CalendarColumn, CalendarField, ChoiceFault, DateColumn, End, IdField, MAX_COLUMNS,
+    MAX_DATES, SheetChoice, SheetSetup, Spans,
 };
 pub use converting::{OutputsEnd, convert_outputs, convert_sheet};
 pub use date_counts::{DateCounts, SheetCounts};

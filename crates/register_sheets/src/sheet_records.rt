@@ -371,7 +371,8 @@ impl ColumnDates {
         ensures calendar { self.new.calendar ≡ self.old.calendar }
     {
         self.julian.put(choice, Some(Calendar::Julian), field)?;
-        self.gregorian.put(choice, Some(Calendar::Gregorian), field)?;
+        self.gregorian
+            .put(choice, Some(Calendar::Gregorian), field)?;
         let (calendar, text) = at_change(from, self.julian.first(), self.gregorian.first());
         self.first.put(calendar, text)?;
         let (end, text) = at_change(from, self.julian.last(), self.gregorian.last());

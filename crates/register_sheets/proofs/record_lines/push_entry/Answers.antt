@@ -1,8 +1,9 @@
-use Rattle.std.proofs.Common.{◌≡◌, ◌∙◌, ◌∷◌, [], ℕ, List, rules}
+use Rattle.std.proofs.Common.{◌≡◌, ◌∙◌, ◌∷◌, [], ℕ, List, ap, rules}
 use Rattle.csv.specs.Records.{fields_of}
 use Rattle.register_sheets.specs.Choices.{id_text}
-use Rattle.register_sheets.specs.RecordLines.{entry_of}
-use Rattle.register_sheets.specs.SheetRecords.{date_seen, record_read}
+use Rattle.register_sheets.specs.CalendarChanges.{end_calendar}
+use Rattle.register_sheets.specs.RecordLines.{entry_at, entry_of}
+use Rattle.register_sheets.specs.SheetRecords.{date_seen, end_seen, record_read}
 use Rattle.register_sheets.proofs.LineLemmas.{both_gained, gained_at_last}
 use Rattle.register_sheets.proofs.record_lines.push_entry.Goals as goal
 
@@ -15,7 +16,11 @@ returns c =
     let choice = c.args.setup.now.choice in
     let read = c.args.of_sheet.now in
     let id : c.id_of.result.now ≡ id_text choice.id read.number (fields_of read.fields) = search rules in
+    let calendar = c.args.dates.now.calendar.items in
+    let named : c.name.result.now ≡ end_calendar (end_seen c.end-end.result.now).calendar calendar
+    = c.name.ensures ∙ ap (end_calendar (end_seen c.end-end.result.now).calendar) c.as_slice.ensures.value in
     gained_at_last c.push-3.result _ _ (entry_of choice (record_read read) c.args.end (date_seen c.args.dates.now)) old
     c.push-2.new.self c.push-3.new.self
     (both_gained _ _ old c.push.new.self c.push-2.new.self c.in_ok-push.ensures c.in_ok-push-2.ensures) c.push-3.ensures
-    (same_three id c.as_slice.ensures.value (c.as_slice-2.ensures.value ∙ c.end.ensures))
+    (same_three id named c.as_slice-2.ensures.value
+    ∙ ap (entry_at choice (record_read read) calendar) c.end-end.ensures)

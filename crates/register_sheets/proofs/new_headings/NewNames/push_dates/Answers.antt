@@ -1,4 +1,4 @@
-use Rattle.std.proofs.Common.{◌+◌, get_or, length, nat_lt, subst, sym, take}
+use Rattle.std.proofs.Common.{None, ◌+◌, get_or, length, nat_lt, subst, sym, take}
 use Rattle.std.proofs.lemmas.List.{take_more}
 use Rattle.register_records.specs.Entries.{Fields}
 use Rattle.register_sheets.specs.HeadingViews.{NamesMore}
@@ -12,7 +12,7 @@ use Rattle.register_sheets.proofs.new_headings.NewNames.push_dates.Goals as goal
 
 pub dates-preserved : goal.dates-preserved
 dates-preserved c =
-    let none : DateColumn = record { date = 0; calendar = calendar.Column 0 } in
+    let none : DateColumn = record { date = 0; calendar = calendar.Column (record { place = 0; otherwise = None }) } in
     let wanted = wanted_for (nat_lt 1 (length c.args.dates.now)) (fields_of c.args.self.now.own) c.args.spans c.args.columns.now in
     subst (λ (names : Fields). NamesMore names c.args.self.now c.push_all.new.self)
     (sym (flat_more wanted (take (c.dates.date-index + 1) c.args.dates.now) (take c.dates.date-index c.args.dates.now) _

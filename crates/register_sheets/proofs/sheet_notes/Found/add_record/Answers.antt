@@ -1,4 +1,4 @@
-use Rattle.std.proofs.Common.{◌≡◌, ◌<◌, ◌∙◌, ◌++◌, ℕ, Some, append-nil, arith, get_or, length, length-append}
+use Rattle.std.proofs.Common.{None, ◌≡◌, ◌<◌, ◌∙◌, ◌++◌, ℕ, Some, append-nil, arith, get_or, length, length-append}
 use Rattle.std.proofs.Common.{length-take, List, map, refl}
 use Rattle.std.proofs.Common.{subst, sym, take, take_all}
 use Rattle.std.specs.Prelude.{slice_get}
@@ -15,7 +15,7 @@ use Rattle.register_sheets.proofs.NoteLemmas.{columns_count, date_at_place}
 use Rattle.register_sheets.proofs.sheet_notes.Found.add_record.Goals as goal
 
 abbrev none : DateColumn
-none = record { date = 0; calendar = calendar.Column 0 }
+none = record { date = 0; calendar = calendar.Column (record { place = 0; otherwise = None }) }
 
 pub dates-init : goal.dates-init
 dates-init c dates most found =

@@ -1,6 +1,5 @@
 -- What the arguments of this program mean is one thing: what `MeaningLemmas` of `command_lines` wants to be shown.
 use Rattle.std.proofs.Common.{◌≡◌, ◌∙◌, Bool, true≢false, List, [], ◌∷◌, inl, inr, sym, rules, Result, Ok, Err}
-use Rattle.std.specs.Prelude.{All}
 use Rattle.clap.specs.Words.{IsAmong, Text, fault_of}
 use Rattle.clap.specs.declared.error.kind.ErrorKind.{ErrorKind}
 use Rattle.command_lines.specs.Values.{delimiter_option}
@@ -11,7 +10,7 @@ use Rattle.sheet_arguments.specs.CommandLine.{Values, command_line, values_of}
 use Rattle.sheet_arguments.specs.Faults.{Fault}
 use Rattle.sheet_arguments.specs.OptionValues.{order_option, short_hebrew_option, short_option, skip_option}
 use Rattle.sheet_arguments.specs.Requests.{Ask, Task, calendar_check, false_check, result_check, sheet_line, value_checks}
-use Rattle.sheet_arguments.specs.WordLists.{IsCalendarWord, IsFirstUnknown, columns_asked}
+use Rattle.sheet_arguments.specs.WordLists.{AreCalendarWords, IsFirstUnknown, columns_asked}
 use Rattle.written_dates.specs.declared.written.Choice.{Choice}
 use Rattle.sheet_arguments.proofs.OptionLemmas.{one_order, one_short, one_short_hebrew, one_skip, same_order, same_short}
 
@@ -46,7 +45,7 @@ one_unknown (w ∷ words) f g (inl is) (inr same) = absurd (is.1 same.0)
 one_unknown (w ∷ words) f g (inr is) (inl same) = absurd (same.1 is.0)
 one_unknown (w ∷ words) f g (inr is) (inr same) = one_unknown words f g is.1 same.1
 
-none_unknown : (words : List Text) (f : Fault) → All IsCalendarWord words → IsFirstUnknown words f → ⊥
+none_unknown : (words : List Text) (f : Fault) → AreCalendarWords words → IsFirstUnknown words f → ⊥
 none_unknown [] f said is = is
 none_unknown (w ∷ words) f said (inl is) = is.1 said.0
 none_unknown (w ∷ words) f said (inr is) = none_unknown words f said.1 is.1

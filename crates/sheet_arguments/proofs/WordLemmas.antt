@@ -1,8 +1,7 @@
 -- What words name, and lists of words.
 use Rattle.std.proofs.Common.{◌≡◌, ◌↔◌, ◌∙◌, ◌+◌, ◌<◌, ◌++◌, ◌∷◌, ℕ, zero, suc, Bool, true, false, List, [], Option, None}
 use Rattle.std.proofs.Common.{Some, true≢false, Bor, ap, ap₂, arith, drop, get_or, length, lit<, map, refl, sym, take}
-use Rattle.std.proofs.Common.{Result, Ok, Err, inl, inr, subst}
-use Rattle.std.specs.Prelude.{All}
+use Rattle.std.proofs.Common.{Result, Ok, Err, IfSome, inl, inr, is_some, subst}
 use Rattle.std.specs.List.{find}
 use Rattle.std.specs.Prelude.{if◌then◌else◌}
 use Rattle.std.specs.Str.{bytes_eq, str_to_ascii_lowercase}
@@ -25,8 +24,10 @@ use Rattle.date_texts.specs.declared.target.Target.TheVariants.{Date, Haab, Tzol
 use Rattle.register_sheets.specs.Headings.{asked_name}
 use Rattle.register_sheets.specs.declared.choices.AskedColumn.{AskedColumn}
 use Rattle.register_sheets.specs.declared.choices.AskedColumn.TheVariants.{Cells, Church, DayNumber, Weekday}
+use Rattle.written_dates.specs.declared.fields.CalendarMeaning.{CalendarMeaning}
+use Rattle.register_sheets.specs.NameMeanings.{SaysCalendar}
 use Rattle.sheet_arguments.specs.Faults.{Fault, column_twice, unknown_calendar, unknown_column}
-use Rattle.sheet_arguments.specs.WordLists.{IsCalendarWord, IsFirstUnknown, all_columns, column_named, is_among}
+use Rattle.sheet_arguments.specs.WordLists.{AreCalendarWords, IsCalendarWord, IsFirstUnknown, all_columns, column_named, is_among}
 use Rattle.sheet_arguments.specs.WordLists.{or_fault}
 use Rattle.sheet_arguments.specs.WordLists.{is_column_name, names_in, with_columns}
 
@@ -109,13 +110,26 @@ cut_at (x ∷ xs) zero d lt = refl
 cut_at (x ∷ xs) (suc i) d lt = ap (λ (ys : List _). x ∷ ys) (cut_at xs i d (omega arith))
 
 -- words before this one say calendars, and it does, or does not
-pub calendar_more : (words : List Text) (i : ℕ) (d : Text) → i < length words → All IsCalendarWord (take i words)
-    → IsCalendarWord (get_or words i d) → All IsCalendarWord (take (i + 1) words)
+pub calendar_more : (words : List Text) (i : ℕ) (d : Text) → i < length words → AreCalendarWords (take i words)
+    → IsCalendarWord (get_or words i d) → AreCalendarWords (take (i + 1) words)
 calendar_more [] i d lt said is = absurd (omega arith)
 calendar_more (w ∷ words) zero d lt said is = (is, tt)
-calendar_more (w ∷ words) (suc i) d lt said is = (said.0, calendar_more words i d (omega arith) said.1 is)
+calendar_more (w ∷ words) (suc i) d lt said is =
+    let next : suc i + 1 ≡ suc (i + 1) = omega arith in
+    rw next (said.0, calendar_more words i d (omega arith) said.1 is)
 
-pub calendar_fault : (words : List Text) (i : ℕ) (d : Text) → i < length words → All IsCalendarWord (take i words)
+-- what is found of a word says whether it is one
+pub word_said : (found : Option CalendarMeaning) (word : Text) → is_some found ≡ true → IfSome found (SaysCalendar word)
+    → IsCalendarWord word
+word_said None word some says = absurd (cc)
+word_said (Some meaning) word some says = (meaning, says)
+
+pub word_unsaid : (found : Option CalendarMeaning) (word : Text) → is_some found ≡ false
+    → (found ≡ None → (meaning : CalendarMeaning) → ¬ (SaysCalendar word meaning)) → ¬ (IsCalendarWord word)
+word_unsaid None word some none is = none refl is.0 is.1
+word_unsaid (Some meaning) word some none is = absurd (cc)
+
+pub calendar_fault : (words : List Text) (i : ℕ) (d : Text) → i < length words → AreCalendarWords (take i words)
     → ¬ (IsCalendarWord (get_or words i d)) → IsFirstUnknown words (unknown_calendar (get_or words i d))
 calendar_fault [] i d lt said none = absurd (omega arith)
 calendar_fault (w ∷ words) zero d lt said none = inl (refl, none)
@@ -164,7 +178,7 @@ cut_behind names before i name place front = (
 -- ---- words as a slice holds them
 
 module _ (words : List (Bor Text)) (i : ℕ) (d : Bor Text) (lt : i < length words)
-    (said : All IsCalendarWord (take i (map (λ word. word.now) words))) where
+    (said : AreCalendarWords (take i (map (λ word. word.now) words))) where
   low : i < length (map (λ (word : Bor Text). word.now) words)
   low = rw (length-map words (λ (word : Bor Text). word.now)) lt
 
@@ -172,7 +186,7 @@ module _ (words : List (Bor Text)) (i : ℕ) (d : Bor Text) (lt : i < length wor
   at = get_or-map (λ word. word.now) words i d [] lt
 
   pub calendar_more_at : IsCalendarWord (get_or words i d).now
-      → All IsCalendarWord (take (i + 1) (map (λ word. word.now) words))
+      → AreCalendarWords (take (i + 1) (map (λ word. word.now) words))
   calendar_more_at is =
       calendar_more (map (λ word. word.now) words) i [] low said (subst IsCalendarWord (sym at) is)
 

@@ -1,6 +1,6 @@
 -- What the arguments ask for.
 use Rattle.std.specs.Prelude.{◌≡◌, ◌==◌, ◌||◌, ◌&&◌, ℕ, Bool, true, false, List, [], ◌∷◌, length, map, nat_lt, not}
-use Rattle.std.specs.Prelude.{if◌then◌else◌, All, Option, is_some, option_map, option_to_list, Result, Ok, Err}
+use Rattle.std.specs.Prelude.{if◌then◌else◌, Option, is_some, option_map, option_to_list, Result, Ok, Err}
 use Rattle.clap.specs.Words.{Text}
 use Rattle.command_lines.specs.FileLists.{AreFilesToConvert}
 use Rattle.command_lines.specs.Meanings as lines
@@ -17,7 +17,7 @@ use Rattle.sheet_arguments.specs.Faults.{file_twice, no_date, register_of_input,
 use Rattle.sheet_arguments.specs.Faults.{unknown_delimiter, unknown_order, usage}
 use Rattle.sheet_arguments.specs.OptionValues.{order_number, order_option, short_hebrew_option, short_number}
 use Rattle.sheet_arguments.specs.OptionValues.{short_option, skip_option}
-use Rattle.sheet_arguments.specs.WordLists.{IsCalendarWord, IsFirstUnknown, columns_asked}
+use Rattle.sheet_arguments.specs.WordLists.{AreCalendarWords, IsFirstUnknown, columns_asked}
 use Rattle.sheet_arguments.specs.declared.requests.CalendarsAsked.{CalendarsAsked}
 use Rattle.sheet_arguments.specs.declared.requests.CalendarsAsked.TheVariants as asked
 use Rattle.sheet_arguments.specs.declared.requests.Job.{Job}
@@ -85,8 +85,8 @@ pub record Ask (values : Values) (task : Task) : Type 0 where
   pub as_many : are_misfits (length values.dates) (length values.calendars) (length values.all) ≡ false
   pub not_alone : is_else_alone (length values.calendars) values.otherwise ≡ false
   pub calendars : task.calendars ≡ calendars_wanted values.calendars values.all values.otherwise
-  pub all_say : All IsCalendarWord values.all
-  pub else_says : All IsCalendarWord (option_to_list values.otherwise)
+  pub all_say : AreCalendarWords values.all
+  pub else_says : AreCalendarWords (option_to_list values.otherwise)
   pub id : task.id ≡ values.id
   pub order : IsValueOf order_option values.order (order_number task.reading.order)
   pub short_years : IsValueOf short_option values.short_years (short_number task.reading.short_years)
@@ -115,7 +115,7 @@ result_check {A} result = record { fails = λ f. result ≡ Err f; passes = (a :
 
 -- the check of words that are to say calendars
 abbrev pub calendar_check : List Text → Check Fault
-calendar_check words = record { fails = IsFirstUnknown words; passes = All IsCalendarWord words }
+calendar_check words = record { fails = IsFirstUnknown words; passes = AreCalendarWords words }
 
 -- the checks of values, in order
 abbrev pub value_checks : Values → List (Check Fault)

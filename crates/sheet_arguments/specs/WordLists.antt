@@ -1,5 +1,5 @@
 -- What lists of words name.
-use Rattle.std.specs.Prelude.{◌≡◌, ◌==◌, ◌⊎◌, ◌++◌, ◌∷◌, Bool, List, [], map, Option, Some, None, Result, Ok, Err, if◌then◌else◌}
+use Rattle.std.specs.Prelude.{◌≡◌, ◌==◌, ◌⊎◌, ⊤, ◌++◌, ◌∷◌, Bool, List, [], map, Option, Some, None, Result, Ok, Err, if◌then◌else◌}
 use Rattle.std.specs.List.{find, list_any, slice_split}
 use Rattle.std.specs.Str.{bytes_eq, str_to_ascii_lowercase}
 use Rattle.clap.specs.Words.{Text}
@@ -22,6 +22,10 @@ or_fault fault (Some a) next = next a
 -- a word says something of the calendar of dates
 abbrev pub IsCalendarWord : Text → Type 0
 IsCalendarWord word = (meaning : CalendarMeaning) × SaysCalendar word meaning
+
+abbrev pub AreCalendarWords : List Text → Type 0
+AreCalendarWords [] = ⊤
+AreCalendarWords (word ∷ words) = IsCalendarWord word × AreCalendarWords words
 
 -- the fault is the first of these words that says nothing of it
 abbrev pub IsFirstUnknown : List Text → Fault → Type 0

@@ -1,8 +1,8 @@
 //! Words that say the calendar of dates.
 
-ghost use Rattle.std.specs.Prelude.{◌≡◌, All, IfErr, IfSome, OnOk, map, option_map, option_to_list};
+ghost use Rattle.std.specs.Prelude.{◌≡◌, IfErr, IfSome, OnOk, map, option_map, option_to_list};
 ghost use Rattle.sheet_arguments.specs.Faults.{fault_of_error};
-ghost use Rattle.sheet_arguments.specs.WordLists.{IsCalendarWord, IsFirstUnknown};
+ghost use Rattle.sheet_arguments.specs.WordLists.{AreCalendarWords, IsFirstUnknown};
 
 use crate::request_faults::RequestFault;
 use register_sheets::calendar_said;
@@ -13,7 +13,7 @@ use register_sheets::calendar_said;
 ///
 /// `UnknownCalendar` for that word.
 pub fn check_calendars<'a>(words: &[&'a str]) -> Result<(), RequestFault<'a>>
-    ensures fine { OnOk result (All IsCalendarWord (map (λ word. word.now) words.now)) }
+    ensures fine { OnOk result (AreCalendarWords (map (λ word. word.now) words.now)) }
     ensures fault { IfErr result (λ error. IfSome (fault_of_error error)
         (IsFirstUnknown (map (λ word. word.now) words.now))) }
 {
@@ -31,7 +31,7 @@ pub fn check_calendars<'a>(words: &[&'a str]) -> Result<(), RequestFault<'a>>
 ///
 /// `UnknownCalendar` for that word.
 pub fn check_otherwise<'a>(word: Option<&'a str>) -> Result<(), RequestFault<'a>>
-    ensures fine { OnOk result (All IsCalendarWord (option_to_list (option_map (λ w. w.now) word.entry))) }
+    ensures fine { OnOk result (AreCalendarWords (option_to_list (option_map (λ w. w.now) word.entry))) }
     ensures fault { IfErr result (λ error. IfSome (fault_of_error error)
         (IsFirstUnknown (option_to_list (option_map (λ w. w.now) word.entry)))) }
 {

@@ -18,8 +18,8 @@ ghost use Rattle.sheet_arguments.specs.Requests.{is_misfit as misfit_spec, meani
 ghost use Rattle.sheet_arguments.specs.Requests.{AreSaidBy, FewDates, WordsAre, output_checks, value_checks, values_by};
 ghost use Rattle.sheet_arguments.specs.Requests.{spans_asked as spans_spec, wanted_by, word_checks};
 
-use crate::column_lists::chosen_columns;
 use crate::calendar_words::{check_calendars, check_otherwise};
+use crate::column_lists::chosen_columns;
 use crate::option_values::{
     chosen_delimiter, chosen_order, chosen_short_hebrew_years, chosen_short_years, chosen_skip,
 };
@@ -264,7 +264,7 @@ fn chosen_calendars<'a>(
     otherwise: Option<&'a str>,
 ) -> CalendarsAsked<'a>
     ensures { wanted_by result ≡ calendars_wanted (map (λ v. v.now) columns.entry.items)
-        (map (λ v. v.now) all.entry.items) (option_map (λ v. v.now) otherwise) }
+        (map (λ v. v.now) all.entry.items) (option_map (λ v. v.now) otherwise.entry) }
 {
     if columns.is_empty() {
         CalendarsAsked::All(all)

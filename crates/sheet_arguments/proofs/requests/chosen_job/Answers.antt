@@ -1,13 +1,12 @@
 -- What the options mean.
 use Rattle.std.proofs.Common.{drop, inl, inr, option_to_list, refl, take}
-use Rattle.std.specs.Prelude.{All}
 use Rattle.command_lines.proofs.MeaningLemmas.{AllPass}
 use Rattle.command_lines.specs.Meanings.{FailFirst}
 use Rattle.sheet_arguments.specs.CommandLine.{Values}
 use Rattle.sheet_arguments.specs.Faults.{Fault}
 use Rattle.sheet_arguments.specs.Requests.{AreSaidBy, FewDates, output_checks, result_check, value_checks, values_by}
 use Rattle.sheet_arguments.specs.Requests.{word_checks}
-use Rattle.sheet_arguments.specs.WordLists.{IsCalendarWord, IsFirstUnknown, columns_asked}
+use Rattle.sheet_arguments.specs.WordLists.{AreCalendarWords, IsFirstUnknown, columns_asked}
 use Rattle.sheet_arguments.specs.declared.requests.Reading.{Reading}
 use Rattle.sheet_arguments.specs.declared.requests.Words.{Words}
 use Rattle.sheet_arguments.proofs.FaultLemmas.{among_first, behind, found_up}
@@ -17,7 +16,7 @@ use Rattle.sheet_arguments.proofs.requests.chosen_job.Goals as goal
 passed_four : (v : Values) → FewDates v → AllPass (take 4 (value_checks v))
 passed_four v few = (few.0, (few.1, (few.2, (few.3, tt))))
 
-passed_six : (v : Values) → FewDates v → All IsCalendarWord v.all → All IsCalendarWord (option_to_list v.otherwise)
+passed_six : (v : Values) → FewDates v → AreCalendarWords v.all → AreCalendarWords (option_to_list v.otherwise)
     → AllPass (take 6 (value_checks v))
 passed_six v few all otherwise = (few.0, (few.1, (few.2, (few.3, (all, (otherwise, tt))))))
 

@@ -1,6 +1,6 @@
 -- One line of a tree more.
-use Rattle.std.proofs.Common.{◌≡◌, ◌<◌, ◌+◌, ◌++◌, [], ◌∷◌, ℕ, List, append_assoc, arith, drop, false, get_or, length}
-use Rattle.std.proofs.Common.{map, reverse}
+use Rattle.std.proofs.Common.{◌≡◌, ◌<◌, ◌+◌, ◌++◌, [], ◌∷◌, ℕ, Bool, List, ap, append_assoc, arith, cond, drop, false, filter, get_or, length}
+use Rattle.std.proofs.Common.{map, refl, reverse}
 use Rattle.std.proofs.Common.{take, true}
 use Rattle.family_trees.specs.LineViews.{line_seen}
 use Rattle.family_trees.specs.Lines.{TreeLine}
@@ -25,3 +25,14 @@ pub no_date_more : (tree : List TreeLine) (lines : List Line) (i : ℕ) (d : Lin
     → dates ++ dates_left tree lines (i + 1) ≡ all
 no_date_more tree lines i d dates all lt is so_far =
     grind (arith, append_assoc, first_behind lines i d lt, last_before lines i d lt)
+
+mapped : {X Y : Type 0} (f : X → Y) (passes : Bool) (x : X) (xs : List X) (ys : List Y) → map f xs ≡ ys
+    → map f (cond passes (x ∷ xs) xs) ≡ cond passes (f x ∷ ys) ys
+mapped f true x xs ys rest = ap (λ (zs : List _). f x ∷ zs) rest
+mapped f false x xs ys rest = rest
+
+-- what passes a test by what is seen of it
+pub map_filter : {X Y : Type 0} (p : Y → Bool) (f : X → Y) (xs : List X)
+    → map f (filter (λ x. p (f x)) xs) ≡ filter p (map f xs)
+map_filter p f [] = refl
+map_filter p f (x ∷ xs) = mapped f (p (f x)) x _ _ (map_filter p f xs)

@@ -6,4 +6,5 @@ pub mod TextViews
 pub mod TreeViews
 pub mod DateViews
 pub mod TreeSheets
+pub mod OwnDates
 pub mod SheetViews

@@ -86,7 +86,7 @@ fn level_of(word: &[u8]) -> Option<u8>
 }
 
 /// The line that a text is, or `None` where it is none.
-fn line_of(text: &[u8]) -> Option<Line<'_>>
+pub(crate) fn line_of(text: &[u8]) -> Option<Line<'_>>
     ensures { option_map line_seen result ≡ line_of text.now }
 {
     let level = level_of(word_of(text))?;

@@ -1,12 +1,14 @@
 //! The dates of a family tree as a sheet.
 
-ghost use Rattle.std.specs.Prelude.{◌≡◌, ◌++◌, ℕ, List, IfOk, OnOk, map};
+ghost use Rattle.std.specs.Prelude.{◌≡◌, ◌++◌, ◌∷◌, ℕ, List, IfOk, OnOk, map};
 ghost use Rattle.csv.specs.Writing.{default_writer, row_text};
 ghost use Rattle.family_trees.specs.DateViews.{date_seen};
+ghost use Rattle.family_trees.specs.OwnDates.{own_text};
 ghost use Rattle.family_trees.specs.SheetViews.{Holds};
-ghost use Rattle.family_trees.specs.TreeSheets.{date_record, tree_head, tree_text};
+ghost use Rattle.family_trees.specs.TreeSheets.{date_record, records_text, tree_head, tree_text};
 
 use crate::dates::{TreeDate, dates_of};
+use crate::own_dates::own_dates_of;
 use csv::Writer;
 use std::alloc::{AllocError, Global};
 
@@ -76,6 +78,24 @@ fn text_of(sheet: Writer<Vec<u8>>) -> Result<Vec<u8>, AllocError>
     }
 }
 
+/// The sheet of dates: a record for each, in order, below a record of names.
+fn sheet_of(alloc: Global, dates: &[TreeDate]) -> Result<Vec<u8>, AllocError>
+    ensures { IfOk result (λ text.
+        text.items ≡ records_text (tree_head ∷ map date_record (map date_seen dates.now))) }
+{
+    let mut sheet = Writer::from_writer(Vec::new(alloc));
+    write_head(&mut sheet)?;
+    'dates: for date in dates {
+        write_date(
+            &mut sheet,
+            date,
+            date.place.as_slice(),
+            date.date.as_slice(),
+        )?;
+    }
+    text_of(sheet)
+}
+
 /// The dates of a family tree in GEDCOM 5.5.1 or 7 as a sheet: a CSV text with a record for each line `DATE` of the tree,
 /// in order, below a record of names.
 ///
@@ -86,15 +106,17 @@ pub fn tree_sheet(alloc: Global, tree: &[u8]) -> Result<Vec<u8>, AllocError>
     ensures { IfOk result (λ text. text.items ≡ tree_text tree.now) }
 {
     let dates = dates_of(alloc, tree)?;
-    let mut sheet = Writer::from_writer(Vec::new(alloc));
-    write_head(&mut sheet)?;
-    'dates: for date in &dates {
-        write_date(
-            &mut sheet,
-            date,
-            date.place.as_slice(),
-            date.date.as_slice(),
-        )?;
-    }
-    text_of(sheet)
+    sheet_of(alloc, dates.as_slice())
+}
+
+/// The same without the dates of the file itself: those of its header, and of when a record was changed or made.
+///
+/// # Errors
+///
+/// Where memory ran out.
+pub fn own_tree_sheet(alloc: Global, tree: &[u8]) -> Result<Vec<u8>, AllocError>
+    ensures { IfOk result (λ text. text.items ≡ own_text tree.now) }
+{
+    let dates = own_dates_of(alloc, tree)?;
+    sheet_of(alloc, dates.as_slice())
 }

@@ -1,6 +1,6 @@
 //! A small tree of each version, and the dates in it, found by hand.
 
-use family_trees::{TreeDate, dates_of};
+use family_trees::{TreeDate, dates_of, is_tree, own_tree_sheet};
 use std::alloc::{AllocError, Global};
 use std::test::Fail;
 
@@ -205,5 +205,58 @@ fn trees_have_their_dates(rt: HostRuntime) -> Result<(), Fail> {
     for case in &CASES {
         assert!(rt; has_dates(rt.alloc(), case)?, "at {:?}", case.tree);
     }
+    Ok(())
+}
+
+/// A tree with the mark of UTF-8, of which the file has dates too.
+const OWN_TREE: &str = "\u{feff}\
+0 HEAD
+1 DATE 3 MAR 2020
+0 @I1@ INDI
+1 NAME Anna, Böhm
+1 BIRT
+2 DATE 10 FEB 1699
+1 CHAN
+2 DATE 4 MAR 2020
+3 TIME 12:00
+1 _CREA
+2 DATE 5 MAR 2020
+1 CHANGE
+2 DATE 1720
+0 TRLR
+";
+
+/// The sheet of its own dates.
+const OWN_SHEET: &str = "\
+record,name,partner,event,part,type,place,calendar,date
+@I1@,\"Anna, Böhm\",,BIRT,,,,gregorian,10 FEB 1699
+@I1@,\"Anna, Böhm\",,CHANGE,,,,gregorian,1720
+";
+
+#[test]
+fn a_sheet_has_no_dates_of_the_file(rt: HostRuntime) -> Result<(), Fail> {
+    let sheet = own_tree_sheet(rt.alloc(), OWN_TREE.as_bytes())?;
+    assert!(rt; sheet.as_slice() == OWN_SHEET.as_bytes());
+    Ok(())
+}
+
+#[test]
+fn trees_begin_with_their_header(rt: HostRuntime) -> Result<(), Fail> {
+    let trees = [
+        OWN_TREE,
+        "0 HEAD",
+        "\r\n  0 HEAD\r\n1 CHAR UTF-8",
+        "x\n0 HEAD 1",
+    ];
+    let others = [
+        "",
+        "0 HEADING,d\n",
+        "1 HEAD",
+        "0 @I1@ INDI\n0 HEAD",
+        "0 head",
+        "record,name\n",
+    ];
+    assert!(rt; trees.iter().all(|text| is_tree(text.as_bytes())));
+    assert!(rt; !others.iter().any(|text| is_tree(text.as_bytes())));
     Ok(())
 }

@@ -1,4 +1,4 @@
-use Rattle.std.proofs.Common.{◌≡◌, ◌∙◌, ◌++◌, ◌∷◌, [], List, ap, append-nil, arith, map, refl, sym, subst, take_all, take}
+use Rattle.std.proofs.Common.{◌≡◌, ◌++◌, ◌∷◌, [], List, ap, append-nil, arith, map, refl, sym, subst, take_all, take}
 use Rattle.csv.specs.Writing.{default_writer, row_text}
 use Rattle.family_trees.specs.DateViews.{date_seen}
 use Rattle.family_trees.specs.SheetViews.{Holds}
@@ -6,7 +6,7 @@ use Rattle.family_trees.specs.Trees.{DateOfTree}
 use Rattle.family_trees.specs.declared.dates.TreeDate.{TreeDate}
 use Rattle.family_trees.specs.TreeSheets.{date_record, records_text, tree_head}
 use Rattle.family_trees.proofs.TreeSheetLemmas.{one_date_more, text_known}
-use Rattle.family_trees.proofs.tree_sheets.tree_sheet.Goals as goal
+use Rattle.family_trees.proofs.tree_sheets.sheet_of.Goals as goal
 
 pub dates-init : goal.dates-init
 dates-init c =
@@ -21,7 +21,7 @@ dates-init c =
 
 pub dates-preserved : goal.dates-preserved
 dates-preserved c =
-    let dates = c.deref-date-items.result.now in
+    let dates = c.args.dates.now in
     let done = records_text (tree_head ∷ map date_record (map date_seen (take c.dates.date-index dates))) in
     subst (λ text. Holds text c.write_date.new.sheet) (one_date_more dates c.dates.date-index _ c.dates-test.true)
     (subst (λ (date : TreeDate). Holds (done ++ row_text default_writer (date_record (date_seen date)))
@@ -29,9 +29,8 @@ dates-preserved c =
 
 pub returns : goal.returns
 returns c =
-    let dates = c.deref-date-items.result.now in
-    let all : map date_seen (take c.dates.date-index dates) ≡ map date_seen c.in_ok-dates.dates.items
-    = ap (map date_seen) (take_all c.dates.date-index dates (omega (arith, c.dates-test.false))
-    ∙ c.deref-date-items.ensures.value) in
+    let dates = c.args.dates.now in
+    let all : map date_seen (take c.dates.date-index dates) ≡ map date_seen dates
+    = ap (map date_seen) (take_all c.dates.date-index dates (omega (arith, c.dates-test.false))) in
     text_known c.text_of.result _ _ c.dates.sheet c.text_of.ensures c.dates.invariant
-    (ap (λ (xs : List DateOfTree). records_text (tree_head ∷ map date_record xs)) (all ∙ c.in_ok-dates.ensures))
+    (ap (λ (xs : List DateOfTree). records_text (tree_head ∷ map date_record xs)) all)

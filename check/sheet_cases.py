@@ -2,6 +2,7 @@
 rules and from published day numbers."""
 
 VERSION = "register-sheet 1.2.0\n"
+AT_ODDS = "--tree takes no --date, --calendar, --all, --skip and --delimiter"
 NOT_AS_MANY = "give --calendar COLUMN or --all CALENDAR, once or once for each --date"
 
 # What holds where an option is not given, as the page of help says it.
@@ -22,6 +23,13 @@ REFUSED = {
     "--date=1 --calendar=2 --else=": "unknown calendar: ",
     "--date=1 --all=iso --else=julian": "--else is for --calendar",
     "--date=1 --all=mars --else=julian": "--else is for --calendar",
+    "--tree --date=1": AT_ODDS,
+    "--tree --calendar=1 --order=x": AT_ODDS,
+    "--all=mars --tree": AT_ODDS,
+    "--tree --skip=0": AT_ODDS,
+    "--delimiter=x --tree --register": AT_ODDS,
+    "--tree --order=x": "unknown order: x",
+    "--tree --register": "--register is for files",
     "--date=1 --all=iso --order=Days": "unknown order: Days",
     "--date=1 --all=iso --short-years=1850": "bad short years: 1850",
     "--date=1 --all=iso --short-years=2100": "bad short years: 2100",
@@ -69,6 +77,7 @@ MISUSED = {
     "--order": "a value is required for '--order <year|day|month>' but none was supplied",
     "--order day --order day": "the argument '--order <year|day|month>' cannot be used multiple times",
     "--unknown --unknown": "the argument '--unknown' cannot be used multiple times",
+    "--tree --tree": "the argument '--tree' cannot be used multiple times",
     "--register=x": "unexpected value 'x' for '--register' found; no more were expected",
 }
 
@@ -171,7 +180,51 @@ STYLES_REGISTER = ("id,calendar,date\n1,gregorian,1863-1-22\n2,gregorian,1864-1-
                    "3,gregorian,10/23 stycznia 1863\n")
 STYLES_COLUMNS = "--date Date --calendar Style --order day"
 
+# A family tree with the mark of UTF-8 and dates of its file. The days are those of the reforms of 1700 and 1752, and of the
+# calendar of the Republic.
+TREE = """\
+\ufeff0 HEAD
+1 DATE 3 MAR 2020
+0 @I1@ INDI
+1 NAME Käthe, Böhm
+1 BIRT
+2 DATE @#DJULIAN@ 10 FEB 1699
+2 PLAC Ri
+3 CONC ga
+1 DEAT
+2 DATE @#DHEBREW@ 5 TSH 5507
+1 CHAN
+2 DATE 4 MAR 2020
+0 @F1@ FAM
+1 WIFE @I1@
+1 MARR
+2 DATE @#DFRENCH R@ 18 BRUM 8
+1 EVEN
+2 TYPE Umzug
+2 DATE ABT 1720
+1 EVEN
+2 DATE 9.11.1799
+0 TRLR
+"""
+TREE_CONVERTED = """\
+record,name,partner,event,part,type,place,calendar,date,gregorian,refusal
+@I1@,"Käthe, Böhm",,BIRT,,,Riga,julian,10 FEB 1699,1699-02-20,
+@I1@,"Käthe, Böhm",,DEAT,,,,hebrew,5 TSH 5507,1746-09-19,
+@F1@,,"Käthe, Böhm",MARR,,,,republican,18 BRUM 8,1799-11-09,
+@F1@,,"Käthe, Böhm",EVEN,,Umzug,,gregorian,ABT 1720,,5
+@F1@,,"Käthe, Böhm",EVEN,,,,gregorian,9.11.1799,1799-11-09,
+"""
+TREE_REGISTER = """\
+id,calendar,date
+@I1@,julian,1699-2-10
+@I1@,hebrew,5507-7-5
+@F1@,republican,8-2-18
+@F1@,gregorian,ABT 1720
+@F1@,gregorian,1799-11-9
+"""
+
 FILES = {
+    "tree.ged": TREE,
     "spans.csv": SPANS, "styles.csv": STYLES, "old-style.csv": "name,means,in\nstary/nowy,julian,\nO.S.,both,\n",
     "a.csv": SHEET, "c.csv": SHEET, "own.csv": SHEET, "two.csv": TWO_DATES, "empty.csv": "",
     "names.csv": "name,means,in\nMeyo,month 5,\n", "weekdays.csv": "name,means,in\nSonntag,weekday 0,\n",
@@ -296,6 +349,21 @@ STREAMS = [
      "Style,Date\nO.S.,10/22 stycznia 1863\nstary/nowy,10/22 stycznia 1863\n", 0,
      "Style,Date,first gregorian,last gregorian,mark,refusal\nO.S.,10/22 stycznia 1863,1863-01-22,1863-01-22,,\n"
      "stary/nowy,10/22 stycznia 1863,,,,5\n", lines("standard input: 1 date is no date of its calendar")),
+    # Family trees: a date by the order of its day and month, and of its month and day; and texts that are none.
+    ("--tree --to gregorian --summary", TREE, 0, TREE_CONVERTED,
+     lines("standard input: 1 date is no date of its calendar", "standard input: 5 records, refused: 1, empty: 0")),
+    ("--tree --to gregorian --order month", "0 HEAD\n0 @A@ INDI\n1 BIRT\n2 DATE 9.11.1799", 0,
+     "record,name,partner,event,part,type,place,calendar,date,gregorian,refusal\n"
+     "@A@,,,BIRT,,,,gregorian,9.11.1799,1799-09-11,\n", ""),
+    ("--tree --to rd --spans", "0 HEAD\n0 @A@ INDI\n1 BIRT\n2 DATE MAY 1806\n", 0,
+     "record,name,partner,event,part,type,place,calendar,date,first rd,last rd,mark,refusal\n"
+     "@A@,,,BIRT,,,,gregorian,MAY 1806,659383,659413,,\n", ""),
+    ("--tree --unknown", "0 HEAD\n0 @A@ INDI\n1 BIRT\n2 DATE 9 Meyo 1799", 0, "name,means,in,count\nMeyo,?,gregorian,1\n", ""),
+    ("--tree --id gender", "0 HEAD\n", 1, "",
+     lines("standard input: no column gender: the columns are record, name, partner, event, part, type, place, calendar, date")),
+    ("--tree", SHEET, 1, "", lines("standard input: is no family tree: its first line is not 0 HEAD")),
+    ("--tree", "", 1, "", lines("standard input: is no family tree: its first line is not 0 HEAD")),
+    ("--tree", "0 HEAD\n1 NOTE K\udce4the\n", 1, "", lines("standard input: is not UTF-8")),
     # Sheets that break off.
     ("--date Datum --calendar Calendar", SHEET, 1, "",
      lines("standard input: no column Datum: the columns are No, Calendar, Date")),
@@ -338,6 +406,10 @@ MADE = [
     (f"{STYLES_COLUMNS} --id No --register styles.csv", 0,
      {"styles.csv.dates.csv": STYLES_CONVERTED, "styles.csv.register.csv": STYLES_REGISTER},
      lines("styles.csv: 1 date is no date of its calendar")),
+    # A family tree with its register, and a sheet that is none.
+    ("--tree --to gregorian --id record --register tree.ged a.csv", 1,
+     {"tree.ged.dates.csv": TREE_CONVERTED, "tree.ged.register.csv": TREE_REGISTER, "a.csv.dates.csv": "", "a.csv.register.csv": ""},
+     lines("tree.ged: 1 date is no date of its calendar", "a.csv: is no family tree: its first line is not 0 HEAD")),
     # Files that cannot be opened or made: all are opened before any is made.
     ("--date 1 --all iso a.csv none.csv", 3, {}, lines("cannot open none.csv")),
     ("--date 1 --all iso a.csv c.csv", 3, {"a.csv.dates.csv.part": ""}, lines("cannot make c.csv.dates.csv")),

@@ -4,7 +4,7 @@
 --   ListLemmas: the sheets of files, one after the other, for `answered`.
 --   NameLemmas: the names of outputs, for `answered`. NameListLemmas: what lists dates are read by, for `answered`.
 --   RefusedLemmas: `refused` and `reported`. FaultLemmas: which file a line names, for `reported`.
---   RegisterLemmas: the outputs of registers, for `answered`.
+--   RegisterLemmas: the outputs of registers, for `answered`. TreeLemmas: the sheets of texts, for `answered`.
 mod ColumnLemmas
 mod EndLemmas
 mod FaultLemmas
@@ -15,3 +15,4 @@ mod NameListLemmas
 mod RefusedLemmas
 mod RegisterLemmas
 mod TaskLemmas
+mod TreeLemmas

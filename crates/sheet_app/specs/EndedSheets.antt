@@ -10,13 +10,12 @@ use Rattle.register_sheets.specs.declared.name_lists.NameLine.{NameLine}
 use Rattle.sheet_arguments.specs.Requests.{Task}
 use Rattle.sheet_app.specs.FileSheets.{IsMadeFor, ending_of, names_ending, register_endings, sheet_name}
 use Rattle.sheet_app.specs.Lines.{lines_on, names_line}
-use Rattle.sheet_app.specs.Sheets.{IsEnded}
+use Rattle.sheet_app.specs.TreeTexts.{IsTextEnded}
 use Rattle.sheet_app.specs.declared.converting.EndedSheet.{EndedSheet}
 use Rattle.sheet_app.specs.declared.file_sheets.FileSheet.{FileSheet}
 use Rattle.sheet_app.specs.declared.sheet_faults.SheetFault.TheVariants as fault
 use Rattle.sheet_app.specs.declared.sheets.SheetDone.{SheetDone}
 use Rattle.sheet_app.specs.declared.sheets.SheetDone.TheVariants as done
-use Rattle.sheet_app.specs.declared.sheets.TheConstants.{MOST_UNKNOWN}
 
 -- the source gives this text, as far as its bytes are known
 abbrev pub Gives : {R : Type 0} → reads.Ghosts R → R → List ℕ → Type 0
@@ -28,7 +27,7 @@ abbrev pub IsConverted : {R W : Type 0} → reads.Ghosts R → outputs.Ghosts W 
     → List W → List W → SheetDone → Type 0
 IsConverted r o task lines source given written new registers how =
     ((how ≡ done.Broken fault.Unread) × (written ≡ given) × (registers ≡ new))
-    ⊎ ((text : List ℕ) × Gives r source text × IsEnded o task lines MOST_UNKNOWN text given written new registers how)
+    ⊎ ((text : List ℕ) × Gives r source text × IsTextEnded o task lines text given written new registers how)
 
 abbrev pub ended_name : {W : Type 0} → EndedSheet W → Text
 ended_name sheet = sheet.name.now

@@ -2,6 +2,7 @@ pub mod Columns
 pub mod FileSheets
 pub mod SheetFaults
 pub mod Sheets
+pub mod TreeTexts
 pub mod EndedSheets
 pub mod Lines
 pub mod SheetViews

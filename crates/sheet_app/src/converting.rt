@@ -13,6 +13,7 @@ use crate::file_sheets::FileSheet;
 use crate::reports::{report_names, report_sheet};
 use crate::sheet_faults::SheetFault;
 use crate::sheets::{SheetDone, convert_text};
+use crate::tree_texts::sheet_of;
 use register_files::{FileStore, Place};
 use register_records::Output;
 use register_sheets::NameList;
@@ -56,7 +57,10 @@ fn convert_source<'b, R: Read, W: Output>(
     if source.read_to_end(&mut text).is_err() {
         return SheetDone::Broken(SheetFault::Unread);
     }
-    convert_text(alloc, text.as_slice(), list, job, output, registers)
+    match sheet_of(alloc, text, job) {
+        Ok(sheet) => convert_text(alloc, sheet.as_slice(), list, job, output, registers),
+        Err(fault) => SheetDone::Broken(fault),
+    }
 }
 
 /// Gives the outputs of a sheet their names, and returns whether all have theirs.

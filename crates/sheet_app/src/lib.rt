@@ -12,6 +12,7 @@ mod program_faults;
 mod reports;
 mod sheet_faults;
 mod sheets;
+mod tree_texts;
 
 pub use command_lines::{COMPLETE, INCOMPLETE};
 pub use converting::EndedSheet;

@@ -25,6 +25,10 @@ pub enum SheetFault<'a> {
     Unwritten,
     /// What comes of it has not got its name.
     Unnamed,
+    /// It is to be a family tree, and is not UTF-8.
+    NotUtf8,
+    /// It is to be a family tree, and does not begin as one.
+    NoTree,
     /// No record with names stands below those above them.
     NoNames,
     /// More than 1,000,000 records stand below the names.
@@ -128,6 +132,10 @@ impl SheetFault<'_> {
             SheetFault::Unread => line.extend_from_slice(b"cannot be read"),
             SheetFault::Unwritten => line.extend_from_slice(b"cannot write what comes of it"),
             SheetFault::Unnamed => line.extend_from_slice(b"cannot name what comes of it"),
+            SheetFault::NotUtf8 => line.extend_from_slice(b"is not UTF-8"),
+            SheetFault::NoTree => {
+                line.extend_from_slice(b"is no family tree: its first line is not 0 HEAD")
+            }
             SheetFault::NoNames => line.extend_from_slice(b"no record with names"),
             SheetFault::TooManyRecords => line.extend_from_slice(b"more than 1000000 records"),
             SheetFault::NoColumn { word, names } => push_no_column(line, word, names),

@@ -7,9 +7,11 @@ use Rattle.command_lines.proofs.KindLemmas.{lone_app, one_of}
 use Rattle.command_lines.proofs.MeaningLemmas.{AllPass, AreSound, IsClear, IsSound, one_asked, one_byte, sound_files}
 use Rattle.command_lines.proofs.MeaningLemmas.{sound_option}
 use Rattle.sheet_arguments.specs.CommandLine.{Values, command_line, values_of}
-use Rattle.sheet_arguments.specs.Faults.{Fault}
+use Rattle.sheet_arguments.specs.Faults.{Fault, tree_at_odds}
 use Rattle.sheet_arguments.specs.OptionValues.{order_option, short_hebrew_option, short_option, skip_option}
-use Rattle.sheet_arguments.specs.Requests.{Ask, Task, calendar_check, false_check, result_check, sheet_line, value_checks}
+use Rattle.sheet_arguments.specs.Requests.{Ask, AskMeant, Task, calendar_check, false_check, given_checks, result_check}
+use Rattle.sheet_arguments.specs.Requests.{sheet_line, value_checks}
+use Rattle.sheet_arguments.specs.TreeValues.{is_at_odds, meant}
 use Rattle.sheet_arguments.specs.WordLists.{AreCalendarWords, IsFirstUnknown, columns_asked}
 use Rattle.written_dates.specs.declared.written.Choice.{Choice}
 use Rattle.sheet_arguments.proofs.OptionLemmas.{one_order, one_short, one_short_hebrew, one_skip, same_order, same_short}
@@ -64,14 +66,16 @@ same_reading : (a b : Choice) → a.order ≡ b.order → a.short_years ≡ b.sh
     → a.short_hebrew_years ≡ b.short_hebrew_years → a.charters ≡ b.charters → a ≡ b
 same_reading a b order years hebrew charters = search rules
 
-same_task : (a b : Task) → a.dates ≡ b.dates → a.calendars ≡ b.calendars → a.id ≡ b.id → a.columns ≡ b.columns → a.spans ≡ b.spans
+same_task : (a b : Task) → a.tree ≡ b.tree → a.dates ≡ b.dates → a.calendars ≡ b.calendars → a.id ≡ b.id → a.columns ≡ b.columns → a.spans ≡ b.spans
     → a.reading ≡ b.reading → a.names ≡ b.names → a.skip ≡ b.skip → a.delimiter ≡ b.delimiter
     → a.register ≡ b.register → a.unknown ≡ b.unknown → a.summary ≡ b.summary → a.files ≡ b.files → a ≡ b
-same_task a b dates calendars id columns spans reading names skip delimiter register unknown summary files = search rules
+same_task a b tree dates calendars id columns spans reading names skip delimiter register unknown summary files =
+    search rules
 
 -- values ask for one task at most
 one_task : (values : Values) (a b : Task) → Ask values a → Ask values b → a ≡ b
 one_task values a b asked same =
+    let tree : a.tree ≡ b.tree = asked.tree ∙ sym same.tree in
     let dates : a.dates ≡ b.dates = asked.dates ∙ sym same.dates in
     let calendars : a.calendars ≡ b.calendars
     = asked.calendars ∙ sym same.calendars in
@@ -94,14 +98,14 @@ one_task values a b asked same =
     let unknown : a.unknown ≡ b.unknown = asked.unknown ∙ sym same.unknown in
     let summary : a.summary ≡ b.summary = asked.summary ∙ sym same.summary in
     let files : a.files ≡ b.files = asked.files ∙ sym same.files in
-    same_task a b dates calendars id columns spans (same_reading a.reading b.reading order years hebrew charters) names skip
+    same_task a b tree dates calendars id columns spans (same_reading a.reading b.reading order years hebrew charters) names skip
     delimiter register unknown summary files
 
 -- so arguments mean one thing
 pub is_clear : IsClear sheet_line
 is_clear = record {
   kinds = one_kind;
-  sound = λ found. sound_checks (values_of found);
-  passes = λ found. all_pass (values_of found);
-  one = λ found a b. one_task (values_of found) a b;
+  sound = λ found. (sound_false (is_at_odds (values_of found)) tree_at_odds, sound_checks (meant (values_of found)));
+  passes = λ found task asks. (asks.fits, all_pass (meant (values_of found)) task asks.asks);
+  one = λ found a b asked same. one_task (meant (values_of found)) a b asked.asks same.asks;
 }

@@ -1,5 +1,5 @@
 -- Checks in order, one list of them behind another.
-use Rattle.std.proofs.Common.{◌≡◌, ◌++◌, List, [], ◌∷◌, inl, inr, Result, IfErr, IfSome, IsErrAnd, IsSomeAnd}
+use Rattle.std.proofs.Common.{◌≡◌, ◌++◌, List, [], ◌∷◌, inl, inr, Err, IfErr, IfSome, IsErrAnd, IsSomeAnd, Ok, Result}
 use Rattle.clap.proofs.TakesLemmas.{passed_up}
 use Rattle.command_lines.proofs.MeaningLemmas.{AllPass, found_first, if_some}
 use Rattle.command_lines.specs.Meanings.{Check, FailFirst}
@@ -33,3 +33,11 @@ pub behind : (checks later : List (Check Fault)) (fault : Fault) → AllPass che
     → FailFirst (checks ++ later) fault
 behind [] later fault pass is = is
 behind (check ∷ checks) later fault pass is = inr (pass.0, behind checks later fault pass.1 is)
+
+-- where a check passes, the first of those behind it that fails is the first
+pub later_fails : {T : Type 0} (result : Result T RequestFault) (check : Check Fault) (later : List (Check Fault))
+    → check.passes → IfErr result (λ error. IfSome (fault_of_error error) (FailFirst later))
+    → IfErr result (λ error. IfSome (fault_of_error error) (FailFirst (check ∷ later)))
+later_fails (Ok value) check later passes is = tt
+later_fails (Err error) check later passes is =
+    found_first (fault_of_error error) (FailFirst later) (check ∷ later) is (λ fault at. inr (passes, at))

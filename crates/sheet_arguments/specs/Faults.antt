@@ -10,12 +10,14 @@ use Rattle.register_sheets.specs.declared.choices.AskedColumn.{AskedColumn}
 use Rattle.sheet_arguments.specs.declared.request_faults.RequestFault.{RequestFault}
 use Rattle.sheet_arguments.specs.declared.request_faults.RequestFault.TheVariants as request_fault
 
--- what is wrong: the options are not written as they are taken, no column of dates is named or more than eight, the
--- calendars are not as many, a calendar is said for empty fields of no column, a word says none, no order, no rule of short years, no number or no delimiter, a
+-- what is wrong: the options are not written as they are taken, with a tree the columns or the form of a sheet are given,
+-- no column of dates is named or more than eight, the calendars are not as many, a calendar is said for empty fields of no
+-- column, a word says no calendar, no order, no rule of short years, no number or no delimiter, a
 -- name names no column or one twice, registers of standard input are asked for, there are more than 32 files, or a file
 -- is named twice
 pub data Fault : Type 0 where
   usage : ErrorKind → Fault
+  tree_at_odds : Fault
   no_date : Fault
   too_many_dates : Fault
   calendar_count : Fault
@@ -36,6 +38,7 @@ pub data Fault : Type 0 where
 abbrev pub fault_of_error : RequestFault → Option Fault
 fault_of_error request_fault.OutOfMemory = None
 fault_of_error (request_fault.Usage error) = Some (usage (kind_of error))
+fault_of_error request_fault.TreeAtOdds = Some tree_at_odds
 fault_of_error request_fault.NoDate = Some no_date
 fault_of_error request_fault.TooManyDates = Some too_many_dates
 fault_of_error request_fault.CalendarCount = Some calendar_count
@@ -73,6 +76,8 @@ memory_line = program_line (codes "out of memory")
 abbrev pub error_line : RequestFault → Option (List ℕ)
 error_line request_fault.OutOfMemory = Some memory_line
 error_line (request_fault.Usage error) = None
+error_line request_fault.TreeAtOdds =
+    Some (program_line (codes "--tree takes no --date, --calendar, --all, --skip and --delimiter"))
 error_line request_fault.NoDate = Some (program_line (codes "no column of dates: give --date COLUMN"))
 error_line request_fault.TooManyDates = Some (program_line (codes "more than 8 columns of dates"))
 error_line request_fault.CalendarCount =

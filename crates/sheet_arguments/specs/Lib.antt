@@ -2,4 +2,5 @@ pub mod Faults
 pub mod OptionValues
 pub mod WordLists
 pub mod CommandLine
+pub mod TreeValues
 pub mod Requests

@@ -12,11 +12,12 @@ use Rattle.register_sheets.specs.declared.choices.Spans.{Spans}
 use Rattle.register_sheets.specs.declared.choices.Spans.TheVariants as spans_of
 use Rattle.written_dates.specs.declared.written.Choice.{Choice}
 use Rattle.sheet_arguments.specs.CommandLine.{Values, command_line, values_of}
-use Rattle.sheet_arguments.specs.Faults.{Fault, bad_short_hebrew_years, bad_short_years, bad_skip, calendar_count, else_alone}
-use Rattle.sheet_arguments.specs.Faults.{file_twice, no_date, register_of_input, too_many_dates, too_many_files}
-use Rattle.sheet_arguments.specs.Faults.{unknown_delimiter, unknown_order, usage}
+use Rattle.sheet_arguments.specs.Faults.{Fault, bad_short_hebrew_years, bad_short_years, bad_skip, calendar_count}
+use Rattle.sheet_arguments.specs.Faults.{else_alone, file_twice, no_date, register_of_input, too_many_dates}
+use Rattle.sheet_arguments.specs.Faults.{too_many_files, tree_at_odds, unknown_delimiter, unknown_order, usage}
 use Rattle.sheet_arguments.specs.OptionValues.{order_number, order_option, short_hebrew_option, short_number}
 use Rattle.sheet_arguments.specs.OptionValues.{short_option, skip_option}
+use Rattle.sheet_arguments.specs.TreeValues.{is_at_odds, meant}
 use Rattle.sheet_arguments.specs.WordLists.{AreCalendarWords, IsFirstUnknown, columns_asked}
 use Rattle.sheet_arguments.specs.declared.requests.CalendarsAsked.{CalendarsAsked}
 use Rattle.sheet_arguments.specs.declared.requests.CalendarsAsked.TheVariants as asked
@@ -35,6 +36,7 @@ pub data CalendarsWanted : Type 0 where
 
 -- what arguments can ask for
 pub record Task : Type 0 where
+  pub tree : Bool
   pub dates : List Text
   pub calendars : CalendarsWanted
   pub id : Option Text
@@ -79,6 +81,7 @@ spans_asked false false = spans_of.Unread
 
 -- the values ask for this task
 pub record Ask (values : Values) (task : Task) : Type 0 where
+  pub tree : task.tree ≡ values.tree
   pub dates : task.dates ≡ values.dates
   pub some_dates : (length values.dates == 0) ≡ false
   pub few_dates : nat_lt date_limit (length values.dates) ≡ false
@@ -135,12 +138,21 @@ value_checks values =
     ∷ file_check too_many_files file_twice values.files
     ∷ []
 
+-- what is given asks for this task: nothing is at odds with a tree, and what is meant asks for it
+pub record AskMeant (values : Values) (task : Task) : Type 0 where
+  pub fits : is_at_odds values ≡ false
+  pub asks : Ask (meant values) task
+
+-- the checks of what is given, and then of what is meant
+abbrev pub given_checks : Values → List (Check Fault)
+given_checks values = false_check (is_at_odds values) tree_at_odds ∷ value_checks (meant values)
+
 -- the command line, and what is asked by it
 abbrev pub sheet_line : CommandLine Task Fault
 sheet_line = record {
   command = command_line;
-  asks = λ found task. Ask (values_of found) task;
-  checks = λ found. value_checks (values_of found);
+  asks = λ found task. AskMeant (values_of found) task;
+  checks = λ found. given_checks (values_of found);
   usage = usage;
 }
 
@@ -163,6 +175,7 @@ wanted_by (asked.All words) = all_have (map (λ word. word.now) words.items)
 -- what a job asks for
 abbrev pub task_of : Job → Task
 task_of job = record {
+  tree = job.tree;
   dates = map (λ date. date.now) job.dates.items;
   calendars = wanted_by job.calendars;
   id = option_map (λ id. id.now) job.id;
@@ -187,6 +200,7 @@ meaning_of (request.Convert job) = work (task_of job)
 -- the values that the options hold
 abbrev pub values_by : Options → Values
 values_by options = record {
+  tree = options.tree;
   dates = map (λ v. v.now) options.dates.items;
   calendars = map (λ v. v.now) options.calendars.items;
   all = map (λ v. v.now) options.all.items;

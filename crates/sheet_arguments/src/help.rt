@@ -17,6 +17,12 @@ number of a column from 1.
 
 Options:
 
+    --tree            each FILE is a family tree, GEDCOM 5.5.1 or 7 in UTF-8.
+                      Its dates are converted, but for those of the file,
+                      as when a record was changed, as a sheet with the
+                      columns record, name, partner, event, part, type,
+                      place, calendar and date. It takes no --date,
+                      --calendar, --all, --skip and --delimiter.
     --date COLUMN     where the dates are; once to eight times.
     --calendar COLUMN where their calendars are; or
     --all CALENDAR    the calendar that they all have: a name as register has
@@ -29,7 +35,8 @@ Options:
                       of the record.
     --order WORD      in which order three numbers stand: year (year, month,
                       day), day (day, month, year) or month (month, day,
-                      year), in letters of any case. Without it: year.
+                      year), in letters of any case. Without it: year, and
+                      of a tree day.
     --names FILE      a list of names, a CSV text with the columns name, means
                       and in; its names stand before the built-in ones, and,
                       of several such lists, before those of the next.
@@ -81,8 +88,9 @@ Exit status:
        of memory at the start
 
 A sheet breaks off where it has no names, a column that it lacks is asked for,
-more than 1,000,000 records stand below the names, memory runs out, or it can
-be read or written no further. The other sheets are still converted.
+it is no family tree in UTF-8 with --tree, more than 1,000,000 records stand
+below the names, memory runs out, or it can be read or written no further. The
+other sheets are still converted.
 ";
 
 /// The line on standard error where a page could not be printed.

@@ -19,6 +19,8 @@ pub enum RequestFault<'a> {
     OutOfMemory,
     /// The options are not written as they are taken. The text says how, and ends its last line.
     Usage(clap::Error),
+    /// With `--tree` there is also `--date`, `--calendar`, `--all`, `--skip` or `--delimiter`.
+    TreeAtOdds,
     /// No column of dates is named.
     NoDate,
     /// More than eight columns of dates are named.
@@ -117,6 +119,10 @@ impl RequestFault<'_> {
     {
         match self {
             RequestFault::OutOfMemory | RequestFault::Usage(_) => ("out of memory", ""),
+            RequestFault::TreeAtOdds => (
+                "--tree takes no --date, --calendar, --all, --skip and --delimiter",
+                "",
+            ),
             RequestFault::NoDate => ("no column of dates: give --date COLUMN", ""),
             RequestFault::TooManyDates => ("more than 8 columns of dates", ""),
             RequestFault::CalendarCount => (

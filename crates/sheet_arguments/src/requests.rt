@@ -1,6 +1,6 @@
 //! What the arguments ask for.
 
-ghost use Rattle.std.specs.Prelude.{◌≡◌, ◌==◌, ◌&&◌, IfErr, IfOk, IfSome, IsSomeAnd, OnOk, false, length, map};
+ghost use Rattle.std.specs.Prelude.{◌≡◌, ◌==◌, ◌&&◌, ◌∷◌, [], IfErr, IfOk, IfSome, IsSomeAnd, OnOk, false, length, map};
 ghost use Rattle.std.specs.Prelude.{option_map, take};
 ghost use Rattle.std.specs.String.{string_bytes};
 ghost use Rattle.clap.specs.Words.{FailsBy, HasKind, app_of, fault_of, found_of, matches_of, rows_of};
@@ -15,6 +15,8 @@ ghost use Rattle.sheet_arguments.specs.OptionValues.{order_number, order_option,
 ghost use Rattle.sheet_arguments.specs.OptionValues.{short_option, skip_option};
 ghost use Rattle.sheet_arguments.specs.Requests.{Ask, MeanJust, are_misfits as misfits_spec, calendars_wanted};
 ghost use Rattle.sheet_arguments.specs.Requests.{is_misfit as misfit_spec, meaning_of, sheet_line, task_of};
+ghost use Rattle.sheet_arguments.specs.TreeValues.{is_at_odds as odds_spec, meant as meant_spec};
+ghost use Rattle.sheet_arguments.specs.Requests.{AskMeant, given_checks};
 ghost use Rattle.sheet_arguments.specs.Requests.{AreSaidBy, FewDates, WordsAre, output_checks, value_checks, values_by};
 ghost use Rattle.sheet_arguments.specs.Requests.{spans_asked as spans_spec, wanted_by, word_checks};
 
@@ -35,7 +37,8 @@ use written_dates::{Choice, Order, Short};
 pub const VERSION: &str = "1.2.0";
 
 /// The options and flags, and the files.
-const ARGUMENTS: [Argument<'static>; 19] = [
+const ARGUMENTS: [Argument<'static>; 20] = [
+    Argument::Flag("tree"),
     Argument::Repeated("date", "COLUMN"),
     Argument::Repeated("calendar", "COLUMN"),
     Argument::Repeated("all", "CALENDAR"),
@@ -69,6 +72,8 @@ pub enum CalendarsAsked<'a> {
 /// What the arguments ask for of each sheet.
 #[derive(Drop)]
 pub struct Job<'a> {
+    /// Whether each file is a family tree, of which the sheet of its dates is converted.
+    pub tree: bool,
     /// The columns of dates: one to eight.
     pub dates: Vec<&'a str>,
     /// Where their calendars are.
@@ -121,6 +126,7 @@ struct Words<'a> {
 /// The values of the options and the files, as the arguments have them.
 #[derive(Drop)]
 struct Options<'a> {
+    tree: bool,
     dates: Vec<&'a str>,
     calendars: Vec<&'a str>,
     all: Vec<&'a str>,
@@ -172,6 +178,7 @@ fn options_found<'a>(alloc: Global, matches: &ArgMatches<'a>) -> Result<Options<
     let names = values_given(alloc, matches, "names")?;
     let files = values_given(alloc, matches, "file")?;
     Ok(Options {
+        tree: is_given(matches, "tree"),
         dates,
         calendars,
         all,
@@ -355,6 +362,7 @@ fn chosen_job<'a>(alloc: Global, options: Options<'a>) -> Result<Job<'a>, Reques
     let columns = chosen_columns(alloc, options.to)?;
     outputs_fit(options.register, options.files.as_slice())?;
     Ok(Job {
+        tree: options.tree,
         dates: options.dates,
         calendars: chosen_calendars(options.calendars, options.all, options.otherwise),
         id: options.id,
@@ -376,11 +384,87 @@ fn chosen_job<'a>(alloc: Global, options: Options<'a>) -> Result<Job<'a>, Reques
     })
 }
 
+/// Whether the columns or the form of a sheet are given beside a tree, which has its own.
+fn is_at_odds(options: &Options) -> bool
+    ensures { result ≡ odds_spec (values_by options.now) }
+{
+    options.tree
+        && (count_of(options.dates.as_slice()) != 0
+            || count_of(options.calendars.as_slice()) != 0
+            || count_of(options.all.as_slice()) != 0
+            || options.words.skip.is_some()
+            || options.words.delimiter.is_some())
+}
+
+/// A list of one word.
+fn one_word<'a>(alloc: Global, word: &'a str) -> Result<Vec<&'a str>, AllocError>
+    ensures { IfOk result (λ words. map (λ w. w.now) words.items ≡ word.now ∷ []) }
+{
+    let mut words = Vec::new(alloc);
+    words.push(word)?;
+    Ok(words)
+}
+
+/// The options that are meant: with a tree the columns of its sheet, and, where no other is given, the order with the day
+/// in front.
+fn meant<'a>(alloc: Global, options: Options<'a>) -> Result<Options<'a>, AllocError>
+    ensures { IfOk result (λ meant. values_by meant ≡ meant_spec (values_by options.entry)) }
+{
+    if !options.tree {
+        return Ok(options);
+    }
+    let dates = one_word(alloc, "date")?;
+    let calendars = one_word(alloc, "calendar")?;
+    Ok(Options {
+        tree: options.tree,
+        dates,
+        calendars,
+        all: options.all,
+        otherwise: options.otherwise,
+        id: options.id,
+        names: options.names,
+        words: Words {
+            order: Some(options.words.order.unwrap_or("day")),
+            short_years: options.words.short_years,
+            short_hebrew_years: options.words.short_hebrew_years,
+            skip: options.words.skip,
+            delimiter: options.words.delimiter,
+        },
+        charter_years: options.charter_years,
+        to: options.to,
+        spans: options.spans,
+        edtf: options.edtf,
+        register: options.register,
+        unknown: options.unknown,
+        summary: options.summary,
+        files: options.files,
+    })
+}
+
+/// The conversion that the options ask for, by what is meant with a tree.
+///
+/// # Errors
+///
+/// The first that applies: `TreeAtOdds`, and the faults of [`chosen_job`].
+fn meant_job<'a>(alloc: Global, options: Options<'a>) -> Result<Job<'a>, RequestFault<'a>>
+    ensures asked { IfOk result (λ job. AskMeant (values_by options.entry) (task_of job)) }
+    ensures fault { IfErr result (λ error. IfSome (fault_of_error error)
+        (FailFirst (given_checks (values_by options.entry)))) }
+{
+    if is_at_odds(&options) {
+        return Err(RequestFault::TreeAtOdds);
+    }
+    match meant(alloc, options) {
+        Ok(options) => chosen_job(alloc, options),
+        Err(_) => Err(RequestFault::OutOfMemory),
+    }
+}
+
 /// What the arguments ask for.
 ///
 /// # Errors
 ///
-/// The first that applies: `Usage` where the arguments are not as they are taken; and then `NoDate` and the others in
+/// The first that applies: `Usage` where the arguments are not as they are taken; and then `TreeAtOdds` and the others in
 /// the order of [`RequestFault`]. Besides these, `OutOfMemory` where memory runs out on the way.
 pub fn read_request<'a>(
     alloc: Global,
@@ -399,6 +483,6 @@ pub fn read_request<'a>(
             _ => return Err(RequestFault::Usage(error)),
         },
     };
-    let job = chosen_job(alloc, options)?;
+    let job = meant_job(alloc, options)?;
     Ok(Request::Convert(job))
 }

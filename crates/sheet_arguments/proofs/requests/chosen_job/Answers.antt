@@ -101,6 +101,7 @@ returns-clause-asked c =
     let said = c.in_ok-reading.ensures.value in
     let fit = rw c.as_slice-2.ensures.value at c.in_ok-outputs_fit.ensures.fine in
     record {
+      tree = refl;
       dates = refl;
       some_dates = few.0;
       few_dates = few.1;

@@ -6,7 +6,7 @@ use Rattle.command_lines.specs.Meanings.{FailFirst, MeanJust, help, version, wor
 use Rattle.command_lines.proofs.MeaningLemmas.{found_just, is_among, mean_just, misuses}
 use Rattle.sheet_arguments.specs.CommandLine.{Values}
 use Rattle.sheet_arguments.specs.Faults.{fault_of_error, usage}
-use Rattle.sheet_arguments.specs.Requests.{Ask, sheet_line, task_of, value_checks, values_by}
+use Rattle.sheet_arguments.specs.Requests.{AskMeant, given_checks, sheet_line, task_of, values_by}
 use Rattle.sheet_arguments.specs.declared.request_faults.RequestFault.{RequestFault}
 use Rattle.sheet_arguments.specs.declared.requests.Request.{Request}
 use Rattle.sheet_arguments.proofs.ArgumentLemmas.{is_clear}
@@ -43,10 +43,10 @@ returns-in_err-job-clause-refused c =
     let found = fault_of_error c.in_err-job.field-0.0 in
     let is : IfSome found (λ fault. MeanJust sheet_line arguments (wrong fault))
     = found_just sheet_line arguments is_clear found
-    (FailFirst (value_checks (values_by c.in-Ok.options))) c.in_err-job.ensures.fault
+    (FailFirst (given_checks (values_by c.in-Ok.options))) c.in_err-job.ensures.fault
     (λ fault at. inr (
       c.in-Ok.ensures.taken,
-      subst (λ (v : Values). FailFirst (value_checks v) fault) c.in-Ok.ensures.values at,
+      subst (λ (v : Values). FailFirst (given_checks v) fault) c.in-Ok.ensures.values at,
     )) in
     passed_up {T = Request} {E = RequestFault} c.from_residual.result c.in_err-job.field-0.0
     (λ (r : RequestFault). IfSome (fault_of_error r) (λ fault. MeanJust sheet_line arguments (wrong fault)))
@@ -56,4 +56,4 @@ pub returns-clause-asked : goal.returns-clause-asked
 returns-clause-asked c =
     let task = task_of c.in_ok-job.job in
     mean_just sheet_line (map string_bytes c.args.arguments.now) is_clear (work task)
-    (c.in-Ok.ensures.taken, subst (λ (v : Values). Ask v task) c.in-Ok.ensures.values c.in_ok-job.ensures.asked)
+    (c.in-Ok.ensures.taken, subst (λ (v : Values). AskMeant v task) c.in-Ok.ensures.values c.in_ok-job.ensures.asked)

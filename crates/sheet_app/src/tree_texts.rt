@@ -1,0 +1,51 @@
+//! The sheet that the text of a file is, or that is made of it.
+
+ghost use Rattle.std.specs.Prelude.{◌≡◌, IfErr, IfOk, None, OnOk};
+ghost use Rattle.sheet_arguments.specs.Requests.{task_of};
+ghost use Rattle.family_trees.specs.OwnDates.{own_text};
+ghost use Rattle.sheet_app.specs.TreeTexts.{IsFaultBy, fault_of_text, fault_of_tree as fault_spec, sheet_of as sheet_spec};
+
+use crate::sheet_faults::SheetFault;
+use family_trees::{is_tree, own_tree_sheet};
+use sheet_arguments::Job;
+use std::alloc::Global;
+
+/// What is wrong with a text that is to be a family tree.
+fn fault_of_tree<'b>(text: &[u8]) -> Option<SheetFault<'b>>
+    ensures { result ≡ fault_spec text.now }
+{
+    if std::str::from_utf8(text).is_err() {
+        return Some(SheetFault::NotUtf8);
+    }
+    if !is_tree(text) {
+        return Some(SheetFault::NoTree);
+    }
+    None
+}
+
+/// The sheet of the dates of a family tree.
+fn tree_of<'b>(alloc: Global, text: &[u8]) -> Result<Vec<u8>, SheetFault<'b>>
+    ensures sheet { IfOk result (λ sheet. sheet.items ≡ own_text text.now) }
+    ensures fine { OnOk result (fault_spec text.now ≡ None) }
+    ensures fault { IfErr result (IsFaultBy (fault_spec text.now)) }
+{
+    match fault_of_tree(text) {
+        Some(fault) => Err(fault),
+        None => match own_tree_sheet(alloc, text) {
+            Ok(sheet) => Ok(sheet),
+            Err(_) => Err(SheetFault::OutOfMemory),
+        },
+    }
+}
+
+/// The sheet that a job converts of the text of a file: with a tree that of its dates, and else the text itself.
+pub fn sheet_of<'b>(alloc: Global, text: Vec<u8>, job: &Job<'b>) -> Result<Vec<u8>, SheetFault<'b>>
+    ensures sheet { IfOk result (λ sheet. sheet.items ≡ sheet_spec (task_of job.now) text.items) }
+    ensures fine { OnOk result (fault_of_text (task_of job.now) text.items ≡ None) }
+    ensures fault { IfErr result (IsFaultBy (fault_of_text (task_of job.now) text.items)) }
+{
+    if !job.tree {
+        return Ok(text);
+    }
+    tree_of(alloc, text.as_slice())
+}

@@ -1,0 +1,52 @@
+-- What `--tree` stands for. The sheet of a tree has columns of its own, `tree_head` of `family_trees`, with commas between
+-- them, and in a tree the day stands before the month.
+use Rattle.std.specs.Prelude.{◌||◌, ◌&&◌, ◌==◌, ◌∷◌, Bool, List, [], codes, false, if◌then◌else◌, length, not, true}
+use Rattle.std.specs.Prelude.{None, Option, Some}
+use Rattle.std.specs.Option.{option_map_or}
+use Rattle.clap.specs.Words.{Text}
+use Rattle.sheet_arguments.specs.CommandLine.{Values}
+
+abbrev pub is_given : Option Text → Bool
+is_given word = option_map_or (λ given. true) word false
+
+abbrev pub are_given : List Text → Bool
+are_given words = not (length words == 0)
+
+-- the columns or the form of a sheet are given, which a tree does not leave open
+abbrev pub is_at_odds : Values → Bool
+is_at_odds values =
+    values.tree && (are_given values.dates || are_given values.calendars || are_given values.all || is_given values.skip
+    || is_given values.delimiter)
+
+abbrev pub or_word : Option Text → Text → Option Text
+or_word None other = Some other
+or_word word other = word
+
+-- the columns of dates and of calendars of a tree's sheet, and the order of numbers where no other is given
+abbrev pub of_tree : Values → Values
+of_tree values = record {
+  tree = values.tree;
+  dates = codes "date" ∷ [];
+  calendars = codes "calendar" ∷ [];
+  all = values.all;
+  otherwise = values.otherwise;
+  id = values.id;
+  order = or_word values.order (codes "day");
+  names = values.names;
+  short_years = values.short_years;
+  short_hebrew_years = values.short_hebrew_years;
+  charter_years = values.charter_years;
+  skip = values.skip;
+  delimiter = values.delimiter;
+  to = values.to;
+  spans = values.spans;
+  edtf = values.edtf;
+  register = values.register;
+  unknown = values.unknown;
+  summary = values.summary;
+  files = values.files;
+}
+
+-- the values that are meant
+abbrev pub meant : Values → Values
+meant values = if values.tree then of_tree values else values

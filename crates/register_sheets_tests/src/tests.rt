@@ -11,8 +11,8 @@ mod table;
 use date_texts::{Calendar, Target};
 use register_records::PlainOutput;
 use register_sheets::{
-    AskedColumn, CalendarColumn, CalendarField, DateColumn, IdField, ReasonCounts, SheetCause, SheetChoice,
-    SheetEnd, SheetSetup, Spans, Unknown, UnreadDates, convert_sheet, unknown_names,
+    AskedColumn, CalendarColumn, CalendarField, DateColumn, IdField, ReasonCounts, SheetCause,
+    SheetChoice, SheetEnd, SheetSetup, Spans, Unknown, UnreadDates, convert_sheet, unknown_names,
 };
 use std::alloc::Global;
 use std::test::Fail;

@@ -127,9 +127,7 @@ fn meaning_said(word: &str) -> Result<CalendarMeaning, ColumnFault<'_>>
 }
 
 /// What a word says for empty fields, if there is one.
-fn otherwise_said<'a>(
-    word: Option<&'a str>,
-) -> Result<Option<CalendarMeaning>, ColumnFault<'a>>
+fn otherwise_said<'a>(word: Option<&'a str>) -> Result<Option<CalendarMeaning>, ColumnFault<'a>>
     ensures { IfOk result (SaysElse (option_map (λ w. w.now) word.entry)) }
 {
     match word {

@@ -31,7 +31,11 @@ static LINES: [(&str, Means, &[Calendar]); 7] = [
         Means::InDates(Meaning::Month(3)),
         &[Calendar::Gregorian, Calendar::Julian],
     ),
-    ("a. St.", Means::Calendar(CalendarMeaning::One(Calendar::Julian)), &Calendar::ALL),
+    (
+        "a. St.",
+        Means::Calendar(CalendarMeaning::One(Calendar::Julian)),
+        &Calendar::ALL,
+    ),
     ("dem", Means::InDates(Meaning::Nothing), &Calendar::ALL),
     (
         "Ianuarias",

@@ -4,12 +4,14 @@
 use date_texts::{Calendar, Target};
 use register_records::PlainOutput;
 use register_sheets::{
-    AskedColumn, AskedOfSheet, CalendarColumn, CalendarField, DateColumn, IdField, NameList, SheetChoice,
-    SheetCounts, SheetEnd, SheetSetup, Spans, convert_sheet,
+    AskedColumn, AskedOfSheet, CalendarColumn, CalendarField, DateColumn, IdField, NameList,
+    SheetChoice, SheetCounts, SheetEnd, SheetSetup, Spans, convert_sheet,
 };
 use std::alloc::Global;
 use std::test::Fail;
-use written_dates::{CalendarMeaning, CalendarName, CalendarNames, Choice, Name, Names, Order, Short};
+use written_dates::{
+    CalendarMeaning, CalendarName, CalendarNames, Choice, Name, Names, Order, Short,
+};
 
 /// The names that hold in these tests.
 const NAMES: &str = "name,means,in

@@ -43,5 +43,5 @@ IsTextEnded o task lines text given written new registers how =
 
 -- the fault of a text, or that memory ran out for its sheet
 abbrev pub IsFaultBy : Option SheetFault → SheetFault → Type 0
-IsFaultBy (Some why) fault = fault ≡ why
-IsFaultBy None fault = fault ≡ fault.OutOfMemory
+IsFaultBy (Some why) found = found ≡ why
+IsFaultBy None found = found ≡ fault.OutOfMemory

@@ -1,6 +1,7 @@
 //! The sheet that the text of a file is, or that is made of it.
 
 ghost use Rattle.std.specs.Prelude.{◌≡◌, IfErr, IfOk, None, OnOk};
+ghost use Rattle.std.specs.Str.{is_utf8};
 ghost use Rattle.sheet_arguments.specs.Requests.{task_of};
 ghost use Rattle.family_trees.specs.OwnDates.{own_text};
 ghost use Rattle.sheet_app.specs.TreeTexts.{IsFaultBy, fault_of_text, fault_of_tree as fault_spec, sheet_of as sheet_spec};
@@ -9,12 +10,23 @@ use crate::sheet_faults::SheetFault;
 use family_trees::{is_tree, own_tree_sheet};
 use sheet_arguments::Job;
 use std::alloc::Global;
+use std::str;
+
+/// Whether a text is UTF-8.
+fn is_text(text: &[u8]) -> bool
+    ensures { result ≡ is_utf8 text.now }
+{
+    match str::from_utf8(text) {
+        Ok(_) => true,
+        Err(_) => false,
+    }
+}
 
 /// What is wrong with a text that is to be a family tree.
 fn fault_of_tree<'b>(text: &[u8]) -> Option<SheetFault<'b>>
     ensures { result ≡ fault_spec text.now }
 {
-    if std::str::from_utf8(text).is_err() {
+    if !is_text(text) {
         return Some(SheetFault::NotUtf8);
     }
     if !is_tree(text) {

@@ -5,6 +5,7 @@ use Rattle.clap.specs.Words.{matches_of}
 use Rattle.command_lines.specs.Meanings.{help, version, work}
 use Rattle.sheet_arguments.specs.CommandLine.{command_line, values_of}
 use Rattle.sheet_arguments.specs.Requests.{MeanJust, meaning_of, task_of}
+use Rattle.sheet_arguments.specs.TreeValues.{meant}
 use Rattle.sheet_arguments.specs.declared.requests.Request.{Request}
 use Rattle.sheet_arguments.specs.Faults.{fault_of_error}
 use Rattle.sheet_app.specs.Answers.{version_line}
@@ -20,8 +21,8 @@ run_job-requires g c =
     let task = task_of c.in-Ok-Convert.job in
     let just : MeanJust arguments (work task)
     = subst (λ (r : Request). MeanJust arguments (meaning_of r)) c.in-Ok-Convert.field-0-is c.in-Ok-Convert.ensures.asked in
-    let meant = (just (work task)).0 refl in
-    is_task (values_of (matches_of command_line arguments)) task meant.1
+    let asked = (just (work task)).0 refl in
+    is_task (meant (values_of (matches_of command_line arguments))) task asked.1.asks
 
 pub returns-in-Ok-Help-clause-answered : goal.returns-in-Ok-Help-clause-answered
 returns-in-Ok-Help-clause-answered g c = λ low.

@@ -4,6 +4,7 @@
 const { dayOf, dateIn, placed, sundayOf, weekdayOf } = require("./day_counts.cjs");
 
 const WITHOUT_WORDS = ["iso", "longcount"], CHURCHES = ["gregorian", "julian"], REPUBLICAN = ["french", "republican"];
+const COUNT_HUNDREDS = ["islamic", "coptic", "ethiopic", "armenian"];
 const BEGIN_AT_MIDNIGHT = [...CHURCHES, ...REPUBLICAN];
 const BLANKS = " \\t\\r\\n\\u00a0\\u202f", DASHES = "\\-\\u2010-\\u2014\\u2212";
 const ENDS = new RegExp(`^[${BLANKS}]+|[${BLANKS}]+$`, "g");
@@ -224,9 +225,11 @@ function isDecadeDay(calendar, { month, day }, decade) {
 
 const stays = (text, reason) => ({ text, rule: null, reason });
 
-// What is done with a year: it is kept, the date is left empty, or years are added.
+// What is done with a year: it is kept, the date is left empty, or years are added. A century is one of the churches'.
 function ruleOf({ value, digits }, choice, calendar) {
-  if (CHURCHES.includes(calendar) && value < 100 && digits <= 2) return choice.short;
+  const ofTwo = value < 100 && digits <= 2;
+  if (CHURCHES.includes(calendar) && ofTwo) return choice.short;
+  if (COUNT_HUNDREDS.includes(calendar) && ofTwo && choice.short !== "k") return "r";
   return calendar === "hebrew" && value < 1000 && digits <= 3 ? choice.hebrew : "k";
 }
 

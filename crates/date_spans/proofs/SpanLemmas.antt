@@ -9,12 +9,17 @@ use Rattle.written_dates.specs.declared.written.Choice.{Choice}
 use Rattle.written_dates.specs.Calendars.{form}
 use Rattle.written_dates.specs.Signs.{three_runs, runs_behind_minus}
 use Rattle.written_dates.specs.Tokens.{tokens}
-use Rattle.written_dates.specs.Written.{answer, answer_text, dated_text, is_dated, is_found, unless_turned, written, written_by}
+use Rattle.written_dates.specs.Written.{answer, answer_text, dated_text, is_dated, is_found, joined, numbers}
+use Rattle.written_dates.specs.Written.{stood as stood_date, unless_turned, written, written_by}
+use Rattle.written_dates.proofs.StoodLemmas.{stood_at_once}
 use Rattle.written_dates.proofs.TimeLemmas.{dated_before, dated_whole, read_dated, stands_dated}
 use Rattle.date_spans.specs.declared.spans.Marks.{Marks}
+use Rattle.std.specs.List.{list_any}
+use Rattle.date_spans.specs.CutViews.{is_slash_byte}
 use Rattle.date_spans.specs.Cuts.{unmarked}
 use Rattle.date_spans.specs.Laws.{DatesAreTheirOwnSpans, HasTime, IsReadToday, RegisterDatesAreTheirOwnSpans, StandsToday}
 use Rattle.date_spans.specs.Laws.{TimesChangeNoSpan}
+use Rattle.date_spans.proofs.CutLemmas.{no_sides}
 use Rattle.date_spans.specs.Spans.{IsSpan, IsSpanByForm, IsSpanOfText, is_date, is_dual, is_known, kept_of, stands}
 
 date_of : (d s r : Bool) → d ≡ false → (s || r) ≡ true → (not d && (s || r)) ≡ true
@@ -153,3 +158,26 @@ pub date_by_known : (choice : Choice) (calendar : Calendar) (names : List Name) 
     → is_dual choice calendar names text ≡ false
     → is_date choice calendar names text ≡ is_known choice calendar names text
 date_by_known choice calendar names text h = rw h refl
+
+-- a date as registers have it, without a slash, is one date, with no time of day
+abbrev IsOneDate : Choice → Calendar → List Name → List ℕ → List ℕ → Type 0
+IsOneDate choice calendar names text date =
+    (is_date choice calendar names (dated_text choice calendar names text) ≡ true)
+    × (written choice (Some calendar) names (dated_text choice calendar names text) ≡ date)
+
+never_dual : (choice : Choice) (calendar : Calendar) (names : List Name) (text : List ℕ)
+    → list_any is_slash_byte text ≡ false → is_dual choice calendar names text ≡ false
+unfolding is_dual
+never_dual choice calendar names text h = rw (no_sides text h) refl
+
+pub stands_alone : (choice : Choice) (calendar : Calendar) (names : List Name) (text : List ℕ)
+    (runs : List ℕ × List ℕ × List ℕ) → form calendar ≡ Civil → list_any is_slash_byte text ≡ false
+    → unless_turned choice.order (three_runs (tokens 0 text)) ≡ Some runs
+    → IsOneDate choice calendar names text (stood_date choice calendar (joined runs.0 runs.1 runs.2) (numbers runs))
+unfolding is_known
+stands_alone choice calendar names text runs civil plain stands =
+    let whole = dated_whole choice calendar names text (stands_dated choice calendar names text (rw stands refl)) in (
+      rw (whole, never_dual choice calendar names text plain, stands)
+          (first_of_two _ _ (either_stands (is_some (runs_behind_minus (tokens 0 text))) true refl)),
+      rw (whole, civil) (stood_at_once choice calendar names text runs stands),
+    )

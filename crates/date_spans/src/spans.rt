@@ -1,12 +1,13 @@
 //! The first and the last day that a text can mean.
 
-ghost use Rattle.std.specs.Prelude.{◌≡◌, false, true, IfOk, Some};
+ghost use Rattle.std.specs.Prelude.{◌≡◌, false, true, IfOk, List, Some};
 ghost use Rattle.std.specs.List.{list_any};
 ghost use Rattle.written_dates.specs.declared.calendars.Form.TheVariants.{Civil};
 ghost use Rattle.written_dates.specs.Calendars.{form as form_spec};
+ghost use Rattle.written_dates.specs.declared.meanings.Name.{Name};
 ghost use Rattle.written_dates.specs.Written.{written};
 ghost use Rattle.date_spans.specs.Sayings.{is_about as is_about_spec};
-ghost use Rattle.date_spans.specs.Spans.{AreEndsOf, IsSpan, IsSpanByForm, has_about as about_spec, is_known as known_spec};
+ghost use Rattle.date_spans.specs.Spans.{AreEndsOf, IsDateAlone, IsSpan, IsSpanByForm, has_about as about_spec, is_known as known_spec};
 ghost use Rattle.date_spans.specs.Spans.{as_whole as whole_spec, at_dash as dash_spec, at_slash as slash_spec};
 ghost use Rattle.date_spans.specs.Spans.{cut_sides as cut_spec, is_dual as dual_spec};
 ghost use Rattle.date_spans.specs.Spans.{marks as new_marks, marks_of as marks_spec, one_side as one_spec, said_by_sides as by_sides_spec};
@@ -24,8 +25,8 @@ use date_texts::Calendar;
 use std::alloc::AllocError;
 use written_dates::{
     Answer, Choice, Form, Item, Names, answer_of, count_bars, dated_text, form_of, has_mixed_signs,
-    has_other_signs_between, is_found, push_answer, runs_behind_minus, signs_of, standing,
-    write_date,
+    has_other_signs_between, is_found, push_answer, push_stood, runs_behind_minus, signs_of,
+    standing, write_date,
 };
 
 /// What else a text says of its day.
@@ -330,6 +331,31 @@ fn set_said(
     Ok(marks_of(said, turned, about, uncertain))
 }
 
+/// Makes two buffers the date that a text is as registers have it, whatever the names; and says whether it is one. Most
+/// dates of sheets that programs write stand so, and have no slash and no time of day.
+fn set_standing(
+    first: &mut Vec<u8>,
+    last: &mut Vec<u8>,
+    choice: &Choice,
+    calendar: Calendar,
+    text: &[u8],
+) -> Result<bool, AllocError>
+    requires { form_spec calendar ≡ Civil }
+    ensures { IfOk result (λ stood. stood ≡ true → (names : List Name) → IsDateAlone choice.now calendar names text.now
+        first.new.items last.new.items) }
+{
+    if has_slash_byte(text) {
+        return Ok(false);
+    }
+    let Some((year, month, day)) = standing(choice.order, text) else {
+        return Ok(false);
+    };
+    first.clear();
+    push_stood(first, choice, calendar, year, month, day)?;
+    set_text(last, first.as_slice())?;
+    Ok(true)
+}
+
 /// Makes two buffers the first and the last day of a text in a calendar with years, months and days.
 #[tactic(auto, using(crate::proofs::SpanLemmas::dual_is_no_date, crate::proofs::SpanLemmas::date_by_known))]
 fn set_civil(
@@ -345,6 +371,13 @@ fn set_civil(
         first.new.items last.new.items found) }
 {
     let (unmarked, uncertain, about) = unmarked(text);
+    if set_standing(first, last, choice, calendar, unmarked)? {
+        return Ok(Marks {
+            kind: Kind::One,
+            about,
+            uncertain,
+        });
+    }
     let kept = dated_text(choice, calendar, names, unmarked);
     if is_dual(choice, calendar, names, kept) {
         return set_said(

@@ -9,14 +9,17 @@ use Rattle.written_dates.specs.declared.tokens.Kind.{Kind}
 use Rattle.written_dates.specs.declared.tokens.Kind.TheVariants.{Hyphen, Digit}
 use Rattle.written_dates.specs.declared.items.Number.{Number}
 use Rattle.date_texts.specs.declared.calendar.Calendar.{Calendar}
-use Rattle.date_texts.specs.declared.calendar.Calendar.TheVariants.{Gregorian, Julian, Hebrew}
+use Rattle.date_texts.specs.declared.calendar.Calendar.TheVariants.{Armenian, Coptic, Ethiopic, Gregorian, Hebrew}
+use Rattle.date_texts.specs.declared.calendar.Calendar.TheVariants.{Islamic, Julian}
+use Rattle.written_dates.specs.declared.written.Short.{Short}
 use Rattle.written_dates.specs.declared.written.Short.TheVariants.{Keep}
 use Rattle.written_dates.specs.declared.written.Choice.{Choice}
 use Rattle.written_dates.specs.Tokens.{Piece, first, in_front, tokens}
 use Rattle.written_dates.specs.Items.{number_of_digits}
 use Rattle.written_dates.specs.Signs.{◌>>=◌, has_minus, three_runs, runs_behind_minus, runs_in_front, digits_first, behind_hyphen}
 use Rattle.written_dates.specs.Laws.{AreDigits, RegisterDatesStay, MinusDatesStay}
-use Rattle.written_dates.specs.Written.{is_turned, joined, numbers, short_rule, stood, unless_turned}
+use Rattle.written_dates.specs.Written.{if_short, is_turned, joined, numbers, short_rule, stood, unless_added}
+use Rattle.written_dates.specs.Written.{unless_turned}
 use Rattle.written_dates.proofs.TimeLemmas.{dated_whole, minus_whole, stands_dated}
 use Rattle.written_dates.proofs.TokenLemmas.{alone}
 
@@ -113,12 +116,20 @@ kept_by choice calendar kept (Some y) None d h = refl
 kept_by choice calendar kept (Some y) (Some m) None h = refl
 kept_by choice calendar kept (Some y) (Some m) (Some d) h = rw (h y refl) refl
 
--- a year of more than three digits is kept
+-- a year of more digits than a short one has is kept
+never_short : (bound digits : ℕ) (year : Number) (rule : Short) → digits < year.digits
+    → if_short bound digits year rule ≡ Keep
+never_short bound digits year rule long = grind (arith, nat_tests)
+
 pub long_kept : (choice : Choice) (calendar : Calendar) (year : Number) → 3 < year.digits
     → short_rule choice calendar year ≡ Keep
-long_kept choice Gregorian year long = grind (arith, nat_tests)
-long_kept choice Julian year long = grind (arith, nat_tests)
-long_kept choice Hebrew year long = grind (arith, nat_tests)
+long_kept choice Gregorian year long = never_short 100 2 year choice.short_years (omega (arith, long))
+long_kept choice Julian year long = never_short 100 2 year choice.short_years (omega (arith, long))
+long_kept choice Hebrew year long = never_short 1000 3 year choice.short_hebrew_years long
+long_kept choice Islamic year long = never_short 100 2 year (unless_added choice.short_years) (omega (arith, long))
+long_kept choice Coptic year long = never_short 100 2 year (unless_added choice.short_years) (omega (arith, long))
+long_kept choice Ethiopic year long = never_short 100 2 year (unless_added choice.short_years) (omega (arith, long))
+long_kept choice Armenian year long = never_short 100 2 year (unless_added choice.short_years) (omega (arith, long))
 long_kept choice _ year long = refl
 
 digits_by : (b : Bool) (value : ℕ) (text : List ℕ) (year : Number)

@@ -19,6 +19,7 @@ pub mod RomanLawLemmas
 pub mod UseLemmas
 pub mod LawLemmas
 pub mod TimeLemmas
+pub mod StoodLemmas
 pub mod MinusLemmas
 pub mod ReadLawLemmas
 pub mod WeekdayLawLemmas

@@ -4,7 +4,8 @@ use Rattle.std.specs.Prelude.{List, [], ◌∷◌, ◌++◌, length, Option, Som
 use Rattle.std.specs.Fmt.{decimal}
 use Rattle.std.specs.List.{list_all}
 use Rattle.date_texts.specs.declared.calendar.Calendar.{Calendar}
-use Rattle.date_texts.specs.declared.calendar.Calendar.TheVariants.{Gregorian, Julian, Hebrew, French, Republican}
+use Rattle.date_texts.specs.declared.calendar.Calendar.TheVariants.{Armenian, Coptic, Ethiopic, French, Gregorian, Hebrew}
+use Rattle.date_texts.specs.declared.calendar.Calendar.TheVariants.{Islamic, Julian, Republican}
 use Rattle.written_dates.specs.declared.calendars.Form.{Form}
 use Rattle.written_dates.specs.declared.calendars.Form.TheVariants as forms
 use Rattle.written_dates.specs.declared.meanings.Mark.{Mark}
@@ -38,15 +39,25 @@ use Rattle.written_dates.specs.Times.{timeless}
 use Rattle.written_dates.specs.Weekdays.{is_decade_day, is_on, numbered_weekday}
 use Rattle.written_dates.specs.Rules.{is_year_first, civil_reading, roman_reading}
 
--- what is done with a year: years under 100 of at most two digits, and Hebrew ones under 1000 of at most three, are
--- short
+-- what is done with a year that is short if it is below this bound and has at most so many digits
+abbrev pub if_short : ℕ → ℕ → Number → Short → Short
+if_short bound digits year rule = if nat_lt year.value bound && nat_le year.digits digits then rule else Keep
+
+-- what is added is a century of Gregorian and Julian years: others are kept or refused
+abbrev pub unless_added : Short → Short
+unless_added Keep = Keep
+unless_added rule = Refuse
+
+-- what is done with a year: in calendars which count hundreds of years those under 100 are short, and Hebrew ones under
+-- 1000
 abbrev pub short_rule : Choice → Calendar → Number → Short
-short_rule choice Gregorian year =
-    if nat_lt year.value 100 && nat_le year.digits 2 then choice.short_years else Keep
-short_rule choice Julian year =
-    if nat_lt year.value 100 && nat_le year.digits 2 then choice.short_years else Keep
-short_rule choice Hebrew year =
-    if nat_lt year.value 1000 && nat_le year.digits 3 then choice.short_hebrew_years else Keep
+short_rule choice Gregorian year = if_short 100 2 year choice.short_years
+short_rule choice Julian year = if_short 100 2 year choice.short_years
+short_rule choice Hebrew year = if_short 1000 3 year choice.short_hebrew_years
+short_rule choice Islamic year = if_short 100 2 year (unless_added choice.short_years)
+short_rule choice Coptic year = if_short 100 2 year (unless_added choice.short_years)
+short_rule choice Ethiopic year = if_short 100 2 year (unless_added choice.short_years)
+short_rule choice Armenian year = if_short 100 2 year (unless_added choice.short_years)
 short_rule choice calendar year = Keep
 
 -- a year, a month and a day, with dashes (45) between them
@@ -206,10 +217,13 @@ written_by choice calendar names text None (Some runs) =
     stood choice calendar (joined runs.0 runs.1 runs.2) (numbers runs)
 written_by choice calendar names text None None = answer_text text (answer choice calendar names text)
 
-abbrev pub written_form : Form → Choice → Calendar → List Name → List ℕ → List ℕ
-written_form forms.Civil choice calendar names text =
+abbrev pub civil_text : Choice → Calendar → List Name → List ℕ → List ℕ
+civil_text choice calendar names text =
     written_by choice calendar names text (runs_behind_minus (tokens 0 text))
     (unless_turned choice.order (three_runs (tokens 0 text)))
+
+abbrev pub written_form : Form → Choice → Calendar → List Name → List ℕ → List ℕ
+written_form forms.Civil choice calendar names text = civil_text choice calendar names text
 written_form form choice calendar names text = answer_text text (answer choice calendar names text)
 
 -- a date is found, if it be one whose short year is refused

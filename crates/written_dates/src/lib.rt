@@ -38,5 +38,5 @@ pub use unknown::unknown_word;
 pub use words::is_same_word;
 pub use written::{
     Answer, Choice, Short, agrees, answer_of, dated_text, has_year, is_found, is_half_year,
-    push_answer, push_dated, short_rule, standing, write_date,
+    push_answer, push_dated, push_stood, short_rule, standing, write_date,
 };

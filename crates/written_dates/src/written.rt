@@ -5,8 +5,9 @@ ghost use Rattle.std.specs.Fmt.{decimal};
 ghost use Rattle.std.specs.List.{list_all};
 ghost use Rattle.written_dates.specs.Calendars.{form as form_spec};
 ghost use Rattle.written_dates.specs.Tokens.{tokens};
-ghost use Rattle.written_dates.specs.Signs.{three_runs as runs_spec, runs_behind_minus as minus_spec};
+ghost use Rattle.written_dates.specs.Signs.{three_runs as runs_spec};
 ghost use Rattle.written_dates.specs.SignViews.{seen_runs, seen_text};
+ghost use Rattle.written_dates.specs.Written.{if_short as if_short_spec, unless_added as unless_added_spec};
 ghost use Rattle.written_dates.specs.Written.{short_rule as rule_spec, joined, dated, letter, stood, numbers};
 ghost use Rattle.written_dates.specs.Written.{is_turned as turned_spec, unless_turned};
 ghost use Rattle.written_dates.specs.Written.{church_of as church_spec, feast_of as feast_spec};
@@ -17,7 +18,7 @@ ghost use Rattle.written_dates.specs.Written.{is_half_year as half_spec, lacks_c
 ghost use Rattle.written_dates.specs.Written.{answer as answer_spec, answer_text};
 ghost use Rattle.church_year.specs.FeastDates.{feast_date_in};
 ghost use Rattle.written_dates.specs.declared.rules.Reading.TheVariants.{Civil};
-ghost use Rattle.written_dates.specs.Written.{written_by, written as written_spec};
+ghost use Rattle.written_dates.specs.Written.{civil_text, written as written_spec};
 ghost use Rattle.written_dates.specs.Written.{before_time as before_spec, begins_at_midnight as midnight_spec, dated_text as dated_text_spec};
 ghost use Rattle.written_dates.specs.Written.{is_dated as dated_spec, is_found as found_spec};
 
@@ -75,24 +76,37 @@ pub enum Answer {
     RomanDate(u64, u32, Mark, u32),
 }
 
-/// What is done with a year.
+/// What is done with a year that is short if it is below `bound` and has at most so many digits.
+fn if_short(bound: u32, digits: usize, year: Number, rule: Short) -> Short
+    ensures { result ≡ if_short_spec bound digits year rule }
+{
+    if year.value < bound && year.digits <= digits {
+        rule
+    } else {
+        Short::Keep
+    }
+}
+
+/// What is done with short years to which no century can be added.
+fn unless_added(rule: Short) -> Short
+    ensures { result ≡ unless_added_spec rule }
+{
+    match rule {
+        Short::Keep => Short::Keep,
+        _ => Short::Refuse,
+    }
+}
+
+/// What is done with a year. The century that a choice adds is one of Gregorian and Julian years, so a short year of
+/// another calendar that counts hundreds of them is kept or refused. The French Republic had short years alone.
 pub fn short_rule(choice: &Choice, calendar: Calendar, year: Number) -> Short
     ensures { result ≡ rule_spec choice.now calendar year }
 {
     match calendar {
-        Calendar::Gregorian | Calendar::Julian => {
-            if year.value < 100 && year.digits <= 2 {
-                choice.short_years
-            } else {
-                Short::Keep
-            }
-        }
-        Calendar::Hebrew => {
-            if year.value < 1000 && year.digits <= 3 {
-                choice.short_hebrew_years
-            } else {
-                Short::Keep
-            }
+        Calendar::Gregorian | Calendar::Julian => if_short(100, 2, year, choice.short_years),
+        Calendar::Hebrew => if_short(1000, 3, year, choice.short_hebrew_years),
+        Calendar::Islamic | Calendar::Coptic | Calendar::Ethiopic | Calendar::Armenian => {
+            if_short(100, 2, year, unless_added(choice.short_years))
         }
         _ => Short::Keep,
     }
@@ -402,9 +416,13 @@ fn numbers_of(year: &[u8], month: &[u8], day: &[u8]) -> Option<(Number, Number, 
     Some((year, month, day))
 }
 
-/// Appends what is written for a date that stands as registers have it. A year of more than three digits is not short, so
-/// its numbers are not looked at.
-fn push_stood(
+/// Appends what is written for a date that stands as registers have it, by the rule for short years. A year of more than
+/// three digits is not short, so its numbers are not looked at.
+///
+/// # Errors
+///
+/// `AllocError` where `out` could not grow; then it may have gained a part.
+pub fn push_stood(
     out: &mut Vec<u8>,
     choice: &Choice,
     calendar: Calendar,
@@ -437,8 +455,7 @@ fn push_civil(
     text: &[u8],
 ) -> Result<(), AllocError>
     ensures { OnOk result (out.new.items ≡ out.old.items
-        ++ written_by choice.now calendar names.now.listed.now text.now (minus_spec (tokens 0 text.now))
-        (unless_turned choice.now.order (runs_spec (tokens 0 text.now)))) }
+        ++ civil_text choice.now calendar names.now.listed.now text.now) }
 {
     if let Some((year, month, day)) = runs_behind_minus(text) {
         out.push(b'-')?;
@@ -448,6 +465,31 @@ fn push_civil(
         return push_stood(out, choice, calendar, year, month, day);
     }
     push_answer(out, text, answer_of(choice, calendar, names, text))
+}
+
+/// Appends what is written in such a calendar for a text without a time of day behind a date. Registers have no times, so
+/// their dates are written at once.
+fn push_timeless(
+    out: &mut Vec<u8>,
+    choice: &Choice,
+    calendar: Calendar,
+    names: &Names,
+    text: &[u8],
+) -> Result<(), AllocError>
+    ensures { OnOk result (out.new.items ≡ out.old.items
+        ++ civil_text choice.now calendar names.now.listed.now
+        (dated_text_spec choice.now calendar names.now.listed.now text.now)) }
+{
+    if let Some((year, month, day)) = standing(choice.order, text) {
+        return push_stood(out, choice, calendar, year, month, day);
+    }
+    push_civil(
+        out,
+        choice,
+        calendar,
+        names,
+        dated_text(choice, calendar, names, text),
+    )
 }
 
 /// Whether a date is found, if it be one whose short year is refused.
@@ -538,13 +580,15 @@ pub fn write_date(
         out.extend_from_slice(text)?;
         return Ok(());
     };
-    let text = dated_text(choice, calendar, names, text);
     match form_of(calendar) {
-        Form::Civil => push_civil(out, choice, calendar, names, text),
-        Form::Roman => push_answer(out, text, answer_of(choice, calendar, names, text)),
+        Form::Civil => push_timeless(out, choice, calendar, names, text),
+        Form::Roman => {
+            let text = dated_text(choice, calendar, names, text);
+            push_answer(out, text, answer_of(choice, calendar, names, text))
+        }
         // Such dates are never read.
         Form::Other => {
-            out.extend_from_slice(text)?;
+            out.extend_from_slice(dated_text(choice, calendar, names, text))?;
             Ok(())
         }
     }

@@ -299,7 +299,7 @@ fn wrong_by_list<'a>(alloc: Global, list: &str, lines: &'a str) -> Option<&'a st
 }
 
 /// Lists of names, and dates by them. In the second the first of two names holds.
-static LISTED: [(&str, &str); 7] = [
+static LISTED: [(&str, &str); 8] = [
     (NAMES, dates::DATES),
     (NAMES, dates::TIMES),
     (
@@ -321,6 +321,17 @@ static LISTED: [(&str, &str); 7] = [
         "Ostern|easter 0|\nAdar|month 12|",
         "#hebrew day refuse refuse day-of-mark\nOstern 507|=\n7 Adar 507|\n#coptic day refuse refuse day-of-mark\n\
         Ostern 1428|=\n#julian day refuse refuse day-of-mark\nOstern 12|\nOstern 1712|1712-4-20",
+    ),
+    (
+        "Ramadan|month 9|islamic\nThout|month 1|coptic\nMeskerem|month 1|ethiopic\nNavasard|month 1|armenian\n\
+        Messidor|month 10|french republican",
+        "#islamic day refuse refuse day-of-mark\n1.9.41|\n1.9.141|141-9-1\n1 Ramadan 41|\n41-9-1|\n041-9-1|=\n\
+        -41-9-1|=\n#islamic day keep refuse day-of-mark\n1.9.41|41-9-1\n41-9-1|=\n#islamic day 1800 refuse day-of-mark\n\
+        1.9.41|\n41-9-1|\n1.9.1241|1241-9-1\n#coptic day 1800 refuse day-of-mark\n3 Thout 82|\n3 Thout 1582|1582-1-3\n\
+        #coptic day keep refuse day-of-mark\n3 Thout 82|82-1-3\n#ethiopic day refuse refuse day-of-mark\n3 Meskerem 82|\n\
+        #armenian day 1800 refuse day-of-mark\n3 Navasard 82|\n3 Navasard 1182|1182-1-3\n\
+        #republican day refuse refuse day-of-mark\n3 Messidor 8|8-10-3\n8-10-3|=\n#roman day refuse refuse day-of-mark\n\
+        99-1-1|=",
     ),
 ];
 

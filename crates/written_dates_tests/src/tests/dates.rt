@@ -264,11 +264,13 @@ VI. 6. 15|15-6-6
 #islamic day refuse refuse day-of-mark
 3 Ramadan 1200|1200-9-3
 3 Rabi I 1200|1200-3-3
-3 Rabi II 95|95-4-3
+3 Rabi II 195|195-4-3
 3. Dhu al-Hijja 1300|1300-12-3
 3 DHU AL HIJJA 1300|1300-12-3
-12-9-3|=
-3.9.12|12-9-3
+12-9-3|
+012-9-3|=
+3.9.12|
+3.9.112|112-9-3
 #coptic day refuse refuse day-of-mark
 1 Thout 1500|1500-1-1
 5 Nasie 1499|1499-13-5
@@ -279,8 +281,9 @@ VI. 6. 15|15-6-6
 3.4.747|747-4-3
 3 Mai 747|=
 #armenian day refuse refuse day-of-mark
-1-2-3|=
-3.2.1|1-2-3
+1-2-3|
+3.2.1|
+3.2.0101|101-2-3
 #roman day refuse refuse day-of-mark
 III. Kal. Nov. 1582|1582-11-K3
 III Kal Nov MDLXXXII|1582-11-K3

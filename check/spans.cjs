@@ -15,7 +15,7 @@ const WITHOUT_MONTHS = calendars.filter(it => it.grammar !== calendars[0].gramma
 const REPUBLICAN = ["french", "republican"];
 const BLANK = " \\t\\r\\n\\u00a0\\u202f", DASH = "\\-\\u2010-\\u2014\\u2212", SIGN = `.,/${DASH}`;
 const pattern = (text, flags = "s") => new RegExp(text, flags);
-const MARK = pattern("^(.*)([?~%])$"), OPEN_END = pattern(`[/${DASH}][${BLANK}]*$`), OPEN_FRONT = pattern(`^[${BLANK}]*[/${DASH}]`);
+const MARK = pattern("^(.*?)(?:[(]([?~%])[)]|([?~%]))$"), OPEN_END = pattern(`[/${DASH}][${BLANK}]*$`), OPEN_FRONT = pattern(`^[${BLANK}]*[/${DASH}]`);
 const MINUS = pattern(`(^|[${BLANK}${SIGN}])[${DASH}][0-9]`), ONLY_SLASH = pattern("^([^/]*)/([^/]*)$");
 const ONLY_DASH = pattern(`^([^${DASH}]*)[${DASH}]([^${DASH}]*)$`), WIDE_DASH = pattern(`(^|[${BLANK}])[${DASH}]`, "gs");
 const signsBetween = text => (text.replace(/^[^0-9]*|[^0-9]*$/g, "").match(pattern(`[${SIGN}]`, "g")) || [])
@@ -161,6 +161,20 @@ function ofDual({ left, later }, calendar) {
   return isOfOld ? one("", { ...left, year: later }) : null;
 }
 
+// A day or a month of the old year before a slash, or a dash that no blank is before, and a number by which English books
+// write the year after: its last digit, while the tens stay, or its last two.
+function ofOldYear(text, names, by) {
+  const cut = ONLY_SLASH.exec(text) ?? (wideSides(text) === null ? ONLY_DASH.exec(text) : null);
+  if (by.calendar !== "julian" || cut === null) return null;
+  const before = sideItems(cut[1], names), behind = sideItems(cut[2], names), ending = before && endOf(before);
+  if (!ending || !isLong(ending) || behind === null || formOf(behind) !== "n") return null;
+  const left = own(withoutAbout(before), { ...by, slashed: false, mixed: hasMixedSigns(cut[1]), isDual: true });
+  if (left === null || left.from === undefined || left.year.value >= 99999) return null;
+  const [{ digits, value }] = behind, later = String(left.year.value + 1), old = String(left.year.value);
+  const isShort = digits === 1 ? later === old.slice(0, -1) + value : digits === 2 && Number(later.slice(-2)) === value;
+  return isShort ? ofDual({ left, later: { ...left.year, value: Number(later) } }, by.calendar) : null;
+}
+
 // ---- the days
 
 // The year by the rule for short ones; null where it is refused or too large.
@@ -235,19 +249,32 @@ function sayingOf(text, names, by, dual) {
   if (whole !== null) return whole;
   const cut = ONLY_DASH.exec(text), narrow = cut === null ? null : atDash(text, cut[1], cut[2], names, all);
   const wide = narrow === null ? wideSides(text) : null;
-  return narrow ?? (wide === null ? null : atDash(text, ...wide, names, all));
+  return narrow ?? (wide === null ? null : atDash(text, ...wide, names, all)) ?? ofOldYear(text, names, by);
 }
+
+// One pair of square brackets, with more than blanks in it, is not there, if what is left says something.
+const SUPPLIED = pattern("^([^\\[\\]]*)\\[([^\\[\\]]*)\\]([^\\[\\]]*)$"), ONLY_BLANKS = pattern(`^[${BLANK}]*$`);
 
 // The first and the last day of a text, and its marks.
 function spanOf(text, calendar, choice, names) {
-  const stays = { first: text, last: text, marks: "unread" };
+  const cut = SUPPLIED.exec(text), stays = { first: text, last: text, marks: "unread" };
   if (calendar === null) return stays;
+  if (cut === null || ONLY_BLANKS.test(cut[2]) || WITHOUT_MONTHS.includes(calendar)) {
+    return plainSpanOf(text, calendar, choice, names);
+  }
+  const left = plainSpanOf(cut.slice(1).join(""), calendar, choice, names);
+  return left.marks === "unread" ? stays : { ...left, marks: `${left.marks} inferred`.trimStart() };
+}
+
+// Those of a text in which no brackets count.
+function plainSpanOf(text, calendar, choice, names) {
+  const stays = { first: text, last: text, marks: "unread" };
   if (WITHOUT_MONTHS.includes(calendar)) {
     const date = written(text, calendar, choice, names).text;
     return { first: date, last: date, marks: "" };
   }
   const bare = bareOf(text), found = MARK.exec(bare), isMarked = found !== null && !OPEN_END.test(found[1]);
-  const kept = withoutTime(isMarked ? found[1] : bare, calendar, choice, names), sign = isMarked ? found[2] : "";
+  const kept = withoutTime(isMarked ? found[1] : bare, calendar, choice, names), sign = isMarked ? found[2] ?? found[3] : "";
   const by = { order: choice.order, calendar };
   const dual = dualSides(kept, names, by), date = written(kept, calendar, choice, names);
   const marksOf = (kind, isAbout) => [kind, isAbout || "~%".includes(sign) && sign ? "about" : "",

@@ -76,7 +76,7 @@ export const WORDS = {
   marked: (marks) => marks.map((mark) => `; ${WORDS.spanMarks[mark]}`).join(''),
   spanMarks: {
     about: 'ungefähr dann', uncertain: 'unsicher', between: 'ein Tag dazwischen', before: 'irgendwann davor',
-    after: 'irgendwann danach', from: 'von da an', to: 'bis dahin',
+    after: 'irgendwann danach', from: 'von da an', to: 'bis dahin', inferred: 'zum Teil ergänzt, in Klammern',
   },
   noEnds: ['kein erster Tag', 'kein letzter Tag'],
   church: 'Sonntag oder Fest',

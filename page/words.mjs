@@ -73,7 +73,7 @@ export const WORDS = {
   marked: (marks) => marks.map((mark) => `; ${WORDS.spanMarks[mark]}`).join(''),
   spanMarks: {
     about: 'about then', uncertain: 'uncertain', between: 'a day between these', before: 'some time before',
-    after: 'some time after', from: 'from then on', to: 'up to then',
+    after: 'some time after', from: 'from then on', to: 'up to then', inferred: 'partly supplied, in brackets',
   },
   noEnds: ['no first day', 'no last day'],
   church: 'Sunday or feast',

@@ -53,6 +53,7 @@ fn push_marks(out: &mut String, marks: Marks) -> Result<(), AllocError> {
         (!kind.is_empty(), kind),
         (marks.about, "about"),
         (marks.uncertain, "uncertain"),
+        (marks.inferred, "inferred"),
     ] {
         if *holds {
             out.push_str(before)?;

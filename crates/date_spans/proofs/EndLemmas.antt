@@ -1,7 +1,7 @@
 -- Days of dates, and what is made of an answer that may be an error.
 use Rattle.std.proofs.Common.{◌≡◌, ℕ, List, sym, subst, ◌∙◌, ℤ, pos, ap, true, false, ◌+ℤ◌, ◌<ℤ◌, ◌≤ℤ◌}
 use Rattle.std.proofs.lemmas.Int.{by_lt_z}
-use Rattle.std.specs.Prelude.{Option, Some, None, IfNone, Result, Ok, Err, OnOk}
+use Rattle.std.specs.Prelude.{Option, Some, None, IfNone, IfOk, Result, Ok, Err, OnOk}
 use Rattle.day_numbers.specs.Days.{IsDayNumber}
 use Rattle.day_numbers.specs.declared.ymd.Ymd.{Ymd}
 use Rattle.date_texts.specs.Calendars.{IsDateBy, day_number_by, reckoning}
@@ -19,6 +19,10 @@ if_none (Some a) X x = tt
 pub on_ok : {A E P Q : Type 0} → (P → Q) → (r : Result A E) → OnOk r P → OnOk r Q
 on_ok f (Ok x) h = f h
 on_ok f (Err e) h = tt
+
+pub if_ok : {A E : Type 0} {P Q : A → Type 0} → ((x : A) → P x → Q x) → (r : Result A E) → IfOk r P → IfOk r Q
+if_ok f (Ok x) h = f x h
+if_ok f (Err e) h = tt
 
 pub has_day : (calendar : Calendar) (date : Numbers) (ymd : Ymd) (civil : CivilDate) (n : ℤ)
     → ymd.year ≡ pos date.year → ymd.month ≡ date.month → ymd.day ≡ date.day

@@ -4,5 +4,6 @@ pub mod ItemLemmas
 pub mod ExtentLemmas
 pub mod EndLemmas
 pub mod CutLemmas
+pub mod BracketLemmas
 pub mod SaidLemmas
 pub mod SpanLemmas

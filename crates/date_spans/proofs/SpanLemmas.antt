@@ -1,5 +1,5 @@
 -- What is read today is its own span.
-use Rattle.std.proofs.Common.{◌≡◌, ℕ, Bool, true, false, List, ◌&&◌, ◌||◌, refl, subst, ap, sym}
+use Rattle.std.proofs.Common.{◌≡◌, ℕ, Bool, true, false, List, ◌&&◌, ◌||◌, refl, subst, ap, sym, ◌∙◌}
 use Rattle.std.specs.Prelude.{Option, Some, None, is_some, not}
 use Rattle.date_texts.specs.declared.calendar.Calendar.{Calendar}
 use Rattle.written_dates.specs.declared.calendars.Form.{Form}
@@ -17,10 +17,14 @@ use Rattle.date_spans.specs.declared.spans.Marks.{Marks}
 use Rattle.std.specs.List.{list_any}
 use Rattle.date_spans.specs.CutViews.{is_slash_byte}
 use Rattle.date_spans.specs.Cuts.{unmarked}
-use Rattle.date_spans.specs.Laws.{DatesAreTheirOwnSpans, HasTime, IsReadToday, RegisterDatesAreTheirOwnSpans, StandsToday}
-use Rattle.date_spans.specs.Laws.{TimesChangeNoSpan}
 use Rattle.date_spans.proofs.CutLemmas.{no_sides}
-use Rattle.date_spans.specs.Spans.{IsSpan, IsSpanByForm, IsSpanOfText, is_date, is_dual, is_known, kept_of, stands}
+use Rattle.date_spans.specs.Laws.{DatesAreTheirOwnSpans, IsReadToday, RegisterDatesAreTheirOwnSpans, StandsToday}
+use Rattle.date_spans.specs.Laws.{BracketsKeepSpans, TimesChangeNoSpan}
+use Rattle.date_spans.specs.Spans.{IsCivilSpan, IsInferred, IsPlainSpan, IsSpan, IsSpanByForm, IsSpanOfText, inferred}
+use Rattle.date_spans.specs.Spans.{is_date, is_dual, is_known, is_read, kept_of, marks, said, stands, unsaid}
+use Rattle.date_spans.specs.Brackets.{without_brackets}
+use Rattle.date_spans.specs.declared.sayings.Kind.TheVariants as kinds
+use Rattle.date_spans.proofs.BracketLemmas.{left_bare, unbracketed}
 
 date_of : (d s r : Bool) → d ≡ false → (s || r) ≡ true → (not d && (s || r)) ≡ true
 date_of d s r e f = rw (e, f) refl
@@ -41,10 +45,15 @@ some_is o x e = ap is_some e
 
 by_form : (f : Form) (choice : Choice) (calendar : Calendar) (names : List Name) (text first last : List ℕ) (found : Marks)
     → f ≡ Civil → IsSpanByForm f choice calendar names text first last found
-    → IsSpanOfText choice calendar names text (kept_of choice calendar names text) first last found
-    (is_date choice calendar names (kept_of choice calendar names text).0)
+    → IsCivilSpan choice calendar names text (without_brackets text) first last found
 by_form f choice calendar names text first last found e h =
     subst (λ (g : Form). IsSpanByForm g choice calendar names text first last found) e h
+
+plain_span : (choice : Choice) (calendar : Calendar) (names : List Name) (text first last : List ℕ) (found : Marks)
+    → without_brackets text ≡ None → IsCivilSpan choice calendar names text (without_brackets text) first last found
+    → IsPlainSpan choice calendar names text first last found
+plain_span choice calendar names text first last found e h =
+    subst (λ (x : Option (List ℕ)). IsCivilSpan choice calendar names text x first last found) e h
 
 abbrev AreWritten : Choice → Calendar → List Name → List ℕ → List ℕ → List ℕ → Type 0
 AreWritten choice calendar names kept first last =
@@ -62,15 +71,16 @@ where_date choice calendar names text first last found kept false e h = absurd (
 
 -- of a text that is read as this date
 of_date : (choice : Choice) (calendar : Calendar) (names : List Name) (text date first last : List ℕ) (found : Marks)
-    → form calendar ≡ Civil → IsSpan choice (Some calendar) names text first last found
+    → form calendar ≡ Civil → IsSpan choice (Some calendar) names text first last found → without_brackets text ≡ None
     → dated_text choice calendar names (unmarked text).0 ≡ date → is_date choice calendar names date ≡ true
     → AreWritten choice calendar names date first last
-of_date choice calendar names text date first last found civil span same is =
+of_date choice calendar names text date first last found civil span bare same is =
     subst (λ (x : List ℕ). AreWritten choice calendar names x first last) same
     (where_date choice calendar names text first last found (kept_of choice calendar names text)
     (is_date choice calendar names (kept_of choice calendar names text).0)
     (subst (λ (x : List ℕ). is_date choice calendar names x ≡ true) (sym same) is)
-    (by_form (form calendar) choice calendar names text first last found civil span))
+    (plain_span choice calendar names text first last found bare
+    (by_form (form calendar) choice calendar names text first last found civil span)))
 
 read_date : (choice : Choice) (calendar : Calendar) (names : List Name) (text : List ℕ)
     → IsReadToday choice calendar names text → is_date choice calendar names (unmarked text).0 ≡ true
@@ -93,13 +103,13 @@ standing_date choice calendar names text h =
 
 pub dates_stay : DatesAreTheirOwnSpans
 dates_stay choice calendar names text first last found civil span h =
-    of_date choice calendar names text (unmarked text).0 first last found civil span
+    of_date choice calendar names text (unmarked text).0 first last found civil span h.bare
     (dated_whole choice calendar names (unmarked text).0 (read_dated choice calendar names (unmarked text).0 h.reads))
     (read_date choice calendar names text h)
 
 pub register_dates_stay : RegisterDatesAreTheirOwnSpans
 register_dates_stay choice calendar names text first last found civil span h =
-    of_date choice calendar names text (unmarked text).0 first last found civil span
+    of_date choice calendar names text (unmarked text).0 first last found civil span h.bare
     (dated_whole choice calendar names (unmarked text).0
     (stands_dated choice calendar names (unmarked text).0
     (some_is (unless_turned choice.order (three_runs (tokens 0 (unmarked text).0))) h.runs h.stands)))
@@ -118,7 +128,7 @@ known_dated choice calendar names text h =
 
 pub times_change_no_span : TimesChangeNoSpan
 times_change_no_span choice calendar names text before first last found civil span h =
-    of_date choice calendar names text before first last found civil span
+    of_date choice calendar names text before first last found civil span h.bare
     (dated_before choice calendar names (unmarked text).0 before h.midnight h.time h.plain h.undated h.dated)
     (date_of (is_dual choice calendar names before) false (is_known choice calendar names before) h.single
     (known_dated choice calendar names before h.dated))
@@ -181,3 +191,38 @@ stands_alone choice calendar names text runs civil plain stands =
           (first_of_two _ _ (either_stands (is_some (runs_behind_minus (tokens 0 text))) true refl)),
       rw (whole, civil) (stood_at_once choice calendar names text runs stands),
     )
+-- ---- brackets
+by_bare : (choice : Choice) (calendar : Calendar) (names : List Name) (text bare first last : List ℕ) (found : Marks)
+    → without_brackets text ≡ Some bare
+    → IsCivilSpan choice calendar names text (without_brackets text) first last found
+    → IsInferred choice calendar names text bare first last found
+by_bare choice calendar names text bare first last found e h =
+    subst (λ (x : Option (List ℕ)). IsCivilSpan choice calendar names text x first last found) e h
+
+as_civil : (choice : Choice) (calendar : Calendar) (names : List Name) (bare first last : List ℕ) (plain : Marks)
+    → form calendar ≡ Civil → without_brackets bare ≡ None → IsPlainSpan choice calendar names bare first last plain
+    → IsSpan choice (Some calendar) names bare first last plain
+as_civil choice calendar names bare first last plain civil none h =
+    subst (λ (g : Form). IsSpanByForm g choice calendar names bare first last plain) (sym civil)
+    (subst (λ (x : Option (List ℕ)). IsCivilSpan choice calendar names bare x first last plain) (sym none) h)
+
+no_unread : (found : Marks) → is_read found.kind ≡ true → found ≡ marks kinds.Unread false false → ⊥
+no_unread found reads e = not_read (sym (ap (λ (m : Marks). is_read m.kind) e) ∙ reads)
+  where
+    not_read : false ≡ true → ⊥
+    not_read e = cc
+
+of_inferred : (choice : Choice) (calendar : Calendar) (names : List Name) (text bare first last : List ℕ) (found : Marks)
+    → form calendar ≡ Civil → without_brackets bare ≡ None → is_read found.kind ≡ true
+    → IsInferred choice calendar names text bare first last found
+    → (plain : Marks) × IsSpan choice (Some calendar) names bare first last plain × (found ≡ inferred plain)
+of_inferred choice calendar names text bare first last found civil none reads (said plain is span same) =
+    (plain, as_civil choice calendar names bare first last plain civil none span, same)
+of_inferred choice calendar names text bare first last found civil none reads (unsaid a b plain is span e f same) =
+    absurd (no_unread found reads same)
+
+pub brackets_keep_spans : BracketsKeepSpans
+brackets_keep_spans choice calendar names text bare first last found civil e span reads =
+    of_inferred choice calendar names text bare first last found civil (unbracketed bare (left_bare text bare e)) reads
+    (by_bare choice calendar names text bare first last found e
+    (by_form (form calendar) choice calendar names text first last found civil span))

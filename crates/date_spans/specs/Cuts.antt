@@ -1,6 +1,6 @@
 -- Signs at the ends of a text, and a text cut at its only dash or slash.
 use Rattle.std.specs.Prelude.{ℕ, ◌+◌, ◌-◌, Bool, false, not, ◌&&◌, ◌||◌, ◌==◌, if◌then◌else◌, List, [], ◌∷◌, ◌++◌}
-use Rattle.std.specs.Prelude.{length, nat_lt, take, get_or, Option, Some, None}
+use Rattle.std.specs.Prelude.{length, nat_le, nat_lt, take, get_or, Option, Some, None}
 use Rattle.written_dates.specs.declared.tokens.Kind.{Kind}
 use Rattle.written_dates.specs.declared.tokens.Kind.TheVariants.{Blank}
 use Rattle.written_dates.specs.Fields.{is_blank, spelling, without_blanks}
@@ -53,7 +53,7 @@ is_open text = begins_open (bare (tokens 0 text)) || ends_open false (tokens 0 t
 abbrev pub has_slash : List ℕ → Bool
 has_slash text = nat_lt 0 (count_cuts Slash Blank (tokens 0 text))
 
--- the last byte of a text, and the text before it; ? (63), ~ (126) and % (37) say `uncertain`, `about` and both
+-- the last byte of a text; ? (63), ~ (126) and % (37) say `uncertain`, `about` and both
 abbrev pub last_byte : List ℕ → ℕ
 last_byte text = get_or text (length text - 1) 0
 
@@ -63,14 +63,24 @@ is_uncertain_sign c = (c == 63) || (c == 37)
 abbrev pub is_about_sign : ℕ → Bool
 is_about_sign c = (c == 126) || (c == 37)
 
+-- the sign at the end of a text, and how many bytes it takes: the last byte, or one between ( (40) and ) (41)
+abbrev pub ends_in_parentheses : List ℕ → Bool
+ends_in_parentheses text =
+    nat_le 3 (length text) && (last_byte text == 41) && (get_or text (length text - 3) 0 == 40)
+
+abbrev pub end_sign : List ℕ → ℕ × ℕ
+end_sign text = if ends_in_parentheses text then (get_or text (length text - 2) 0, 3) else (last_byte text, 1)
+
 -- a text without such a sign at its end, and whether it says `uncertain` and `about`; where a dash or a slash stands
 -- before the sign, it says neither
-abbrev pub unmarked_by : List ℕ → List ℕ × Bool × Bool
-unmarked_by text =
-    if (is_uncertain_sign (last_byte text) || is_about_sign (last_byte text))
-    && not (ends_open false (tokens 0 (take (length text - 1) text)))
-    then (take (length text - 1) text, is_uncertain_sign (last_byte text), is_about_sign (last_byte text))
+abbrev pub without_sign : List ℕ → ℕ → ℕ → List ℕ × Bool × Bool
+without_sign text c size =
+    if (is_uncertain_sign c || is_about_sign c) && not (ends_open false (tokens 0 (take (length text - size) text)))
+    then (take (length text - size) text, is_uncertain_sign c, is_about_sign c)
     else (text, false, false)
+
+abbrev pub unmarked_by : List ℕ → List ℕ × Bool × Bool
+unmarked_by text = without_sign text (end_sign text).0 (end_sign text).1
 
 unfoldable pub unmarked : List ℕ → List ℕ × Bool × Bool
 unmarked text = unmarked_by (without_blanks text)

@@ -1,5 +1,5 @@
 -- What the first and the last date of a month and of a year have between them: all of its days, and no others.
-use Rattle.std.specs.Prelude.{◌≡◌, ◌↔◌, ◌≤◌, ℕ, ℤ, pos, ◌≤ℤ◌, true, false, List, Some}
+use Rattle.std.specs.Prelude.{◌≡◌, ◌↔◌, ◌≤◌, ℕ, ℤ, pos, ◌≤ℤ◌, true, false, List, Some, None}
 use Rattle.day_numbers.specs.Rules.{Rules, IsDateOf, day_number_of, days_of_month}
 use Rattle.day_numbers.specs.declared.ymd.Ymd.{Ymd}
 use Rattle.date_texts.specs.Calendars.{IsDateBy, day_number_by, reckoning}
@@ -17,8 +17,9 @@ use Rattle.date_spans.specs.declared.ends.Numbers.{Numbers}
 use Rattle.date_spans.specs.declared.extents.Extent.{Extent}
 use Rattle.date_spans.specs.declared.extents.Extent.TheVariants as extent
 use Rattle.date_spans.specs.declared.spans.Marks.{Marks}
+use Rattle.date_spans.specs.Brackets.{without_brackets}
 use Rattle.date_spans.specs.Cuts.{unmarked}
-use Rattle.date_spans.specs.Spans.{IsSpan, is_dual}
+use Rattle.date_spans.specs.Spans.{IsSpan, inferred, is_dual, is_read}
 use Rattle.date_spans.specs.Ends.{HasDay, first_of, last_of, year_of}
 use Rattle.date_spans.specs.Months.{first_month, last_month, months_in}
 
@@ -102,13 +103,15 @@ SaidYearIsExact choice calendar said =
 abbrev pub SaidIsForwards : Choice → Calendar → Extent → Type 0
 SaidIsForwards choice calendar said = (n k : ℤ) → HasEnds choice calendar said n k → n ≤ℤ k
 
--- a text, without a sign at its end, that is read as a date today, and has no dual year
+-- a text without brackets and a sign at its end that is read as a date today, and has no dual year
 pub record IsReadToday (choice : Choice) (calendar : Calendar) (names : List Name) (text : List ℕ) : Type 0 where
+  pub bare : without_brackets text ≡ None
   pub reads : is_found (answer choice calendar names (unmarked text).0) ≡ true
   pub single : is_dual choice calendar names (unmarked text).0 ≡ false
 
 -- or stands as registers have it
 pub record StandsToday (choice : Choice) (calendar : Calendar) (names : List Name) (text : List ℕ) : Type 0 where
+  pub bare : without_brackets text ≡ None
   pub runs : List ℕ × List ℕ × List ℕ
   pub stands : unless_turned choice.order (three_runs (tokens 0 (unmarked text).0)) ≡ Some runs
   pub single : is_dual choice calendar names (unmarked text).0 ≡ false
@@ -131,8 +134,9 @@ RegisterDatesAreTheirOwnSpans =
     → form calendar ≡ Civil → IsSpan choice (Some calendar) names text first last found
     → StandsToday choice calendar names text → AreWrittenToday choice calendar names text first last
 
--- a text, without a sign at its end, is a date before a time of day, and none with it; days begin at midnight
+-- a text without brackets and a sign at its end is a date before a time of day, and none with it; days begin at midnight
 pub record HasTime (choice : Choice) (calendar : Calendar) (names : List Name) (text before : List ℕ) : Type 0 where
+  pub bare : without_brackets text ≡ None
   pub midnight : begins_at_midnight calendar ≡ true
   pub time : timeless (unmarked text).0 ≡ Some before
   pub plain : has_minus (tokens 0 (unmarked text).0) ≡ false
@@ -147,3 +151,11 @@ TimesChangeNoSpan =
     → form calendar ≡ Civil → IsSpan choice (Some calendar) names text first last found
     → HasTime choice calendar names text before
     → (first ≡ written choice (Some calendar) names before) × (last ≡ written choice (Some calendar) names before)
+
+-- a text with brackets that is read has the span of what is left without them, which is plain, and but for its mark
+abbrev pub BracketsKeepSpans : Type 0
+BracketsKeepSpans =
+    (choice : Choice) (calendar : Calendar) (names : List Name) (text bare first last : List ℕ) (found : Marks)
+    → form calendar ≡ Civil → without_brackets text ≡ Some bare → IsSpan choice (Some calendar) names text first last found
+    → is_read found.kind ≡ true
+    → (plain : Marks) × IsSpan choice (Some calendar) names bare first last plain × (found ≡ inferred plain)

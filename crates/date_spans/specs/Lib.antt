@@ -6,5 +6,6 @@ pub mod Sayings
 pub mod Ends
 pub mod Cuts
 pub mod CutViews
+pub mod Brackets
 pub mod Spans
 pub mod Styles

@@ -1,6 +1,6 @@
 -- What items with words say: how much, and whether they mean it, what lies before it or what lies after it.
-use Rattle.std.specs.Prelude.{ℕ, ◌+◌, ◌%◌, Bool, true, false, ◌&&◌, ◌||◌, ◌==◌, nat_lt, if◌then◌else◌}
-use Rattle.std.specs.Prelude.{List, [], ◌∷◌, ◌++◌, length, take, drop, position, Option, Some, None, option_map}
+use Rattle.std.specs.Prelude.{ℕ, ◌+◌, ◌-◌, ◌%◌, Bool, true, false, ◌&&◌, ◌||◌, ◌==◌, nat_lt, if◌then◌else◌}
+use Rattle.std.specs.Prelude.{List, [], ◌∷◌, ◌++◌, length, take, drop, position, slice_get, Option, Some, None, option_map}
 use Rattle.date_texts.specs.declared.calendar.Calendar.{Calendar}
 use Rattle.date_texts.specs.declared.calendar.Calendar.TheVariants.{Julian}
 use Rattle.written_dates.specs.declared.items.Number.{Number as Numeral}
@@ -10,6 +10,7 @@ use Rattle.written_dates.specs.declared.meanings.Relation.TheVariants as relatio
 use Rattle.written_dates.specs.declared.meanings.Word.{Word}
 use Rattle.written_dates.specs.declared.meanings.Word.TheVariants as words
 use Rattle.written_dates.specs.declared.rules.Order.{Order}
+use Rattle.written_dates.specs.Items.{is_long}
 use Rattle.written_dates.specs.Rules.{beside_weekday}
 use Rattle.date_spans.specs.declared.extents.Extent.{Extent}
 use Rattle.date_spans.specs.declared.extents.Extent.TheVariants as extent
@@ -162,17 +163,23 @@ is_before_new_year month day = nat_lt month 3 || ((month == 3) && nat_lt day 25)
 abbrev pub day_of_year : SaidDay → Numeral → SaidDay
 day_of_year d year = record { year = year; month = d.month; day = d.day; adar = d.adar; beside = d.beside }
 
--- a dual year: of a date that both years have, the later one; without a month both
-abbrev pub of_dual : Calendar → Numeral → Extent → Option Said
-of_dual calendar z (extent.Year y) =
-    if is_next y z then Some (said.Range (extent.Year y) (extent.Year (next_year y))) else None
-of_dual calendar z (extent.Adar y) = None
-of_dual calendar z (extent.Month y month) =
-    if is_julian calendar && is_next y z && nat_lt month 3
-    then Some (said.One (extent.Month (next_year y) month)) else None
-of_dual calendar z (extent.Day d) =
-    if is_julian calendar && is_next d.year z && is_before_new_year d.month d.day
+-- of a date that both years have, the one in the later year
+abbrev pub in_later_year : Calendar → Extent → Option Said
+in_later_year calendar (extent.Month y month) =
+    if is_julian calendar && nat_lt month 3 then Some (said.One (extent.Month (next_year y) month)) else None
+in_later_year calendar (extent.Day d) =
+    if is_julian calendar && is_before_new_year d.month d.day
     then Some (said.One (extent.Day (day_of_year d (next_year d.year)))) else None
+in_later_year calendar e = None
+
+-- what two years say; without a month both
+abbrev pub of_both_years : Calendar → Extent → Option Said
+of_both_years calendar (extent.Year y) = Some (said.Range (extent.Year y) (extent.Year (next_year y)))
+of_both_years calendar e = in_later_year calendar e
+
+-- a dual year: the number behind the slash is that of the year after
+abbrev pub of_dual : Calendar → Numeral → Extent → Option Said
+of_dual calendar z e = if is_next (year_in e) z then of_both_years calendar e else None
 
 abbrev pub dual_by : Calendar → Option Extent → List Item → Option Said
 dual_by calendar (Some left) (Number z ∷ []) = of_dual calendar z left
@@ -189,3 +196,29 @@ is_dual_of calendar signs order left right = is_dual_by (before_slash calendar s
 -- what the items before and behind a slash say
 abbrev pub said_of_dual : Calendar → Signs → Order → List Item → List Item → Option Said
 said_of_dual calendar signs order left right = dual_by calendar (before_slash calendar signs order left) right
+
+-- ---- years that are written shorter, as `1660/1` and `1648-49`
+-- a number says the year after a year by its last digit, where both are in the same ten years, or by its last two
+abbrev pub is_next_in_short : Numeral → Numeral → Bool
+is_next_in_short y z =
+    nat_lt y.value 99_999
+    && (((z.digits == 1) && (z.value == y.value % 10 + 1)) || ((z.digits == 2) && (z.value == (y.value + 1) % 100)))
+
+-- a year is the last of items
+abbrev pub is_year : Option Item → Bool
+is_year (Some (Number y)) = is_long y
+is_year item = false
+
+abbrev pub ends_with_year : List Item → Bool
+ends_with_year items = is_year (slice_get items (length items - 1))
+
+abbrev pub short_by : Calendar → Option Extent → List Item → Option Said
+short_by calendar (Some left) (Number z ∷ []) =
+    if is_next_in_short (year_in left) z then in_later_year calendar left else None
+short_by calendar left right = None
+
+-- what the items before and behind such a sign say: of a day or a month before 25 March, with the year last, that in the
+-- year after
+abbrev pub said_of_short : Calendar → Signs → Order → List Item → List Item → Option Said
+said_of_short calendar signs order left right =
+    if ends_with_year left then short_by calendar (before_slash calendar signs order left) right else None

@@ -23,10 +23,11 @@ use Rattle.date_spans.specs.declared.sayings.Kind.TheVariants as kinds
 use Rattle.date_spans.specs.declared.sayings.RangeSigns.{RangeSigns}
 use Rattle.date_spans.specs.declared.sayings.Said.{Said}
 use Rattle.date_spans.specs.declared.spans.Marks.{Marks}
+use Rattle.date_spans.specs.Brackets.{without_brackets}
 use Rattle.date_spans.specs.Cuts.{has_slash, is_open, sides, unmarked}
 use Rattle.date_spans.specs.Ends.{AreEnds, if_held}
 use Rattle.date_spans.specs.Extents.{or_else}
-use Rattle.date_spans.specs.Sayings.{is_about, is_dual_of, kind_of, said_by, said_of_dual, said_of_sides}
+use Rattle.date_spans.specs.Sayings.{is_about, is_dual_of, kind_of, said_by, said_of_dual, said_of_short, said_of_sides}
 
 -- the items of a text in a calendar; none where there are more than sixteen
 abbrev pub if_few : Option (List Item) → Option (List Item)
@@ -115,6 +116,22 @@ is_dual_sides calendar names order (Some two) =
 unfoldable pub is_dual : Choice → Calendar → List Name → List ℕ → Bool
 is_dual choice calendar names text = is_dual_sides calendar names choice.order (sides Slash text)
 
+-- by those at a sign before the year after, written shorter
+abbrev pub at_short_by : Choice → Calendar → List Name → Option (List ℕ × List ℕ) → Option Said
+at_short_by choice calendar names None = None
+at_short_by choice calendar names (Some two) =
+    of_two (said_of_short calendar (one_side two.0) choice.order)
+    (items_in calendar names two.0) (items_in calendar names two.1)
+
+unfoldable pub at_short : Cut → Choice → Calendar → List Name → List ℕ → Option Said
+at_short cut choice calendar names text = at_short_by choice calendar names (sides cut text)
+
+-- the sign is the only slash, or the only dash, with no blank before it
+unfoldable pub in_short : Choice → Calendar → List Name → List ℕ → Option Said
+in_short choice calendar names text =
+    or_else (at_short Slash choice calendar names text)
+    (if is_some (sides WideDash text) then None else at_short Dash choice calendar names text)
+
 -- what a text says: by its dual year, where it has one; else as a whole, by the sides of its only dash, or by those of its
 -- only dash behind a blank
 abbrev pub said_by_sides : Choice → Calendar → List Name → List ℕ → Option Said
@@ -122,11 +139,16 @@ said_by_sides choice calendar names text =
     or_else (as_whole choice calendar names text)
     (or_else (at_dash Dash choice calendar names text) (at_dash WideDash choice calendar names text))
 
+-- where it says nothing so, by a dual year that is written shorter
+unfoldable pub said_or_short : Choice → Calendar → List Name → List ℕ → Option Said
+said_or_short choice calendar names text =
+    or_else (said_by_sides choice calendar names text) (in_short choice calendar names text)
+
 unfoldable pub said_in : Choice → Calendar → List Name → List ℕ → Option Said
 said_in choice calendar names text =
     if has_other (tokens 0 text) || is_open text then None
     else if is_dual choice calendar names text then if_held choice calendar (at_slash choice calendar names text)
-    else if_held choice calendar (said_by_sides choice calendar names text)
+    else if_held choice calendar (said_or_short choice calendar names text)
 
 -- ---- first and last day
 -- the text is a date as registers have it, or one that is read
@@ -148,7 +170,7 @@ has_about None = false
 has_about (Some found) = list_any is_about found
 
 abbrev pub marks : Kind → Bool → Bool → Marks
-marks kind about uncertain = record { kind = kind; about = about; uncertain = uncertain }
+marks kind about uncertain = record { kind = kind; about = about; uncertain = uncertain; inferred = false }
 
 abbrev pub marks_of : Said → Bool → Bool → Bool → Marks
 marks_of said true about uncertain = marks kinds.Unread false false
@@ -184,12 +206,38 @@ IsDateAlone choice calendar names text first last =
     (is_date choice calendar names (dated_text choice calendar names text) ≡ true)
     × (first ≡ written choice (Some calendar) names (dated_text choice calendar names text))
     × (last ≡ written choice (Some calendar) names (dated_text choice calendar names text))
+-- the span of a text in which no brackets count
+abbrev pub IsPlainSpan : Choice → Calendar → List Name → List ℕ → List ℕ → List ℕ → Marks → Type 0
+IsPlainSpan choice calendar names text first last found =
+    IsSpanOfText choice calendar names text (kept_of choice calendar names text) first last found
+    (is_date choice calendar names (kept_of choice calendar names text).0)
+
+-- ---- brackets
+abbrev pub is_read : Kind → Bool
+is_read kinds.Unread = false
+is_read kind = true
+
+abbrev pub inferred : Marks → Marks
+inferred found = record { kind = found.kind; about = found.about; uncertain = found.uncertain; inferred = true }
+
+-- a text has the span of what is left without its brackets, and is inferred; where this says nothing, the text stays
+pub data IsInferred (choice : Choice) (calendar : Calendar) (names : List Name) (text bare first last : List ℕ)
+    (found : Marks) : Type 0 where
+  said : (plain : Marks) → is_read plain.kind ≡ true → IsPlainSpan choice calendar names bare first last plain
+      → found ≡ inferred plain → IsInferred choice calendar names text bare first last found
+  unsaid : (a b : List ℕ) (plain : Marks) → is_read plain.kind ≡ false → IsPlainSpan choice calendar names bare a b plain
+      → first ≡ text → last ≡ text → found ≡ marks kinds.Unread false false
+      → IsInferred choice calendar names text bare first last found
+
+abbrev pub IsCivilSpan : Choice → Calendar → List Name → List ℕ → Option (List ℕ) → List ℕ → List ℕ → Marks → Type 0
+IsCivilSpan choice calendar names text None first last found = IsPlainSpan choice calendar names text first last found
+IsCivilSpan choice calendar names text (Some bare) first last found =
+    IsInferred choice calendar names text bare first last found
 
 -- where the calendar has no years, months and days, what is written is both
 abbrev pub IsSpanByForm : Form → Choice → Calendar → List Name → List ℕ → List ℕ → List ℕ → Marks → Type 0
 IsSpanByForm forms.Civil choice calendar names text first last found =
-    IsSpanOfText choice calendar names text (kept_of choice calendar names text) first last found
-    (is_date choice calendar names (kept_of choice calendar names text).0)
+    IsCivilSpan choice calendar names text (without_brackets text) first last found
 IsSpanByForm form choice calendar names text first last found =
     (first ≡ written choice (Some calendar) names text) × (last ≡ written choice (Some calendar) names text)
     × (found ≡ marks kinds.One false false)

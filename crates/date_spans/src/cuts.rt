@@ -1,6 +1,6 @@
 //! Signs at the ends of a text, and texts cut at a sign.
 
-ghost use Rattle.std.specs.Prelude.{◌≡◌, ◌≢◌, ◌<◌, false, if◌then◌else◌, IfNone, IfSome, length};
+ghost use Rattle.std.specs.Prelude.{◌≡◌, ◌≢◌, ◌≤◌, ◌<◌, false, if◌then◌else◌, IfNone, IfSome, length};
 ghost use Rattle.written_dates.specs.declared.tokens.Kind.TheVariants.{Blank};
 ghost use Rattle.written_dates.specs.Fields.{is_blank as blank_spec};
 ghost use Rattle.written_dates.specs.Signs.{bare as bare_spec, is_bar as bar_spec};
@@ -10,7 +10,8 @@ ghost use Rattle.date_spans.specs.CutViews.{is_slash_byte, seen_sides, seen_mark
 ghost use Rattle.date_spans.specs.Cuts.{begins_open as begins_open_spec, ends_open as ends_open_spec, is_open as open_spec};
 ghost use Rattle.date_spans.specs.Cuts.{bytes_before, bytes_behind, count_cuts as count_spec, cuts as cuts_spec};
 ghost use Rattle.date_spans.specs.Cuts.{has_slash as slash_spec, is_about_sign as about_spec, last_byte as last_spec};
-ghost use Rattle.date_spans.specs.Cuts.{is_uncertain_sign as uncertain_spec, sides as sides_spec, unmarked as unmarked_spec};
+ghost use Rattle.date_spans.specs.Cuts.{end_sign as end_spec, is_uncertain_sign as uncertain_spec, sides as sides_spec};
+ghost use Rattle.date_spans.specs.Cuts.{unmarked as unmarked_spec};
 
 use written_dates::{Kind, Token, bare, is_bar, is_blank, is_dash, next_token, without_blanks};
 
@@ -166,19 +167,32 @@ fn last_byte(text: &[u8]) -> u8
     }
 }
 
-/// A text without blanks at its ends and a sign behind it that says `uncertain` or `about`, and whether it says so.
+/// The sign at the end of a text, and how many bytes it takes: three in parentheses.
+fn end_sign(text: &[u8]) -> (u8, usize)
+    ensures value { result ≡ end_spec text.now }
+    ensures within { result.0 ≢ 0 → result.1 ≤ length text.now }
+{
+    let last = last_byte(text);
+    if text.len() >= 3 && last == b')' && text[text.len() - 3] == b'(' {
+        return (text[text.len() - 2], 3);
+    }
+    (last, 1)
+}
+
+/// A text without blanks at its ends and a sign behind it that says `uncertain` or `about`, also one in parentheses; and
+/// whether it says so.
 #[tactic(auto, unfolding(crate::specs::Cuts::unmarked))]
 pub fn unmarked(text: &[u8]) -> (&[u8], bool, bool)
     ensures { seen_mark result ≡ unmarked_spec text.now }
 {
     let text = without_blanks(text);
-    let last = last_byte(text);
-    let uncertain = is_uncertain_sign(last);
-    let about = is_about_sign(last);
+    let (sign, size) = end_sign(text);
+    let uncertain = is_uncertain_sign(sign);
+    let about = is_about_sign(sign);
     if !(uncertain || about) {
         return (text, false, false);
     }
-    let kept = &text[..text.len() - 1];
+    let kept = &text[..text.len() - size];
     if ends_open(kept) {
         return (text, false, false);
     }

@@ -4,7 +4,7 @@ ghost use Rattle.std.specs.Prelude.{◌≡◌, ◌≤◌};
 ghost use Rattle.day_numbers.specs.Rules.{Rules};
 ghost use Rattle.date_texts.specs.Calendars.{by_rules, reckoning};
 ghost use Rattle.date_spans.specs.Laws.{LastDayIsGreatest, MonthIsExact, MonthIsForwards, YearIsExact, YearIsForwards};
-ghost use Rattle.date_spans.specs.Laws.{DatesAreTheirOwnSpans, RegisterDatesAreTheirOwnSpans, TimesChangeNoSpan};
+ghost use Rattle.date_spans.specs.Laws.{BracketsKeepSpans, DatesAreTheirOwnSpans, RegisterDatesAreTheirOwnSpans, TimesChangeNoSpan};
 ghost use Rattle.date_spans.specs.Laws.{SaidIsForwards, SaidMonthIsExact, SaidYearIsExact};
 
 use crate::ends::year_of;
@@ -49,9 +49,10 @@ pub fn said_spans_are_exact(choice: &Choice, calendar: Calendar, said: Number, m
 }
 
 /// What is read as a date today, or stands as registers have it, is its own first and last day, as it is written today,
-/// where it has no dual year; and a time of day behind it changes nothing.
+/// where it has no dual year and no brackets; and a time of day behind it changes nothing, nor do brackets but for the mark.
 pub fn dates_are_their_own_spans()
     ensures read { DatesAreTheirOwnSpans }
     ensures stands { RegisterDatesAreTheirOwnSpans }
     ensures times { TimesChangeNoSpan }
+    ensures brackets { BracketsKeepSpans }
 {}

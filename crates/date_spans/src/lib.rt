@@ -2,6 +2,7 @@
 //! day, as date texts of registers.
 #![tactic(auto)]
 
+mod brackets;
 mod cuts;
 mod ends;
 mod extents;

@@ -1,6 +1,7 @@
 //! What items with words say.
 
 ghost use Rattle.std.specs.Prelude.{◌≡◌, ◌≤◌, ◌+◌, ◌++◌, drop, length, option_map, position};
+ghost use Rattle.date_spans.specs.Extents.{year_in as year_spec};
 ghost use Rattle.date_spans.specs.FeastSides.{bare_side as bare_spec};
 ghost use Rattle.date_spans.specs.Sayings.{all_alike as alike_spec, before_slash as slash_spec, both as both_spec};
 ghost use Rattle.date_spans.specs.Sayings.{by_word as word_spec};
@@ -14,6 +15,9 @@ ghost use Rattle.date_spans.specs.Sayings.{of_dual as of_dual_spec, opens_sides 
 ghost use Rattle.date_spans.specs.Sayings.{parts_sides as parts_spec, parts_word as parts_word_spec};
 ghost use Rattle.date_spans.specs.Sayings.{piece as piece_spec, range_of as range_spec, said_by as said_spec};
 ghost use Rattle.date_spans.specs.Sayings.{said_of_dual as said_dual_spec, said_of_sides as sides_spec};
+ghost use Rattle.date_spans.specs.Sayings.{ends_with_year as ends_spec, in_later_year as later_spec};
+ghost use Rattle.date_spans.specs.Sayings.{is_next_in_short as short_next_spec};
+ghost use Rattle.date_spans.specs.Sayings.{said_of_short as said_short_spec, short_by as short_spec};
 ghost use Rattle.date_spans.specs.Sayings.{without_about as without_spec};
 
 use crate::extents::{
@@ -22,7 +26,7 @@ use crate::extents::{
 use crate::feast_sides::{bare_side, in_year_of, side_of};
 use arrayvec::ArrayVec;
 use date_texts::Calendar;
-use written_dates::{Item, Number, Order, Relation, Word, beside_weekday};
+use written_dates::{Item, Number, Order, Relation, Word, beside_weekday, is_long};
 
 /// The signs of two sides.
 #[derive(Clone, Copy)]
@@ -491,36 +495,32 @@ fn day_of_year(said: SaidDay, year: Number) -> SaidDay
     }
 }
 
+/// A day or a month that two years have, in the later of them.
+fn in_later_year(calendar: Calendar, said: Extent) -> Option<Said>
+    requires { (year_spec said).value ≤ 99_999 }
+    ensures { result ≡ later_spec calendar said }
+{
+    match said {
+        Extent::Month(y, month) if is_julian(calendar) && month < 3 => {
+            Some(Said::One(Extent::Month(next_year(y), month)))
+        }
+        Extent::Day(day) if is_julian(calendar) && is_before_new_year(day.month, day.day) => {
+            Some(Said::One(Extent::Day(day_of_year(day, next_year(day.year)))))
+        }
+        _ => None,
+    }
+}
+
 /// What a dual year says.
 fn of_dual(calendar: Calendar, next: Number, left: Extent) -> Option<Said>
     ensures { result ≡ of_dual_spec calendar next left }
 {
+    if !is_next(year_in(left), next) {
+        return None;
+    }
     match left {
-        Extent::Year(y) => {
-            if is_next(y, next) {
-                Some(Said::Range(Extent::Year(y), Extent::Year(next_year(y))))
-            } else {
-                None
-            }
-        }
-        Extent::Month(y, month) => {
-            if is_julian(calendar) && is_next(y, next) && month < 3 {
-                Some(Said::One(Extent::Month(next_year(y), month)))
-            } else {
-                None
-            }
-        }
-        Extent::Adar(_) => None,
-        Extent::Day(said) => {
-            if is_julian(calendar)
-                && is_next(said.year, next)
-                && is_before_new_year(said.month, said.day)
-            {
-                Some(Said::One(Extent::Day(day_of_year(said, next_year(said.year)))))
-            } else {
-                None
-            }
-        }
+        Extent::Year(y) => Some(Said::Range(Extent::Year(y), Extent::Year(next_year(y)))),
+        _ => in_later_year(calendar, left),
     }
 }
 
@@ -576,4 +576,55 @@ pub fn said_of_dual(
     ensures { result ≡ said_dual_spec calendar signs order left.now right.now }
 {
     dual_by(calendar, before_slash(calendar, signs, order, left), right)
+}
+
+/// Whether a number says the year after a year by its last digit or its last two.
+fn is_next_in_short(year: Number, next: Number) -> bool
+    ensures { result ≡ short_next_spec year next }
+{
+    year.value < 99_999
+        && ((next.digits == 1 && next.value == year.value % 10 + 1)
+            || (next.digits == 2 && next.value == (year.value + 1) % 100))
+}
+
+/// Whether a year is the last of items.
+fn ends_with_year(items: &[Item]) -> bool
+    ensures { result ≡ ends_spec items.now }
+{
+    match items.last() {
+        Some(Item::Number(year)) => is_long(*year),
+        _ => false,
+    }
+}
+
+fn short_by(calendar: Calendar, left: Option<Extent>, right: &[Item]) -> Option<Said>
+    ensures { result ≡ short_spec calendar left right.now }
+{
+    match (left, right) {
+        (Some(left), [Item::Number(next)]) => {
+            if is_next_in_short(year_in(left), *next) {
+                in_later_year(calendar, left)
+            } else {
+                None
+            }
+        }
+        _ => None,
+    }
+}
+
+/// What the items before and behind a slash or a dash say, where the number behind it is the year after, written shorter.
+pub fn said_of_short(
+    calendar: Calendar,
+    signs: Signs,
+    order: Order,
+    left: &[Item],
+    right: &[Item],
+) -> Option<Said>
+    requires { length left.now ≤ 16 }
+    ensures { result ≡ said_short_spec calendar signs order left.now right.now }
+{
+    if !ends_with_year(left) {
+        return None;
+    }
+    short_by(calendar, before_slash(calendar, signs, order, left), right)
 }

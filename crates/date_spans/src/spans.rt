@@ -7,19 +7,23 @@ ghost use Rattle.written_dates.specs.Calendars.{form as form_spec};
 ghost use Rattle.written_dates.specs.declared.meanings.Name.{Name};
 ghost use Rattle.written_dates.specs.Written.{written};
 ghost use Rattle.date_spans.specs.Sayings.{is_about as is_about_spec};
-ghost use Rattle.date_spans.specs.Spans.{AreEndsOf, IsDateAlone, IsSpan, IsSpanByForm, has_about as about_spec, is_known as known_spec};
+ghost use Rattle.date_spans.specs.Spans.{AreEndsOf, IsDateAlone, IsInferred, IsPlainSpan, IsSpan, IsSpanByForm};
+ghost use Rattle.date_spans.specs.Spans.{inferred as inferred_spec};
+ghost use Rattle.date_spans.specs.Spans.{has_about as about_spec, is_known as known_spec, is_read as read_spec};
 ghost use Rattle.date_spans.specs.Spans.{as_whole as whole_spec, at_dash as dash_spec, at_slash as slash_spec};
+ghost use Rattle.date_spans.specs.Spans.{at_short as short_spec, in_short as in_short_spec, said_or_short as or_short_spec};
 ghost use Rattle.date_spans.specs.Spans.{cut_sides as cut_spec, is_dual as dual_spec};
 ghost use Rattle.date_spans.specs.Spans.{marks as new_marks, marks_of as marks_spec, one_side as one_spec, said_by_sides as by_sides_spec};
 ghost use Rattle.date_spans.specs.Spans.{said_in as said_spec, stands as stands_spec, two_sides as two_spec, words_in as words_spec};
 
+use crate::brackets::{bracketed, joined};
 use crate::cuts::{Cut, has_slash, has_slash_byte, is_open, sides, unmarked};
 use crate::ends::{if_held, set_ends, set_text};
 use crate::extents::Signs;
 use crate::items::{items_in, words_in};
 use crate::sayings::{
     Kind, RangeSigns, Said, Way, is_about, is_dual_of, kind_of, said_by, said_of_dual,
-    said_of_sides,
+    said_of_short, said_of_sides,
 };
 use date_texts::Calendar;
 use std::alloc::AllocError;
@@ -38,6 +42,8 @@ pub struct Marks {
     pub about: bool,
     /// That it is not certain.
     pub uncertain: bool,
+    /// That a part of it stands in brackets.
+    pub inferred: bool,
 }
 
 /// Of what is not read.
@@ -45,6 +51,7 @@ const UNREAD: Marks = Marks {
     kind: Kind::Unread,
     about: false,
     uncertain: false,
+    inferred: false,
 };
 
 /// Of a date.
@@ -52,6 +59,7 @@ const DATE: Marks = Marks {
     kind: Kind::One,
     about: false,
     uncertain: false,
+    inferred: false,
 };
 
 /// The signs of a text that is one side.
@@ -192,6 +200,54 @@ fn said_by_sides(choice: &Choice, calendar: Calendar, names: &Names, text: &[u8]
     said_at_dash(Cut::WideDash, choice, calendar, names, text)
 }
 
+/// What the sides of a text say at its only such token, where the number behind it is the year after, written shorter.
+#[tactic(auto, unfolding(crate::specs::Spans::at_short))]
+fn said_at_short(
+    cut: Cut,
+    choice: &Choice,
+    calendar: Calendar,
+    names: &Names,
+    text: &[u8],
+) -> Option<Said>
+    ensures { result ≡ short_spec cut choice.now calendar names.now.listed.now text.now }
+{
+    let (left, right) = sides(cut, text)?;
+    let before = items_in(calendar, names, left)?;
+    let behind = items_in(calendar, names, right)?;
+    said_of_short(
+        calendar,
+        one_side(left),
+        choice.order,
+        before.as_slice(),
+        behind.as_slice(),
+    )
+}
+
+/// What a text says by a dual year that is written shorter.
+#[tactic(auto, unfolding(crate::specs::Spans::in_short))]
+fn said_in_short(choice: &Choice, calendar: Calendar, names: &Names, text: &[u8]) -> Option<Said>
+    ensures { result ≡ in_short_spec choice.now calendar names.now.listed.now text.now }
+{
+    if let Some(said) = said_at_short(Cut::Slash, choice, calendar, names, text) {
+        return Some(said);
+    }
+    if sides(Cut::WideDash, text).is_some() {
+        return None;
+    }
+    said_at_short(Cut::Dash, choice, calendar, names, text)
+}
+
+/// What a text without a dual year in full says.
+#[tactic(auto, unfolding(crate::specs::Spans::said_or_short))]
+fn said_or_short(choice: &Choice, calendar: Calendar, names: &Names, text: &[u8]) -> Option<Said>
+    ensures { result ≡ or_short_spec choice.now calendar names.now.listed.now text.now }
+{
+    match said_by_sides(choice, calendar, names, text) {
+        Some(said) => Some(said),
+        None => said_in_short(choice, calendar, names, text),
+    }
+}
+
 /// What a text says.
 #[tactic(auto, unfolding(crate::specs::Spans::said_in))]
 fn said_in(choice: &Choice, calendar: Calendar, names: &Names, text: &[u8]) -> Option<Said>
@@ -211,7 +267,7 @@ fn said_in(choice: &Choice, calendar: Calendar, names: &Names, text: &[u8]) -> O
     if_held(
         choice,
         calendar,
-        said_by_sides(choice, calendar, names, text),
+        said_or_short(choice, calendar, names, text),
     )
 }
 
@@ -303,6 +359,7 @@ fn marks_of(said: Said, turned: bool, about: bool, uncertain: bool) -> Marks
         kind: kind_of(said),
         about,
         uncertain,
+        inferred: false,
     }
 }
 
@@ -356,9 +413,9 @@ fn set_standing(
     Ok(true)
 }
 
-/// Makes two buffers the first and the last day of a text in a calendar with years, months and days.
+/// Makes two buffers the first and the last day of a text in which no brackets count.
 #[tactic(auto, using(crate::proofs::SpanLemmas::dual_is_no_date, crate::proofs::SpanLemmas::date_by_known))]
-fn set_civil(
+fn set_plain(
     first: &mut Vec<u8>,
     last: &mut Vec<u8>,
     text: &[u8],
@@ -367,7 +424,7 @@ fn set_civil(
     choice: &Choice,
 ) -> Result<Marks, AllocError>
     requires { form_spec calendar ≡ Civil }
-    ensures { IfOk result (λ found. IsSpanByForm Civil choice.now calendar names.now.listed.now text.now
+    ensures { IfOk result (λ found. IsPlainSpan choice.now calendar names.now.listed.now text.now
         first.new.items last.new.items found) }
 {
     let (unmarked, uncertain, about) = unmarked(text);
@@ -376,6 +433,7 @@ fn set_civil(
             kind: Kind::One,
             about,
             uncertain,
+            inferred: false,
         });
     }
     let kept = dated_text(choice, calendar, names, unmarked);
@@ -390,6 +448,7 @@ fn set_civil(
             kind: Kind::One,
             about,
             uncertain,
+            inferred: false,
         });
     }
     set_said(
@@ -397,11 +456,76 @@ fn set_civil(
     )
 }
 
+/// Whether a saying is read.
+fn is_read(kind: Kind) -> bool
+    ensures { result ≡ read_spec kind }
+{
+    match kind {
+        Kind::Unread => false,
+        _ => true,
+    }
+}
+
+/// Of what is inferred.
+fn inferred(marks: Marks) -> Marks
+    ensures { result ≡ inferred_spec marks }
+{
+    Marks {
+        kind: marks.kind,
+        about: marks.about,
+        uncertain: marks.uncertain,
+        inferred: true,
+    }
+}
+
+/// Makes two buffers the first and the last day of what a text is without its brackets; where this says nothing, the
+/// text stays.
+fn set_inferred(
+    first: &mut Vec<u8>,
+    last: &mut Vec<u8>,
+    text: &[u8],
+    bare: &[u8],
+    calendar: Calendar,
+    names: &Names,
+    choice: &Choice,
+) -> Result<Marks, AllocError>
+    requires { form_spec calendar ≡ Civil }
+    ensures { IfOk result (λ found. IsInferred choice.now calendar names.now.listed.now text.now bare.now
+        first.new.items last.new.items found) }
+{
+    let marks = set_plain(first, last, bare, calendar, names, choice)?;
+    if is_read(marks.kind) {
+        return Ok(inferred(marks));
+    }
+    set_unread(first, last, text)
+}
+
+/// Makes two buffers the first and the last day of a text in a calendar with years, months and days.
+fn set_civil(
+    first: &mut Vec<u8>,
+    last: &mut Vec<u8>,
+    text: &[u8],
+    calendar: Calendar,
+    names: &Names,
+    choice: &Choice,
+) -> Result<Marks, AllocError>
+    requires { form_spec calendar ≡ Civil }
+    ensures { IfOk result (λ found. IsSpanByForm Civil choice.now calendar names.now.listed.now text.now
+        first.new.items last.new.items found) }
+{
+    let Some((front, within, behind)) = bracketed(text) else {
+        return set_plain(first, last, text, calendar, names, choice);
+    };
+    let bare = joined(first, front, within, behind)?;
+    set_inferred(first, last, text, bare.as_slice(), calendar, names, choice)
+}
+
 /// Makes `first` and `last` the first and the last day that a text can mean, as date texts of registers: the date that it
 /// is, or those of the month, the year or the range that it says. What the buffers held is gone. An end that is open, or
 /// whose year is short where such years are refused, is empty; where the text says nothing, both are the text. A date
 /// that the calendar does not have is written all the same. `calendar` is that of the record, `None` where no calendar
-/// has the name that stands there; of the names those count that hold in it.
+/// has the name that stands there; of the names those count that hold in it. A text of which a part stands in brackets
+/// is read without these: `12 May [1706]`.
 ///
 /// # Errors
 ///

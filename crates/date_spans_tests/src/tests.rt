@@ -191,6 +191,7 @@ fn are_marks(marks: &Marks, text: &str) -> bool {
     is_kind
         && marks.about == rest.contains("about")
         && marks.uncertain == rest.contains("uncertain")
+        && marks.inferred == rest.contains("inferred")
 }
 
 /// A day that a line wants of a text.

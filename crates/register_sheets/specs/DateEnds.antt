@@ -179,10 +179,16 @@ abbrev pub uncertain_word : Bool → List ℕ
 uncertain_word true = codes "uncertain"
 uncertain_word false = []
 
+abbrev pub inferred_word : Bool → List ℕ
+inferred_word true = codes "inferred"
+inferred_word false = []
+
 abbrev pub spaced : List ℕ → List ℕ → List ℕ
 spaced [] second = second
 spaced (byte ∷ first) [] = byte ∷ first
 spaced (byte ∷ first) (other ∷ second) = (byte ∷ first) ++ 32 ∷ (other ∷ second)
 
 abbrev pub mark_text : Marks → List ℕ
-mark_text found = spaced (kind_word found.kind) (spaced (about_word found.about) (uncertain_word found.uncertain))
+mark_text found =
+    spaced (kind_word found.kind)
+    (spaced (about_word found.about) (spaced (uncertain_word found.uncertain) (inferred_word found.inferred)))

@@ -15,6 +15,7 @@ pub(crate) const DAY_MARKS: Marks = Marks {
     kind: Kind::One,
     about: false,
     uncertain: false,
+    inferred: false,
 };
 
 /// The texts of a first and a last day, in memory that serves again.

@@ -13,7 +13,7 @@ const ENDS: Case = Case {
     spans: Spans::Ends,
     reading: DAY_FIRST,
     sheet: "D;C\n12. Mai 1806;gregorian\nMai 1806;gregorian\nca. 1750;gregorian\nvor 12.5.1806;gregorian\n\
-        nach 1800;gregorian\nzw. 1750 u. 1755;gregorian\n31.4.1801 bis 5.5.1801;gregorian\n1755-1750;gregorian\n\
+        nach 1800;gregorian\nzw. 1750 u. 1755;gregorian\n[ca. 1750?];gregorian\n31.4.1801 bis 5.5.1801;gregorian\n1755-1750;gregorian\n\
         ;gregorian\nMai 1806;mondisch\n",
     wanted: "D;C;first rd;first gregorian;last rd;last gregorian;mark;refusal\n\
         12. Mai 1806;gregorian;659394;1806-05-12;659394;1806-05-12;;\n\
@@ -22,11 +22,12 @@ const ENDS: Case = Case {
         vor 12.5.1806;gregorian;;;659393;1806-05-11;before;\n\
         nach 1800;gregorian;657437;1801-01-01;;;after;\n\
         zw. 1750 u. 1755;gregorian;638810;1750-01-01;641000;1755-12-31;between;\n\
+        [ca. 1750?];gregorian;638810;1750-01-01;639174;1750-12-31;about uncertain inferred;\n\
         31.4.1801 bis 5.5.1801;gregorian;;;657561;1801-05-05;;6\n\
         1755-1750;gregorian;;;;;;5\n\
         ;gregorian;;;;;;5\n\
         Mai 1806;mondisch;;;;;;4\n",
-    rows: 10,
+    rows: 11,
     counts: &[(3, 1)],
 };
 
@@ -80,7 +81,7 @@ fn spans_of(end: SheetEnd) -> usize {
 fn first_and_last_days(rt: HostRuntime) -> Result<(), Fail> {
     let (text, end) = converted(rt.alloc(), &ENDS)?;
     assert!(rt; text.as_slice() == ENDS.wanted.as_bytes());
-    assert!(rt; is_whole(end, &ENDS) && spans_of(end) == 5);
+    assert!(rt; is_whole(end, &ENDS) && spans_of(end) == 6);
     Ok(())
 }
 

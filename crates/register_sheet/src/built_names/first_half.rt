@@ -569,7 +569,169 @@ ndert,800,\nacht hundert und,800,\nneunhundert,900,\nneunhundert und,900,\nneun 
 fhundert,1100,\nelfhundert und,1100,\nelf hundert,1100,\nelf hundert und,1100,\nzwölfhundert,1200,\nzwölfhundert und,\
 1200,\nzwölf hundert,1200,\nzwölf hundert und,1200,\ndreizehnhundert,1300,\ndreizehnhundert und,1300,\ndreizehn hunde\
 rt,1300,\ndreizehn hundert und,1300,\ndreyzehnhundert,1300,\ndreyzehnhundert und,1300,\ndreyzehn hundert,1300,\ndreyzeh\
-n hundert und,1300,\n\
+n hundert und,1300,\nvierzehnhundert,1400,\nvierzehnhundert und,1400,\nvierzehn hundert,1400,\nvierzehn hundert und,140\
+0,\nfünfzehnhundert,1500,\nfünfzehnhundert und,1500,\nfünfzehn hundert,1500,\nfünfzehn hundert und,1500,\nsechzehnh\
+undert,1600,\nsechzehnhundert und,1600,\nsechzehn hundert,1600,\nsechzehn hundert und,1600,\nsiebzehnhundert,1700,\nsie\
+bzehnhundert und,1700,\nsiebzehn hundert,1700,\nsiebzehn hundert und,1700,\nachtzehnhundert,1800,\nachtzehnhundert und,\
+1800,\nachtzehn hundert,1800,\nachtzehn hundert und,1800,\nneunzehnhundert,1900,\nneunzehnhundert und,1900,\nneunzehn h\
+undert,1900,\nneunzehn hundert und,1900,\ntausend,1000,\ntausend und,1000,\neintausend,1000,\neintausend und,1000,\nei\
+n tausend,1000,\nein tausend und,1000,\nzweitausend,2000,\nzweitausend und,2000,\nzwei tausend,2000,\nzwei tausend und,\
+2000,\nMontag,weekday 1,\nDienstag,weekday 2,\nMittwoch,weekday 3,\nDonnerstag,weekday 4,\nFreitag,weekday 5,\nSamstag,\
+weekday 6,\nSonnabend,weekday 6,\nSonntag,weekday 0,\nMo,weekday 1,\nDi,weekday 2,gregorian julian coptic ethiopic egyp\
+tian armenian islamic hebrew french republican\nMi,weekday 3,gregorian julian coptic ethiopic egyptian armenian islami\
+c hebrew french republican\nDo,weekday 4,\nFr,weekday 5,\nSa,weekday 6,\nSo,weekday 0,\nMonday,weekday 1,\nTuesday,week\
+day 2,\nWednesday,weekday 3,\nThursday,weekday 4,\nFriday,weekday 5,\nSaturday,weekday 6,\nSunday,weekday 0,\nMon,weekd\
+ay 1,\nTue,weekday 2,\nTues,weekday 2,\nWed,weekday 3,\nThu,weekday 4,\nThur,weekday 4,\nThurs,weekday 4,\nFri,weekday \
+5,\nSat,weekday 6,\nSun,weekday 0,\nlundi,weekday 1,\nmardi,weekday 2,\nmercredi,weekday 3,\njeudi,weekday 4,\nvendredi\
+,weekday 5,\nsamedi,weekday 6,\ndimanche,weekday 0,\nlun,weekday 1,\nmer,weekday 3,\njeu,weekday 4,\nven,weekday 5,\nsa\
+m,weekday 6,\ndim,weekday 0,\nmaandag,weekday 1,\ndinsdag,weekday 2,\nwoensdag,weekday 3,\ndonderdag,weekday 4,\nvrijda\
+g,weekday 5,\nzaterdag,weekday 6,\nzondag,weekday 0,\nma,weekday 1,\nwo,weekday 3,\nvr,weekday 5,\nza,weekday 6,\nzo,we\
+ekday 0,\nlunedì,weekday 1,\nmartedì,weekday 2,\nmercoledì,weekday 3,\ngiovedì,weekday 4,\nvenerdì,weekday 5,\nsab\
+ato,weekday 6,\ndomenica,weekday 0,\nlunes,weekday 1,\nmartes,weekday 2,\nmiércoles,weekday 3,\njueves,weekday 4,\nvie\
+rnes,weekday 5,\nsábado,weekday 6,\ndomingo,weekday 0,\nponiedziałek,weekday 1,\nwtorek,weekday 2,\nśroda,weekday 3,\
+\nczwartek,weekday 4,\npiątek,weekday 5,\nsobota,weekday 6,\nniedziela,weekday 0,\npondělí,weekday 1,\núterý,weekd\
+ay 2,\nstředa,weekday 3,\nčtvrtek,weekday 4,\npátek,weekday 5,\nneděle,weekday 0,\ndies Lunae,weekday 1,\ndies Mart\
+is,weekday 2,\ndies Mercurii,weekday 3,\ndies Iovis,weekday 4,\ndies Jovis,weekday 4,\ndies Veneris,weekday 5,\ndies Sa\
+turni,weekday 6,\ndies Sabbati,weekday 6,\ndies Dominica,weekday 0,\nsøndag,weekday 0,\nmandag,weekday 1,\ntirsdag,wee\
+kday 2,\nonsdag,weekday 3,\ntorsdag,weekday 4,\nfredag,weekday 5,\nlørdag,weekday 6,\nsöndag,weekday 0,\nmåndag,week\
+day 1,\ntisdag,weekday 2,\nlördag,weekday 6,\nsunnuntai,weekday 0,\nmaanantai,weekday 1,\ntiistai,weekday 2,\nkeskivii\
+kko,weekday 3,\ntorstai,weekday 4,\nperjantai,weekday 5,\nlauantai,weekday 6,\nvasárnap,weekday 0,\nhétfő,weekday 1,\
+\nkedd,weekday 2,\nszerda,weekday 3,\ncsütörtök,weekday 4,\npéntek,weekday 5,\nszombat,weekday 6,\nsegunda-feira,we\
+ekday 1,\nterça-feira,weekday 2,\nquarta-feira,weekday 3,\nquinta-feira,weekday 4,\nsexta-feira,weekday 5,\nвоскр\
+есенье,weekday 0,\nпонедельник,weekday 1,\nвторник,weekday 2,\nсреда,weekday 3,\nчетв\
+ерг,weekday 4,\nпятница,weekday 5,\nсуббота,weekday 6,\nнеділя,weekday 0,\nпонеділок,we\
+ekday 1,\nвівторок,weekday 2,\nсереда,weekday 3,\nчетвер,weekday 4,\nпʼятниця,weekday 5,\n\
+субота,weekday 6,\nΚυριακή,weekday 0,\nΔευτέρα,weekday 1,\nΤρίτη,weekday 2,\nΤετάρτη,we\
+ekday 3,\nΠέμπτη,weekday 4,\nΠαρασκευή,weekday 5,\nΣάββατο,weekday 6,\nPazar,weekday 0,\nPazartes\
+i,weekday 1,\nSalı,weekday 2,\nÇarşamba,weekday 3,\nPerşembe,weekday 4,\nCuma,weekday 5,\nCumartesi,weekday 6,\nSon\
+ntags,weekday 0,\nSontag,weekday 0,\ndies dominicus,weekday 0,\ndie Dominica,weekday 0,\ndie Dominico,weekday 0,\ndomin\
+ico die,weekday 0,\nMontags,weekday 1,\nMondtag,weekday 1,\ndie Lunae,weekday 1,\ndie Lune,weekday 1,\nDienstags,weekda\
+y 2,\nDinstag,weekday 2,\nDinstags,weekday 2,\nErchtag,weekday 2,\nErtag,weekday 2,\nZinstag,weekday 2,\nZistag,weekda\
+y 2,\ndie Martis,weekday 2,\nMittwochs,weekday 3,\nMitwoch,weekday 3,\nMittichen,weekday 3,\ndie Mercurii,weekday 3,\nD\
+onnerstags,weekday 4,\nDornstag,weekday 4,\nPfinztag,weekday 4,\ndie Jovis,weekday 4,\ndie Iovis,weekday 4,\nFreitags,w\
+eekday 5,\nFreytag,weekday 5,\nFreytags,weekday 5,\ndie Veneris,weekday 5,\nSamstags,weekday 6,\nSonnabends,weekday 6,\
+\nSambstag,weekday 6,\ndie Sabbati,weekday 6,\ndie Saturni,weekday 6,\ndie Sabbato,weekday 6,\nSonnabent,weekday 6,\ndo\
+minica,weekday 0,\ndom,weekday 0,\nferia secunda,weekday 1,\nferia 2,weekday 1,\nferia tertia,weekday 2,\nferia tercia,\
+weekday 2,\nferia 3,weekday 2,\nferia quarta,weekday 3,\nferia 4,weekday 3,\nferia quinta,weekday 4,\nferia 5,weekday 4\
+,\nferia sexta,weekday 5,\nferia 6,weekday 5,\nsabbato,weekday 6,\nsabbatum,weekday 6,\nprimidi,decade 1,french republi\
+can\nduodi,decade 2,french republican\ntridi,decade 3,french republican\nquartidi,decade 4,french republican\nquintidi,\
+decade 5,french republican\nsextidi,decade 6,french republican\nseptidi,decade 7,french republican\noctidi,decade 8,fre\
+nch republican\nnonidi,decade 9,french republican\ndécadi,decade 10,french republican\ndecadi,decade 10,french republi\
+can\nday after,morrow,gregorian julian\nTag nach,morrow,gregorian julian\nTags nach,morrow,gregorian julian\njour aprè\
+s,morrow,gregorian julian\nlendemain de,morrow,gregorian julian\ndie post,morrow,gregorian julian\ndies post,morrow,gre\
+gorian julian\nday before,eve,gregorian julian\nTag vor,eve,gregorian julian\nTags vor,eve,gregorian julian\njour avant\
+,eve,gregorian julian\ndie ante,eve,gregorian julian\ndies ante,eve,gregorian julian\nin profesto,eve,gregorian julian\
+\nafter,after,gregorian julian coptic ethiopic egyptian armenian islamic hebrew french republican\nnach,after,gregoria\
+n julian coptic ethiopic egyptian armenian islamic hebrew french republican\npost,after,gregorian julian coptic ethiopi\
+c egyptian armenian islamic hebrew french republican\np,after,gregorian julian\naprès,after,gregorian julian coptic et\
+hiopic egyptian armenian islamic hebrew french republican\nbefore,before,gregorian julian coptic ethiopic egyptian arme\
+nian islamic hebrew french republican\nvor,before,gregorian julian coptic ethiopic egyptian armenian islamic hebrew fre\
+nch republican\nante,before,gregorian julian coptic ethiopic egyptian armenian islamic hebrew french republican\navant,\
+before,gregorian julian coptic ethiopic egyptian armenian islamic hebrew french republican\nbef,before,gregorian julia\
+n coptic ethiopic egyptian armenian islamic hebrew french republican\nvoor,before,gregorian julian coptic ethiopic egyp\
+tian armenian islamic hebrew french republican\nprima di,before,gregorian julian coptic ethiopic egyptian armenian isla\
+mic hebrew french republican\nantes de,before,gregorian julian coptic ethiopic egyptian armenian islamic hebrew french \
+republican\nprzed,before,gregorian julian coptic ethiopic egyptian armenian islamic hebrew french republican\npřed,bef\
+ore,gregorian julian coptic ethiopic egyptian armenian islamic hebrew french republican\nперед,before,gregorian ju\
+lian coptic ethiopic egyptian armenian islamic hebrew french republican\nраньше,before,gregorian julian coptic et\
+hiopic egyptian armenian islamic hebrew french republican\nπριν από,before,gregorian julian coptic ethiopic egyp\
+tian armenian islamic hebrew french republican\nπριν,before,gregorian julian coptic ethiopic egyptian armenian isla\
+mic hebrew french republican\nennen,before,gregorian julian coptic ethiopic egyptian armenian islamic hebrew french rep\
+ublican\nföre,before,gregorian julian coptic ethiopic egyptian armenian islamic hebrew french republican\nfør,before,\
+gregorian julian coptic ethiopic egyptian armenian islamic hebrew french republican\naft,after,gregorian julian coptic \
+ethiopic egyptian armenian islamic hebrew french republican\nna,after,gregorian julian coptic ethiopic egyptian armenia\
+n islamic hebrew french republican\ndopo,after,gregorian julian coptic ethiopic egyptian armenian islamic hebrew frenc\
+h republican\ndespués de,after,gregorian julian coptic ethiopic egyptian armenian islamic hebrew french republican\npo\
+,after,gregorian julian coptic ethiopic egyptian armenian islamic hebrew french republican\nпосле,after,gregorian \
+julian coptic ethiopic egyptian armenian islamic hebrew french republican\nпісля,after,gregorian julian coptic eth\
+iopic egyptian armenian islamic hebrew french republican\nμετά,after,gregorian julian coptic ethiopic egyptian arme\
+nian islamic hebrew french republican\nefter,after,gregorian julian coptic ethiopic egyptian armenian islamic hebrew fr\
+ench republican\netter,after,gregorian julian coptic ethiopic egyptian armenian islamic hebrew french republican\ndepoi\
+s de,after,gregorian julian coptic ethiopic egyptian armenian islamic hebrew french republican\nca,about,gregorian juli\
+an coptic ethiopic egyptian armenian islamic hebrew french republican\ncirca,about,gregorian julian coptic ethiopic egy\
+ptian armenian islamic hebrew french republican\num,about,gregorian julian coptic ethiopic egyptian armenian islamic he\
+brew french republican\ngegen,about,gregorian julian coptic ethiopic egyptian armenian islamic hebrew french republican\
+\netwa,about,gregorian julian coptic ethiopic egyptian armenian islamic hebrew french republican\nabout,about,gregoria\
+n julian coptic ethiopic egyptian armenian islamic hebrew french republican\nabt,about,gregorian julian coptic ethiopi\
+c egyptian armenian islamic hebrew french republican\nest,about,gregorian julian coptic ethiopic egyptian armenian isla\
+mic hebrew french republican\ncal,about,gregorian julian coptic ethiopic egyptian armenian islamic hebrew french republ\
+ican\nvers,about,gregorian julian coptic ethiopic egyptian armenian islamic hebrew french republican\nenviron,about,gre\
+gorian julian coptic ethiopic egyptian armenian islamic hebrew french republican\nomstreeks,about,gregorian julian copt\
+ic ethiopic egyptian armenian islamic hebrew french republican\nongeveer,about,gregorian julian coptic ethiopic egyptia\
+n armenian islamic hebrew french republican\nverso,about,gregorian julian coptic ethiopic egyptian armenian islamic heb\
+rew french republican\nhacia,about,gregorian julian coptic ethiopic egyptian armenian islamic hebrew french republican\
+\nokoło,about,gregorian julian coptic ethiopic egyptian armenian islamic hebrew french republican\nkolem,about,gregori\
+an julian coptic ethiopic egyptian armenian islamic hebrew french republican\nasi,about,gregorian julian coptic ethiopi\
+c egyptian armenian islamic hebrew french republican\ncirciter,about,gregorian julian coptic ethiopic egyptian armenia\
+n islamic hebrew french republican\nоколо,about,gregorian julian coptic ethiopic egyptian armenian islamic hebrew \
+french republican\nок,about,gregorian julian coptic ethiopic egyptian armenian islamic hebrew french republican\nпр\
+имерно,about,gregorian julian coptic ethiopic egyptian armenian islamic hebrew french republican\nблизько,\
+about,gregorian julian coptic ethiopic egyptian armenian islamic hebrew french republican\nбіля,about,gregorian jul\
+ian coptic ethiopic egyptian armenian islamic hebrew french republican\nokolo,about,gregorian julian coptic ethiopic eg\
+yptian armenian islamic hebrew french republican\ncerca de,about,gregorian julian coptic ethiopic egyptian armenian isl\
+amic hebrew french republican\npor volta de,about,gregorian julian coptic ethiopic egyptian armenian islamic hebrew fre\
+nch republican\nalrededor de,about,gregorian julian coptic ethiopic egyptian armenian islamic hebrew french republican\
+\nyaklaşık,about,gregorian julian coptic ethiopic egyptian armenian islamic hebrew french republican\nπερί,about,\
+gregorian julian coptic ethiopic egyptian armenian islamic hebrew french republican\nπερίπου,about,gregorian jul\
+ian coptic ethiopic egyptian armenian islamic hebrew french republican\nnoin,about,gregorian julian coptic ethiopic egy\
+ptian armenian islamic hebrew french republican\nomkring,about,gregorian julian coptic ethiopic egyptian armenian islam\
+ic hebrew french republican\nkörülbelül,about,gregorian julian coptic ethiopic egyptian armenian islamic hebrew fren\
+ch republican\nkb,about,gregorian julian coptic ethiopic egyptian armenian islamic hebrew french republican\nseit,from,\
+gregorian julian coptic ethiopic egyptian armenian islamic hebrew french republican\nab,from,gregorian julian coptic et\
+hiopic egyptian armenian islamic french republican\nfrom,from,gregorian julian coptic ethiopic egyptian armenian islami\
+c hebrew french republican\nsince,from,gregorian julian coptic ethiopic egyptian armenian islamic hebrew french republi\
+can\ndepuis,from,gregorian julian coptic ethiopic egyptian armenian islamic hebrew french republican\nà partir de,from\
+,gregorian julian coptic ethiopic egyptian armenian islamic hebrew french republican\nvanaf,from,gregorian julian copti\
+c ethiopic egyptian armenian islamic hebrew french republican\nsinds,from,gregorian julian coptic ethiopic egyptian arm\
+enian islamic hebrew french republican\ndal,from,gregorian julian coptic ethiopic egyptian armenian islamic hebrew fren\
+ch republican\ndesde,from,gregorian julian coptic ethiopic egyptian armenian islamic hebrew french republican\nod,from,\
+gregorian julian coptic ethiopic egyptian armenian islamic hebrew french republican\nnotBefore,from,gregorian julian co\
+ptic ethiopic egyptian armenian islamic hebrew french republican\nnicht vor,from,gregorian julian coptic ethiopic egypt\
+ian armenian islamic hebrew french republican\nnot before,from,gregorian julian coptic ethiopic egyptian armenian islam\
+ic hebrew french republican\nс,from,gregorian julian coptic ethiopic egyptian armenian islamic hebrew french republica\
+n\nз,from,gregorian julian coptic ethiopic egyptian armenian islamic hebrew french republican\nвід,from,gregorian j\
+ulian coptic ethiopic egyptian armenian islamic hebrew french republican\nαπό,from,gregorian julian coptic ethiopic \
+egyptian armenian islamic hebrew french republican\nfrån,from,gregorian julian coptic ethiopic egyptian armenian islam\
+ic hebrew french republican\na partir de,from,gregorian julian coptic ethiopic egyptian armenian islamic hebrew french \
+republican\nbis,to,gregorian julian coptic ethiopic egyptian armenian islamic hebrew french republican\nto,to,gregoria\
+n julian coptic ethiopic egyptian armenian islamic hebrew french republican\nuntil,to,gregorian julian coptic ethiopic \
+egyptian armenian islamic hebrew french republican\ntill,to,gregorian julian coptic ethiopic egyptian armenian islamic \
+hebrew french republican\njusqu'à,to,gregorian julian coptic ethiopic egyptian armenian islamic hebrew french republic\
+an\njusqu’à,to,gregorian julian coptic ethiopic egyptian armenian islamic hebrew french republican\nau,to,gregorian \
+julian coptic ethiopic egyptian armenian islamic hebrew french republican\nà,to,gregorian julian coptic ethiopic egypt\
+ian armenian islamic hebrew french republican\ntot,to,gregorian julian coptic ethiopic egyptian armenian islamic hebre\
+w french republican\ntot en met,to,gregorian julian coptic ethiopic egyptian armenian islamic hebrew french republican\
+\nfino a,to,gregorian julian coptic ethiopic egyptian armenian islamic hebrew french republican\nal,to,gregorian julia\
+n coptic ethiopic egyptian armenian islamic hebrew french republican\nhasta,to,gregorian julian coptic ethiopic egyptia\
+n armenian islamic hebrew french republican\nusque ad,to,gregorian julian coptic ethiopic egyptian armenian islamic heb\
+rew french republican\nnotAfter,to,gregorian julian coptic ethiopic egyptian armenian islamic hebrew french republican\
+\nnicht nach,to,gregorian julian coptic ethiopic egyptian armenian islamic hebrew french republican\nnot after,to,grego\
+rian julian coptic ethiopic egyptian armenian islamic hebrew french republican\nдо,to,gregorian julian coptic ethiopi\
+c egyptian armenian islamic hebrew french republican\nпо,to,gregorian julian coptic ethiopic egyptian armenian islami\
+c hebrew french republican\nέως,to,gregorian julian coptic ethiopic egyptian armenian islamic hebrew french republic\
+an\nμέχρι,to,gregorian julian coptic ethiopic egyptian armenian islamic hebrew french republican\naté,to,gregoria\
+n julian coptic ethiopic egyptian armenian islamic hebrew french republican\nzwischen,between,gregorian julian coptic e\
+thiopic egyptian armenian islamic hebrew french republican\nzw,between,gregorian julian coptic ethiopic egyptian armeni\
+an islamic hebrew french republican\nbetween,between,gregorian julian coptic ethiopic egyptian armenian islamic hebrew \
+french republican\nbet,between,gregorian julian coptic ethiopic egyptian armenian islamic hebrew french republican\nent\
+re,between,gregorian julian coptic ethiopic egyptian armenian islamic hebrew french republican\ntussen,between,gregoria\
+n julian coptic ethiopic egyptian armenian islamic hebrew french republican\ntra,between,gregorian julian coptic ethiop\
+ic egyptian armenian islamic hebrew french republican\nfra,between,gregorian julian coptic ethiopic egyptian armenian i\
+slamic hebrew french republican\nmiędzy,between,gregorian julian coptic ethiopic egyptian armenian islamic hebrew fren\
+ch republican\nmezi,between,gregorian julian coptic ethiopic egyptian armenian islamic hebrew french republican\ninter,\
+between,gregorian julian coptic ethiopic egyptian armenian islamic hebrew french republican\nмежду,between,gregori\
+an julian coptic ethiopic egyptian armenian islamic hebrew french republican\nміж,between,gregorian julian coptic et\
+hiopic egyptian armenian islamic hebrew french republican\nμεταξύ,between,gregorian julian coptic ethiopic egypti\
+an armenian islamic hebrew french republican\nmellan,between,gregorian julian coptic ethiopic egyptian armenian islami\
+c hebrew french republican\nmellem,between,gregorian julian coptic ethiopic egyptian armenian islamic hebrew french rep\
+ublican\nmellom,between,gregorian julian coptic ethiopic egyptian armenian islamic hebrew french republican\nund,and,gr\
+egorian julian coptic ethiopic egyptian armenian islamic hebrew french republican\nu,and,gregorian julian coptic ethiop\
+ic egyptian armenian islamic hebrew french republican\nand,and,gregorian julian coptic ethiopic egyptian armenian islam\
+ic hebrew french republican\net,and,gregorian julian coptic ethiopic egyptian armenian islamic hebrew french republican\
+\ned,and,gregorian julian coptic ethiopic egyptian armenian islamic hebrew french republican\ny,and,gregorian julian co\
+ptic ethiopic egyptian armenian islamic hebrew french republican\noraz,and,gregorian julian coptic ethiopic egyptian ar\
+menian islamic hebrew french republican\nи,and,gregorian julian coptic ethiopic egyptian armenian islamic hebrew frenc\
+h republican\nі,and,gregorian julian coptic ethiopic egyptian armenian islamic hebrew french republican\n\
 ", $rest)
     };
 }

@@ -3,8 +3,10 @@
 import { BESIDE, CALENDARS } from './calendars.mjs';
 
 export const MOST_DATES = 8;
-// It stands for no column.
-const NONE = 2 ** 32 - 1;
+// It stands for no column; and a place that no record has, where nothing stands.
+const NONE = 2 ** 32 - 1, ABSENT = NONE - 1;
+/** The calendar of a column of dates where it is what no calendar means, by the name without letters. */
+export const AS_EMPTY = 'as empty';
 const ORDERS = ['year', 'day', 'month'];
 const DELIMITERS = [['comma', 44], ['semicolon', 59], ['tab', 9]];
 // Where the numbers of a choice say whether spans are read, and where those of its columns of dates begin.
@@ -15,10 +17,11 @@ const KIND = 'choices of a sheet';
 
 /**
  * Columns are places, from 0. `date` is '' where none is chosen yet, and `calendar` too, which is a column or the name of
- * one calendar for all. An `id` of '-1' is the number of the record. Short years are `refuse`, `keep`, or what is added.
- * A name says what it means: a calendar, `month 1` to `month 13`, `number N`, `K`, `N`, `I` or `nothing`; `where` is the
- * calendar in whose dates it stands, or '' for a name of a calendar. `spans` are months, years and ranges, whose texts of
- * EDTF are put beside them where `edtf`.
+ * one calendar for all, or `AS_EMPTY`. An `id` of '-1' is the number of the record. Short years are `refuse`, `keep`, or
+ * what is added. A name says what it means: a calendar, `both`, `julian/gregorian:` and the first Gregorian day, or `change`
+ * while that day is not typed yet; `month 1` to `month 13`, `number N`, `K`, `N`, `I` or `nothing`; `where` is the calendar in
+ * whose dates it stands, or '' for a name of a calendar. The calendar's name '' says what no calendar means. `spans` are
+ * months, years and ranges, whose texts of EDTF are put beside them where `edtf`.
  * @typedef {{ date: string, calendar: string }} DateColumn
  * @typedef {{ name: string, where: string, means: string }} Name
  * @typedef {{ order: string, short: string, hebrew: string, charters: boolean, spans: boolean, edtf: boolean,
@@ -47,8 +50,10 @@ const yearRule = (rule) => ({ refuse: 0, keep: 1 })[rule] ?? Number(rule);
 
 /** The choice as the module takes it. */
 export function numbersOf({ delimiter, above }, { id, dates, order, short, hebrew, charters, spans, edtf }) {
-  const triples = dates.flatMap(({ date, calendar }) => (isColumn(calendar) ? [Number(date), Number(calendar), 0]
-    : [Number(date), NONE, CALENDARS.indexOf(calendar)]));
+  const triples = dates.flatMap(({ date, calendar }) => {
+    if (calendar === AS_EMPTY) return [Number(date), ABSENT, 0];
+    return isColumn(calendar) ? [Number(date), Number(calendar), 0] : [Number(date), NONE, CALENDARS.indexOf(calendar)];
+  });
   return [delimiter, above, Number(id) < 0 ? NONE : Number(id), ORDERS.indexOf(order), yearRule(short), yearRule(hebrew),
     charters ? 1 : 0, spans ? 1 + Number(edtf) : 0, ...triples];
 }
@@ -71,9 +76,24 @@ export const columnNumbers = (columns) => columns.map((name) => BESIDE.indexOf(n
 const quoted = (field) => `"${field.replace(/"/g, '""')}"`;
 const inList = (means) => (means === 'nothing' ? '' : means.replace(/^number /, ''));
 
-/** Lines of a list of names. A number that is not typed yet makes none. */
+/** What a change of calendars on this day means, as it is typed. */
+export const changeOf = (day) => (/^\s*\d{1,4}-\d{1,2}-\d{1,2}\s*$/.test(day) ? `julian/gregorian:${day.trim()}` : 'change');
+
+/** The first Gregorian day of a change of calendars, or null. */
+export const dayOfChange = (means) => (means === 'change' ? '' : /^julian\/gregorian:(.*)$/.exec(means)?.[1] ?? null);
+
+const isWhole = ({ means }) => means !== 'number' && means !== 'change';
+
+/** What no calendar means, or ''. */
+export const meantByEmpty = (names) => (names.find(({ name, where }) => name === '' && where === '') || { means: '' }).means;
+
+/** Whether a column of dates has what no calendar means, which is not chosen yet. */
+export const lacksMeaning = ({ names }, { calendar }) =>
+  calendar === AS_EMPTY && ['', 'change'].includes(meantByEmpty(names));
+
+/** Lines of a list of names. A number, or a day, that is not typed yet makes none. */
 export function namesText(names) {
-  return names.filter(({ means }) => means !== 'number')
+  return names.filter(isWhole)
     .map(({ name, where, means }) => `${quoted(name)},${inList(means)},${where}\n`).join('');
 }
 
@@ -108,7 +128,8 @@ export function choicesText({ encoding, delimiter, above }, heading, picks, colu
 const isText = (it) => typeof it === 'string';
 const isColumnCalled = (it) => Boolean(it) && isText(it.column);
 const isWhere = (it) => it === '' || CALENDARS.includes(it);
-const isMeaning = (it) => CALENDARS.includes(it) || /^(nothing|[KNI]|month ([1-9]|1[0-3])|number \d{0,9})$/.test(it);
+const isMeaning = (it) => CALENDARS.includes(it) ||
+  /^(nothing|both|julian\/gregorian:\d{1,4}-\d{1,2}-\d{1,2}|[KNI]|month ([1-9]|1[0-3])|number \d{0,9})$/.test(it);
 const isRule = (it) => /^(refuse|keep|[1-9]\d{2,3})$/.test(it);
 
 /** The choices that a text has, or null where it has none. What is no choice in it is left out. */
@@ -161,7 +182,8 @@ export function fitted(kept, heading, proposed) {
   };
   const dates = kept.dates.flatMap((it) => {
     const date = fit(it), calendar = isColumnCalled(it.calendar) ? fit(it.calendar) || '' : it.calendar;
-    return date === null ? [] : [{ date, calendar: isColumn(calendar) || CALENDARS.includes(calendar) ? calendar : '' }];
+    const isOne = isColumn(calendar) || [...CALENDARS, AS_EMPTY].includes(calendar);
+    return date === null ? [] : [{ date, calendar: isOne ? calendar : '' }];
   });
   const id = kept.id === null ? '-1' : fit(kept.id) || '-1';
   return { picks: { id, dates: dates.length ? dates : proposed.dates, ...rulesOf(kept) }, absent };

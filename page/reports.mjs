@@ -1,7 +1,7 @@
 // What is shown of registers and sheets, in words and rows, for the view to draw.
 
 import { CALENDARS } from './calendars.mjs';
-import { choicesText, endsOf, isColumn } from './choices.mjs';
+import { AS_EMPTY, choicesText, dayOfChange, endsOf, isColumn, meantByEmpty } from './choices.mjs';
 import { CHOICES, canBeOther, choicesOf, isTextSheet } from './door.mjs';
 import { textOf } from './elements.mjs';
 import * as registers from './registers.mjs';
@@ -343,11 +343,19 @@ export function sheetChosen(state) {
   return [WORDS.chosen(file.name, WORDS.bytes(file.size)), '.', looks.length ? ` ${WORDS.looksLike(looks)}` : ''];
 }
 
+// The calendar of a column of dates: that of a column, one for all, or what no calendar means.
+function calendarInWords(calendar, { names }, heading) {
+  if (isColumn(calendar)) return WORDS.column(Number(calendar) + 1, heading[Number(calendar)]);
+  const means = calendar === AS_EMPTY ? meantByEmpty(names) : calendar, day = dayOfChange(means);
+  if (day === null) return means === 'both' ? WORDS.bothStyles : WORDS.calendars[means];
+  return WORDS.changedOn(day);
+}
+
 // Of these columns of dates, those that have the same calendars stand together.
-function datesInWords({ picks: { dates } }, names, heading) {
-  const calendars = [...new Set(dates.map(({ calendar }) => calendar))];
+function datesInWords({ picks }, names, heading) {
+  const { dates } = picks, calendars = [...new Set(dates.map(({ calendar }) => calendar))];
   return calendars.map((calendar) => WORDS.datesBy(names.filter((_, k) => dates[k].calendar === calendar),
-    isColumn(calendar) ? WORDS.column(Number(calendar) + 1, heading[Number(calendar)]) : WORDS.calendars[calendar]));
+    calendarInWords(calendar, picks, heading)));
 }
 
 /** How the sheet is read, in one line. */
@@ -473,7 +481,8 @@ function refusedDatesTable({ refused, refusedDates }, { dates }, names) {
   const front = [WORDS.record, ...(isOne ? [] : [WORDS.columnName])];
   const rows = refusedDates.map(({ number, place, calendar, date, refusal }) => {
     const own = [String(number), ...(isOne ? [] : [textOf(names[place])])];
-    const called = isColumn(dates[place].calendar) ? calendar : dates[place].calendar;
+    const { calendar: chosen } = dates[place], one = chosen === AS_EMPTY ? '' : chosen;
+    const called = isColumn(chosen) ? calendar : one;
     return { fields: [...own, called, date], reason: WORDS.reason(refusal, WORDS.refusals[refusal - 1]), span: 1 };
   });
   const heading = [...front, WORDS.calendar, WORDS.date, WORDS.why];

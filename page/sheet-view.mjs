@@ -1,7 +1,7 @@
 // Draws the sheet, and takes what is chosen.
 
 import { BESIDE, CALENDARS } from './calendars.mjs';
-import { MOST_DATES } from './choices.mjs';
+import { AS_EMPTY, MOST_DATES, changeOf, dayOfChange, isColumn, meantByEmpty } from './choices.mjs';
 import {
   byId, check, clear, columnTicks, drawPart, drawReport, drawRunning, element, onCheck, option, saveBlob, setText, tableBox,
   textOf, whenChanged, withFocus, wordsIn,
@@ -32,6 +32,10 @@ function group(words, options) {
 }
 
 const calendarOptions = () => CALENDARS.map((name) => option(WORDS.calendars[name], name));
+// What a field of a calendar can mean: a calendar, both styles, or a change of calendars.
+const meantOptions = () => [...calendarOptions(), option(WORDS.bothStyles, 'both'),
+  group(WORDS.changes, [...Object.entries(WORDS.changeDays).map(([day, words]) => option(words, changeOf(day))),
+    option(WORDS.otherChange, 'change')])];
 const columnOptions = (heading) => heading.map((name, i) => option(WORDS.column(i + 1, name), String(i)));
 
 function field(label, id, ...controls) {
@@ -48,7 +52,7 @@ function dateRow(heading, place, all) {
   date.append(option(WORDS.choose, ''), ...columnOptions(heading));
   const calendar = element('select', '', { id: `sheet-calendar-${place}`, autocomplete: 'off' });
   calendar.append(option(WORDS.choose, ''), group(WORDS.ofColumn, columnOptions(heading)),
-    group(WORDS.ofAll, calendarOptions()));
+    group(WORDS.ofAll, [...calendarOptions(), option(WORDS.asEmpty, AS_EMPTY)]));
   row.append(field(WORDS.dateColumn(place + 1, all), date.id, date),
     field(WORDS.calendarColumn(place + 1, all), calendar.id, calendar));
   if (all > 1) {
@@ -85,7 +89,7 @@ function drawDates(first, dates) {
 // ---- Names that are not known ----
 
 function meaningOptions(where) {
-  if (where === '') return calendarOptions();
+  if (where === '') return meantOptions();
   const months = WORDS.months[where] || [], marks = where === 'roman' ? Object.entries(WORDS.marks) : [];
   return [...MONTHS.map((n) => option(WORDS.month(n, months[n - 1]), `month ${n}`)), option(WORDS.aNumber, 'number'),
     ...marks.map(([means, words]) => option(words, means)), option(WORDS.passOver, 'nothing')];
@@ -95,8 +99,8 @@ function nameRow({ name, where }, i) {
   const select = element('select', '', { id: `sheet-name-${i}`, autocomplete: 'off' });
   select.append(option(WORDS.leave, ''), ...meaningOptions(where));
   const typed = { id: `sheet-number-${i}`, type: 'text', inputMode: 'numeric', autocomplete: 'off', hidden: true };
-  const number = element('input', '', typed);
-  number.setAttribute('aria-label', textOf(WORDS.numberOf(name)));
+  const number = element('input', '', where === '' ? { ...typed, inputMode: 'text' } : typed);
+  number.setAttribute('aria-label', textOf(where === '' ? WORDS.changeDayOf(name) : WORDS.numberOf(name)));
   const label = element('label', '', { htmlFor: select.id }), both = element('span');
   for (const control of [select, number]) Object.assign(control.dataset, { name, where });
   both.append(select, number);
@@ -106,14 +110,38 @@ function nameRow({ name, where }, i) {
 const NAME_BOXES = ['names', 'words'];
 const isNumber = (means) => /^number/.test(means);
 
+// What is typed beside a choice: a number, or the day of a change that is not offered; else null.
+function typedIn(means) {
+  const day = dayOfChange(means);
+  if (day !== null) return day in WORDS.changeDays ? null : day;
+  return isNumber(means) ? means.replace(/^\D*/, '') : null;
+}
+
+function meaningTyped(where, value) {
+  return where === '' ? changeOf(value) : `number ${value.replace(/\D/g, '').slice(0, 9)}`.trim();
+}
+
+// Draws what is meant in a choice, and what is typed in the field behind it.
+function drawMeaning(select, typed, means) {
+  const text = typedIn(means);
+  select.value = text === null ? means : isNumber(means) ? 'number' : 'change';
+  typed.hidden = text === null;
+  if (document.activeElement !== typed) typed.value = text || '';
+}
+
+// A name is given a meaning by a choice, or by what is typed behind it.
+function takeMeaning(step, { name, where }, { localName, value, nextElementSibling }) {
+  step(namePicked, name, where, localName === 'input' ? meaningTyped(where, value) : value);
+  if (value === 'number' || value === 'change') nextElementSibling.focus();
+}
+
 function takeNames(step) {
   for (const which of NAME_BOXES) {
-    byId(`sheet-${which}`).addEventListener('change', ({ target }) => {
-      const { name, where } = target.dataset, isTyped = target.localName === 'input';
-      const typed = `number ${target.value.replace(/\D/g, '').slice(0, 9)}`.trim();
-      step(namePicked, name, where, isTyped ? typed : target.value);
-      if (target.value === 'number') target.nextElementSibling.focus();
-    });
+    byId(`sheet-${which}`).addEventListener('change', ({ target }) => takeMeaning(step, target.dataset, target));
+  }
+  byId('sheet-empty-0').append(option(WORDS.refuseEmpty, ''), ...meantOptions());
+  for (const id of ['sheet-empty-0', 'sheet-empty-day']) {
+    byId(id).addEventListener('change', ({ target }) => takeMeaning(step, { name: '', where: '' }, target));
   }
 }
 
@@ -132,10 +160,8 @@ function drawListed(listed) {
 function drawMeanings(listed, names) {
   listed.forEach(({ name, where, count }, i) => {
     const found = names.find((it) => it.name === name && it.where === where), means = found ? found.means : '';
-    const select = byId(`sheet-name-${i}`), number = byId(`sheet-number-${i}`);
-    select.value = isNumber(means) ? 'number' : means;
-    number.hidden = !isNumber(means);
-    if (document.activeElement !== number) number.value = means.replace(/^\D*/, '');
+    const select = byId(`sheet-name-${i}`);
+    drawMeaning(select, byId(`sheet-number-${i}`), means);
     setText(select.closest('.names').querySelector(`label[for=${select.id}]`),
       where === '' ? WORDS.unknownName(name, count) : WORDS.unknownWord(name, where, count));
   });
@@ -209,11 +235,13 @@ function drawBeginning(state) {
   }
 }
 
-function drawPicks({ id, dates, order, short, hebrew, ...ticks }) {
+function drawPicks({ id, dates, names, order, short, hebrew, ...ticks }) {
   dates.forEach(({ date, calendar }, place) => {
     byId(`sheet-date-${place}`).value = date;
     byId(`sheet-calendar-${place}`).value = calendar;
   });
+  byId('sheet-empty-field').hidden = !dates.some(({ calendar }) => isColumn(calendar) || calendar === AS_EMPTY);
+  drawMeaning(byId('sheet-empty-0'), byId('sheet-empty-day'), meantByEmpty(names));
   Object.entries({ id, short, hebrew }).forEach(([name, value]) => { byId(`sheet-${name}`).value = value; });
   for (const name of TICKS) byId(`sheet-${name}`).checked = ticks[name];
   byId('sheet-edtf-field').hidden = !ticks.spans;

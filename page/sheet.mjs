@@ -2,7 +2,7 @@
 // its conversion. Each step takes the state and gives the next.
 
 import {
-  MOST_DATES, choicesOf, choicesText, endsOf, fitted, isColumn, namesText, noPicks, numbersOf, rulesOf, widthOf,
+  MOST_DATES, choicesOf, choicesText, endsOf, fitted, isColumn, lacksMeaning, namesText, noPicks, numbersOf, rulesOf, widthOf,
 } from './choices.mjs';
 import { isSameFile } from './files.mjs';
 import { likelyPicks } from './heads.mjs';
@@ -242,9 +242,10 @@ export const beginning = ({ begins }) => (begins !== null && begins.reply.answer
   begins.reply.answer : null);
 
 /** The first choice that is missing, and of which column of dates; or null. */
-export function missing({ picks: { dates } }) {
+export function missing({ picks }) {
   const ofOne = (it, place) => ['date', 'calendar'].filter((which) => it[which] === '').map((which) => ({ which, place }));
-  return dates.flatMap(ofOne)[0] || null;
+  const lacking = picks.dates.some((it) => lacksMeaning(picks, it)) ? [{ which: 'empty', place: 0 }] : [];
+  return [...picks.dates.flatMap(ofOne), ...lacking][0] || null;
 }
 
 const isOfNow = (state, it) => it !== null && it.begins === state.begins && it.picks === state.picks;
@@ -442,7 +443,8 @@ function runReplied(state, reply) {
   return isSame ? ended : { ...ended, begins: { reply: { answer: sheetBegins } } };
 }
 
-const listedNames = ({ names }) => names.map(({ name, where }) => ({ name, where, count: null }));
+const listedNames = ({ names }) => names.filter(({ name, where }) => name !== '' || where !== '')
+  .map(({ name, where }) => ({ name, where, count: null }));
 
 // The columns, as they are proposed by their names or were kept. What was chosen for the dates of this file stays. In a
 // family tree the day stands first.

@@ -301,6 +301,34 @@ class SheetTrials:
         self.check("more names than are shown", "Others, in 50 dates, are not shown: are these the right columns?",
             self.text("#sheet-more"))
 
+    def try_changes(self):
+        """A change of calendars is chosen for all dates of a column, with its day; and what is meant where none stands."""
+        self.open()
+        self.choose_sheet(self.file("change.csv", "Datum,Land\n18.2.1700,\n1.3.1700,\n12.11.1583,julian"))
+        self.wait_for_sheet()
+        self.label_of("sheet-order", "day")
+        shown = "return ['#sheet-empty-field', '#sheet-empty-day'].map((it) => !document.querySelector(it).closest('[hidden]'))"
+        self.choose("#sheet-calendar-0", "julian")
+        self.check("no question where one calendar is for all", [False, False], self.page.run(shown))
+        self.choose("#sheet-calendar-0", "as empty")
+        self.check("a change is asked for", [True, False], self.page.run(shown))
+        self.click("#sheet-start")
+        self.check("which is missing", "sheet-empty-0", self.page.run("return document.activeElement.id"))
+        self.choose("#sheet-empty-0", "julian/gregorian:1700-03-01")
+        self.wait_for_counts()
+        wanted = re.compile(r"julian\s+1700-2-18[\s\S]*gregorian\s+1700-3-1[\s\S]*julian\s+1583-11-12")
+        self.check("one change for all", wanted, self.text("#sheet-made"))
+        self.choose("#sheet-empty-0", "change")
+        self.check("another day is typed", [[True, True], "sheet-empty-day"],
+            [self.page.run(shown), self.page.run("return document.activeElement.id")])
+        self.choose("#sheet-empty-day", "1583-11-22")
+        self.wait_for_counts()
+        self.check("and held", ["change", "1583-11-22"],
+            self.page.run("return ['0', 'day'].map((it) => document.querySelector(`#sheet-empty-${it}`).value)"))
+        self.choose("#sheet-calendar-0", "1")
+        self.wait_for_counts()
+        self.check("what is meant where no calendar stands", re.compile("3 rows, none refused"), self.convert_sheet())
+
     def try_kept_choices(self):
         """Choices that were saved are filled in for the next sheet."""
         self.open()

@@ -731,7 +731,45 @@ ic hebrew french republican\net,and,gregorian julian coptic ethiopic egyptian ar
 \ned,and,gregorian julian coptic ethiopic egyptian armenian islamic hebrew french republican\ny,and,gregorian julian co\
 ptic ethiopic egyptian armenian islamic hebrew french republican\noraz,and,gregorian julian coptic ethiopic egyptian ar\
 menian islamic hebrew french republican\nи,and,gregorian julian coptic ethiopic egyptian armenian islamic hebrew frenc\
-h republican\nі,and,gregorian julian coptic ethiopic egyptian armenian islamic hebrew french republican\n\
+h republican\nі,and,gregorian julian coptic ethiopic egyptian armenian islamic hebrew french republican\nта,and,greg\
+orian julian coptic ethiopic egyptian armenian islamic hebrew french republican\nκαι,and,gregorian julian coptic eth\
+iopic egyptian armenian islamic hebrew french republican\noch,and,gregorian julian coptic ethiopic egyptian armenian is\
+lamic hebrew french republican\nog,and,gregorian julian coptic ethiopic egyptian armenian islamic hebrew french republi\
+can\nja,and,gregorian julian coptic ethiopic egyptian armenian islamic hebrew french republican\nAdar,month 12-13,hebre\
+w\neve of,eve,gregorian julian\nvigilia,eve,gregorian julian\nin vigilia,eve,gregorian julian\nVigil,eve,gregorian juli\
+an\nVorabend,eve,gregorian julian\nprofesto,eve,gregorian julian\nveille de,eve,gregorian julian\noctava,octave,gregori\
+an julian\nin octava,octave,gregorian julian\nOktav,octave,gregorian julian\noctave of,octave,gregorian julian\nin cras\
+tino,morrow,gregorian julian\ncrastino,morrow,gregorian julian\nmorrow of,morrow,gregorian julian\nOstern,easter 0,greg\
+orian julian\nOstersonntag,easter 0,gregorian julian\nOstertag,easter 0,gregorian julian\nPascha,easter 0,gregorian jul\
+ian\nPaschae,easter 0,gregorian julian\nPasche,easter 0,gregorian julian\nResurrectionis Domini,easter 0,gregorian juli\
+an\nEaster,easter 0,gregorian julian\nEaster Day,easter 0,gregorian julian\nEaster Sunday,easter 0,gregorian julian\nP\
+âques,easter 0,gregorian julian\nOstermontag,easter 1,gregorian julian\nEaster Monday,easter 1,gregorian julian\nlund\
+i de Pâques,easter 1,gregorian julian\nOsterdienstag,easter 2,gregorian julian\nEaster Tuesday,easter 2,gregorian juli\
+an\nSeptuagesima,easter -63,gregorian julian\nSeptuagesimae,easter -63,gregorian julian\nSeptuagésime,easter -63,grego\
+rian julian\nCircumdederunt,easter -63,gregorian julian\nSexagesima,easter -56,gregorian julian\nSexagesimae,easter -56\
+,gregorian julian\nExsurge,easter -56,gregorian julian\nExurge,easter -56,gregorian julian\nQuinquagesima,easter -49,gr\
+egorian julian\nQuinquagesimae,easter -49,gregorian julian\nEstomihi,easter -49,gregorian julian\nEsto mihi,easter -49,\
+gregorian julian\nHerrenfastnacht,easter -49,gregorian julian\nFastnachtsdienstag,easter -47,gregorian julian\nShrove T\
+uesday,easter -47,gregorian julian\nMardi gras,easter -47,gregorian julian\nAschermittwoch,easter -46,gregorian julian\
+\ndies Cinerum,easter -46,gregorian julian\nCinerum,easter -46,gregorian julian\nAsh Wednesday,easter -46,gregorian jul\
+ian\nmercredi des Cendres,easter -46,gregorian julian\nInvocavit,easter -42,gregorian julian\nInvocabit,easter -42,greg\
+orian julian\nQuadragesima,easter -42,gregorian julian\nReminiscere,easter -35,gregorian julian\nOculi,easter -28,grego\
+rian julian\nLaetare,easter -21,gregorian julian\nLetare,easter -21,gregorian julian\nLätare,easter -21,gregorian juli\
+an\nJudica,easter -14,gregorian julian\nIudica,easter -14,gregorian julian\nPalmarum,easter -7,gregorian julian\nPalmso\
+nntag,easter -7,gregorian julian\nPalm Sunday,easter -7,gregorian julian\ndimanche des Rameaux,easter -7,gregorian juli\
+an\nRameaux,easter -7,gregorian julian\nGründonnerstag,easter -3,gregorian julian\nCoena Domini,easter -3,gregorian ju\
+lian\nCoenae Domini,easter -3,gregorian julian\nCene Domini,easter -3,gregorian julian\nMaundy Thursday,easter -3,grego\
+rian julian\nJeudi saint,easter -3,gregorian julian\nKarfreitag,easter -2,gregorian julian\nCharfreitag,easter -2,grego\
+rian julian\nParasceve,easter -2,gregorian julian\nGood Friday,easter -2,gregorian julian\nVendredi saint,easter -2,gre\
+gorian julian\nKarsamstag,easter -1,gregorian julian\nSabbatum sanctum,easter -1,gregorian julian\nQuasimodogeniti,east\
+er 7,gregorian julian\nQuasi modo geniti,easter 7,gregorian julian\nQuasimodo,easter 7,gregorian julian\nLow Sunday,eas\
+ter 7,gregorian julian\nMisericordias Domini,easter 14,gregorian julian\nMisericordia Domini,easter 14,gregorian julian\
+\nJubilate,easter 21,gregorian julian\nIubilate,easter 21,gregorian julian\nCantate,easter 28,gregorian julian\nKantate\
+,easter 28,gregorian julian\nRogate,easter 35,gregorian julian\nVocem jucunditatis,easter 35,gregorian julian\nRogatio\
+n Sunday,easter 35,gregorian julian\nHimmelfahrt,easter 39,gregorian julian\nChristi Himmelfahrt,easter 39,gregorian ju\
+lian\nAuffahrt,easter 39,gregorian julian\nAscensionis Domini,easter 39,gregorian julian\nAscensionis,easter 39,gregori\
+an julian\nAscension Day,easter 39,gregorian julian\nAscension,easter 39,gregorian julian\nExaudi,easter 42,gregorian j\
+ulian\nPfingsten,easter 49,gregorian julian\nPfingstsonntag,easter 49,gregorian julian\n\
 ", $rest)
     };
 }

@@ -226,7 +226,7 @@ id,calendar,date
 FILES = {
     "tree.ged": TREE,
     "spans.csv": SPANS, "styles.csv": STYLES, "old-style.csv": "name,means,in\nstary/nowy,julian,\nO.S.,both,\n",
-    "a.csv": SHEET, "c.csv": SHEET, "own.csv": SHEET, "two.csv": TWO_DATES, "empty.csv": "",
+    "a.csv": SHEET, "marked.csv": f"\ufeff{SHEET}", "c.csv": SHEET, "own.csv": SHEET, "two.csv": TWO_DATES, "empty.csv": "",
     "names.csv": "name,means,in\nMeyo,month 5,\n", "weekdays.csv": "name,means,in\nSonntag,weekday 0,\n",
     "other.csv": "name,means,in\nMeyo,month 6,\nJuno,month 7,\n",
     "own.csv.unknown.csv": "name,means,in\nMeyo,month 5,\n",
@@ -364,6 +364,19 @@ STREAMS = [
     ("--tree", SHEET, 1, "", lines("standard input: is no family tree: its first line is not 0 HEAD")),
     ("--tree", "", 1, "", lines("standard input: is no family tree: its first line is not 0 HEAD")),
     ("--tree", "0 HEAD\n1 NOTE K\udce4the\n", 1, "", lines("standard input: is not UTF-8")),
+    # The mark of UTF-8, as Excel writes and wants it: one comes back, above a title too and before a list; of two the second
+    # is of the first name, which it makes another; none comes back of a sheet that breaks off before anything is written.
+    ("--date d --all gregorian --to gregorian", "\ufeffd\n1806-5-12\n", 0,
+     "\ufeffd,gregorian,refusal\n1806-5-12,1806-05-12,\n", ""),
+    ("--date d --all gregorian --to gregorian --skip 1", "\ufeff\"a, b\"\nd\n1806-5-12\n", 0,
+     "\ufeff\"a, b\"\nd,gregorian,refusal\n1806-5-12,1806-05-12,\n", ""),
+    ("--date d --all gregorian --order day --unknown", "\ufeffd\n1. Meyo 1700\n", 0,
+     "\ufeffname,means,in,count\nMeyo,?,gregorian,1\n", ""),
+    ("--date 1 --all gregorian --to gregorian", "\ufeff\ufeffd\n1806-5-12\n", 0,
+     "\ufeff\ufeffd,gregorian,refusal\n1806-5-12,1806-05-12,\n", ""),
+    ("--date d --all gregorian", "\ufeff\ufeffd\n1806-5-12\n", 1, "",
+     lines("standard input: no column d: the columns are \ufeffd")),
+    ("--date a --all gregorian", "\ufeffd\n", 1, "", lines("standard input: no column a: the columns are d")),
     # Sheets that break off.
     ("--date Datum --calendar Calendar", SHEET, 1, "",
      lines("standard input: no column Datum: the columns are No, Calendar, Date")),
@@ -399,6 +412,9 @@ MADE = [
       "two.csv.register.2.csv": "id;calendar;date\n1;gregorian;1001-1-1\n2;gregorian;1001-1-1\n"},
      lines(not_known("two.csv"))),
     (f"{COLUMNS} --unknown --register a.csv", 0, {"a.csv.unknown.csv": UNKNOWN}, ""),
+    # A sheet with the mark of UTF-8, whose register has none.
+    (f"{COLUMNS} --id No --order day --register marked.csv", 0,
+     {"marked.csv.dates.csv": f"\ufeff{CONVERTED}", "marked.csv.register.csv": REGISTER}, lines(not_known("marked.csv"))),
     # Registers of the first and of the last days.
     (f"{SPANS_COLUMNS} --edtf --register spans.csv", 0,
      {"spans.csv.dates.csv": SPANS_CONVERTED, "spans.csv.first.register.csv": SPANS_FIRST,

@@ -1,5 +1,5 @@
 -- How sheets end.
-use Rattle.std.proofs.Common.{◌≡◌, ℕ, List, Option, false, inr, map, refl, true}
+use Rattle.std.proofs.Common.{◌≡◌, ℕ, List, [], Option, false, inl, inr, map, refl, true}
 use Rattle.std.specs.Prelude.{Err, IsErrAnd, Ok, Result}
 use Rattle.register_records.specs.Sources.{Gains}
 use Rattle.register_records.specs.declared.outputs.Output as outputs
@@ -15,14 +15,16 @@ use Rattle.register_sheets.specs.declared.sheet_ends.SheetEnd.TheVariants as end
 use Rattle.sheet_arguments.specs.Requests.{Task}
 use Rattle.written_dates.specs.Fields.{bare_name}
 use Rattle.sheet_app.specs.SheetFaults.{fault_by}
-use Rattle.sheet_app.specs.SheetViews.{AsksFor, IsDoneBy, IsEndedBy, IsTask, MakesChoices}
-use Rattle.sheet_app.specs.Sheets.{IsAskedList, IsAskedOf, IsAskedSheet, IsBroken, IsBrokenBy, IsChoiceFor, IsEnded}
-use Rattle.sheet_app.specs.Sheets.{IsListBy, IsSheetBy, names_of, records_by}
+use Rattle.sheet_app.specs.SheetViews.{AsksFor, IsBrokenBehind, IsDoneBy, IsEndedBy, IsTask, MakesChoices}
+use Rattle.sheet_app.specs.Sheets.{HasMark, IsAskedList, IsAskedOf, IsAskedSheet, IsBroken, IsBrokenBy, IsChoiceFor, IsEnded}
+use Rattle.sheet_app.specs.Sheets.{IsListBy, IsMarked, IsSheetBy, names_of, records_by}
+use Rattle.sheet_app.specs.declared.sheet_faults.SheetFault.TheVariants as fault
 use Rattle.sheet_app.specs.declared.sheet_faults.SheetFault.{SheetFault}
 use Rattle.sheet_app.specs.declared.sheets.ListedSheet.{ListedSheet}
 use Rattle.sheet_app.specs.declared.sheets.SheetDone.{SheetDone}
 use Rattle.sheet_app.specs.declared.sheets.SheetDone.TheVariants as done
 use Rattle.sheet_app.specs.declared.sheets.WholeSheet.{WholeSheet}
+use Rattle.sheet_app.proofs.MarkLemmas.{behind_mark, nothing}
 use Rattle.sheet_app.proofs.TaskLemmas.{is_choice}
 
 -- what is known was made of what a task asks
@@ -50,48 +52,65 @@ pub ended_fault : {W : Type 0} (o : outputs.Ghosts W) (task : Task) (lines : Lis
 ended_fault o task lines most sheet given written new (Ok done) fault handed broken = absurd handed
 ended_fault o task lines most sheet given written new (Err why) fault handed broken = (rw handed broken, refl)
 
--- what was made by a choice is what a task asks
+-- what was made by a choice, behind the mark, is what a task asks
 pub asked_sheet : (task : Task) (lines : List NameLine) (sheet : List ℕ) (choice : SheetChoice) (known : WholeSheet)
-    (old new : Option (List ℕ)) → IsChoiceFor task lines sheet choice → Gains old new (IsSheetBy choice sheet known)
-    → Gains old new (IsAskedSheet task lines sheet known)
-asked_sheet task lines sheet choice known old new chosen (bytes, whole, gained) = (
-  bytes,
-  (choice, chosen, whole),
-  gained,
-)
+    (old marked new : Option (List ℕ)) → IsChoiceFor task lines sheet choice → Gains old marked (HasMark sheet)
+    → Gains marked new (IsSheetBy choice sheet known) → Gains old new (IsAskedSheet task lines sheet known)
+asked_sheet task lines sheet choice known old marked new chosen mark made =
+    let all = behind_mark sheet (IsSheetBy choice sheet known) old marked new mark made in
+    (all.0, (choice, chosen, all.1), all.2)
 
 pub asked_list : (task : Task) (lines : List NameLine) (most : ℕ) (sheet : List ℕ) (choice : SheetChoice)
-    (known : ListedSheet) (old new : Option (List ℕ)) → IsChoiceFor task lines sheet choice
-    → Gains old new (IsListBy choice most sheet known) → Gains old new (IsAskedList task lines most sheet known)
-asked_list task lines most sheet choice known old new chosen (bytes, listed, gained) = (
-  bytes,
-  (
-    choice,
-    chosen,
-    listed,
-  ),
-  gained,
-)
+    (known : ListedSheet) (old marked new : Option (List ℕ)) → IsChoiceFor task lines sheet choice
+    → Gains old marked (HasMark sheet) → Gains marked new (IsListBy choice most sheet known)
+    → Gains old new (IsAskedList task lines most sheet known)
+asked_list task lines most sheet choice known old marked new chosen mark made =
+    let all = behind_mark sheet (IsListBy choice most sheet known) old marked new mark made in
+    (all.0, (choice, chosen, all.1), all.2)
 
--- what was converted by a choice is what a task asks
-pub asked_done : {W : Type 0} (o : outputs.Ghosts W) (task : Task) (lines : List NameLine) (most : ℕ) (sheet : List ℕ)
-    (choice : SheetChoice) (given written : W) (new registers : List W) (done : SheetDone) → task.unknown ≡ false
-    → IsChoiceFor task lines sheet choice → IsDoneBy o choice sheet given written new registers done
-    → IsEnded o task lines most sheet given written new registers done
-asked_done o task lines most sheet choice given written new registers (done.Whole whole) known chosen h =
-    (asked_sheet task lines sheet choice whole _ _ chosen h.0, h.1, known, choice, chosen, h.2)
-asked_done o task lines most sheet choice given written new registers (done.WholeBut fault) known chosen h =
-    (h.0, asked_sheet task lines sheet choice h.0 _ _ chosen h.1, h.2, known, choice, chosen, h.3, h.4, h.5)
-asked_done o task lines most sheet choice given written new registers (done.Listed listed) known chosen h = absurd h
-asked_done o task lines most sheet choice given written new registers (done.Broken fault) known chosen h =
-    (inr (choice, chosen, h.0), inr (choice, chosen, h.1, h.2))
+module _ {W : Type 0} (o : outputs.Ghosts W) where
+  -- a sheet that broke off behind its mark
+  pub broken_marked : (choice : SheetChoice) (sheet : List ℕ) (given marked written : W) (why : SheetFault)
+      → Gains (o.contents given) (o.contents marked) (HasMark sheet)
+      → IsBrokenBehind o choice sheet marked written why → IsBrokenBy o choice sheet given written why
+  broken_marked choice sheet given marked written fault.OutOfMemory mark (inl same) =
+      behind_mark sheet _ _ _ _ mark ([], inl refl, nothing o marked written same)
+  broken_marked choice sheet given marked written fault.OutOfMemory mark (inr gained) =
+      behind_mark sheet _ _ _ _ mark gained
+  broken_marked choice sheet given marked written fault.Unwritten mark h = h
+  broken_marked choice sheet given marked written fault.NoNames mark h =
+      (behind_mark sheet _ _ _ _ mark ([], refl, nothing o marked written h.0), h.1)
+  broken_marked choice sheet given marked written fault.TooManyRecords mark (more, inl same) =
+      (more, behind_mark sheet _ _ _ _ mark ([], inl refl, nothing o marked written same))
+  broken_marked choice sheet given marked written fault.TooManyRecords mark (more, inr gained) =
+      (more, behind_mark sheet _ _ _ _ mark (gained.0, inr gained.1, gained.2))
+  broken_marked choice sheet given marked written fault.Unread mark h = absurd h
+  broken_marked choice sheet given marked written fault.Unnamed mark h = absurd h
+  broken_marked choice sheet given marked written fault.NotUtf8 mark h = absurd h
+  broken_marked choice sheet given marked written fault.NoTree mark h = absurd h
+  broken_marked choice sheet given marked written (fault.NoColumn word names) mark h = absurd h
+
+  -- what was converted by a choice, behind the mark, is what a task asks
+  pub asked_done : (task : Task) (lines : List NameLine) (most : ℕ) (sheet : List ℕ) (choice : SheetChoice)
+      (given marked written : W) (new registers : List W) (done : SheetDone) → task.unknown ≡ false
+      → IsChoiceFor task lines sheet choice → Gains (o.contents given) (o.contents marked) (HasMark sheet)
+      → IsDoneBy o choice sheet marked written new registers done
+      → IsEnded o task lines most sheet given written new registers done
+  asked_done task lines most sheet choice given marked written new registers (done.Whole whole) known chosen mark h =
+      (asked_sheet task lines sheet choice whole _ _ _ chosen mark h.0, h.1, known, choice, chosen, h.2)
+  asked_done task lines most sheet choice given marked written new registers (done.WholeBut fault) known chosen mark h =
+      (h.0, asked_sheet task lines sheet choice h.0 _ _ _ chosen mark h.1, h.2, known, choice, chosen, h.3, h.4, h.5)
+  asked_done task lines most sheet choice given marked written new registers (done.Listed listed) known chosen mark h =
+      absurd h
+  asked_done task lines most sheet choice given marked written new registers (done.Broken why) known chosen mark h =
+      (inr (choice, chosen, broken_marked choice sheet given marked written why mark h.0), inr (choice, chosen, h.1, h.2))
 
 -- a sheet that broke off, by what its output has come to
 pub broken_by : {W : Type 0} (o : outputs.Ghosts W) (choice : SheetChoice) (sheet : List ℕ) (given written : W)
     (c : SheetCause)
     → Produced o given written (sheet_ending (end.Broken c)) (IsMadeSheet choice (records_by choice sheet) (end.Broken
     c))
-    → IsBrokenBy o choice sheet given written (fault_by c)
+    → IsBrokenBehind o choice sheet given written (fault_by c)
 broken_by o choice sheet given written cause.NoMemory h = inr h.0
 broken_by o choice sheet given written cause.SinkFault h = h.0
 broken_by o choice sheet given written cause.NoNames h = (h.0, h.1.1)

@@ -1,5 +1,5 @@
 -- Which file serves which public clause of `answer`:
---   ColumnLemmas, EndLemmas: what becomes of a sheet, for `answered`.
+--   ColumnLemmas, EndLemmas, MarkLemmas: what becomes of a sheet, for `answered`.
 --   LineLemmas: the lines on sheets, for `answered`.
 --   ListLemmas: the sheets of files, one after the other, for `answered`.
 --   NameLemmas: the names of outputs, for `answered`. NameListLemmas: what lists dates are read by, for `answered`.
@@ -10,6 +10,7 @@ mod EndLemmas
 mod FaultLemmas
 mod LineLemmas
 mod ListLemmas
+mod MarkLemmas
 mod NameLemmas
 mod NameListLemmas
 mod RefusedLemmas

@@ -1,14 +1,16 @@
 -- What clauses see of a sheet on its way. No public contract cites this file.
-use Rattle.std.specs.Prelude.{◌≡◌, ◌==◌, ⊤, ℕ, Bool, Contains, List, Option, Result, Ok, Err, false, length, nat_lt}
-use Rattle.std.specs.Prelude.{true}
+use Rattle.std.specs.Prelude.{◌≡◌, ◌==◌, ◌≤◌, ◌<◌, ◌⊎◌, ⊤, ℕ, Bool, Contains, List, Option, Result, Ok, Err, false}
+use Rattle.std.specs.Prelude.{length, nat_lt, true}
 use Rattle.std.specs.Io.KnownBytes.{Appends}
 use Rattle.std.specs.String.{string_bytes}
 use Rattle.clap.specs.Words.{Text}
+use Rattle.register_records.specs.Entries.{record_limit}
 use Rattle.register_records.specs.SetupRules.{is_delimiter}
 use Rattle.register_records.specs.Sources.{Gains}
 use Rattle.register_records.specs.declared.outputs.Output as outputs
 use Rattle.register_sheets.specs.AskedOfSheets.{IsChoice, IsChoiceBy}
 use Rattle.register_sheets.specs.Choices.{date_limit}
+use Rattle.register_sheets.specs.Converted.{ArePartOfSheet, IsFullSheet, below}
 use Rattle.register_sheets.specs.declared.asked_of_sheets.AskedByNames.{AskedByNames}
 use Rattle.register_sheets.specs.declared.choices.SheetChoice.{SheetChoice}
 use Rattle.register_sheets.specs.declared.name_lists.NameLine.{NameLine}
@@ -16,10 +18,11 @@ use Rattle.register_sheets.specs.declared.sheet_ends.SheetCause.{SheetCause}
 use Rattle.sheet_arguments.specs.Requests.{Task}
 use Rattle.sheet_arguments.specs.WordLists.{columns_asked}
 use Rattle.sheet_app.specs.SheetFaults.{fault_by}
-use Rattle.sheet_app.specs.Sheets.{AreRegistersBy, IsBroken, IsBrokenBy, IsChoiceFor, IsEnded, IsSheetBy}
+use Rattle.sheet_app.specs.Sheets.{AreRegistersBy, IsBroken, IsChoiceFor, IsEnded, IsSheetBy, records_by}
 use Rattle.sheet_app.specs.declared.file_sheets.FileFault.{FileFault}
 use Rattle.sheet_app.specs.declared.file_sheets.FileFault.TheVariants as file_fault
 use Rattle.sheet_app.specs.declared.sheet_faults.SheetFault.{SheetFault}
+use Rattle.sheet_app.specs.declared.sheet_faults.SheetFault.TheVariants as fault
 use Rattle.sheet_app.specs.declared.sheets.SheetDone.{SheetDone}
 use Rattle.sheet_app.specs.declared.sheets.SheetDone.TheVariants as done
 use Rattle.sheet_app.specs.declared.sheets.WholeSheet.{WholeSheet}
@@ -37,7 +40,19 @@ IsEndedBy o task lines most sheet given written new registers (Ok done) =
 IsEndedBy o task lines most sheet given written new registers (Err fault) =
     IsBroken o task lines sheet given written fault × (registers ≡ new)
 
--- how a sheet that is to be converted has ended by a choice
+-- what an output has gained, behind the mark, of a sheet that broke off by a choice, and why it did
+abbrev pub IsBrokenBehind : {W : Type 0} → outputs.Ghosts W → SheetChoice → List ℕ → W → W → SheetFault → Type 0
+IsBrokenBehind o choice sheet given written fault.OutOfMemory =
+    (written ≡ given) ⊎ Gains (o.contents given) (o.contents written) (ArePartOfSheet choice (records_by choice sheet))
+IsBrokenBehind o choice sheet given written fault.Unwritten = o.has_failed written ≡ true
+IsBrokenBehind o choice sheet given written fault.NoNames =
+    (written ≡ given) × (length (records_by choice sheet) ≤ choice.above)
+IsBrokenBehind o choice sheet given written fault.TooManyRecords =
+    (record_limit < length (below choice (records_by choice sheet)))
+    × ((written ≡ given) ⊎ Gains (o.contents given) (o.contents written) (IsFullSheet choice (records_by choice sheet)))
+IsBrokenBehind o choice sheet given written other = ⊥
+
+-- how a sheet that is to be converted has ended by a choice, behind its mark
 abbrev pub IsDoneBy : {W : Type 0} → outputs.Ghosts W → SheetChoice → List ℕ → W → W → List W → List W → SheetDone
     → Type 0
 IsDoneBy o choice sheet given written new registers (done.Whole whole) =
@@ -49,7 +64,7 @@ IsDoneBy o choice sheet given written new registers (done.WholeBut fault) =
     × (cause : SheetCause) × (fault ≡ fault_by cause) × AreRegistersBy o choice sheet (Err cause) new registers
 IsDoneBy o choice sheet given written new registers (done.Listed listed) = ⊥
 IsDoneBy o choice sheet given written new registers (done.Broken fault) =
-    IsBrokenBy o choice sheet given written fault
+    IsBrokenBehind o choice sheet given written fault
     × (result : Result (Unit {0}) SheetCause) × AreRegistersBy o choice sheet result new registers
 
 -- memory ran out, or one of these files could not be opened

@@ -2,6 +2,7 @@
 use Rattle.std.specs.Prelude.{◌≡◌, ◌≤◌, ◌<◌, ◌++◌, ◌⊎◌, ⊤, ℕ, List, [], Option, None, Some, Result, Ok, Err, get_or}
 use Rattle.std.specs.Prelude.{length}
 use Rattle.std.specs.Prelude.{false, true}
+use Rattle.csv.specs.Reading.{strip_bom}
 use Rattle.register_records.specs.Entries.{Fields, record_limit, text_records}
 use Rattle.register_records.specs.Sources.{Gains}
 use Rattle.register_records.specs.declared.outputs.Output as outputs
@@ -71,10 +72,22 @@ pub record IsSheetBy (choice : SheetChoice) (sheet : List ℕ) (known : WholeShe
   pub whole : IsWholeSheet choice (records_by choice sheet) known.records known.counts bytes
   pub unread : AreUnreadIn choice (records_by choice sheet) known.unread
 
+-- a sheet begins with this mark: the bytes EF BB BF, which csv takes off once, or none
+abbrev pub HasMark : List ℕ → List ℕ → Type 0
+HasMark sheet mark = sheet ≡ mark ++ strip_bom sheet
+
+-- these bytes are the mark of a sheet, and behind it others, as said
+pub record IsMarked (sheet : List ℕ) (AreAsSaid : List ℕ → Type 0) (bytes : List ℕ) : Type 0 where
+  pub mark : List ℕ
+  pub rest : List ℕ
+  pub has_mark : HasMark sheet mark
+  pub as_said : AreAsSaid rest
+  pub written : bytes ≡ mark ++ rest
+
 -- these bytes are the sheet that a task asks for, of which this is known
 abbrev pub IsAskedSheet : Task → List NameLine → List ℕ → WholeSheet → List ℕ → Type 0
 IsAskedSheet task lines sheet known bytes =
-    (choice : SheetChoice) × IsChoiceFor task lines sheet choice × IsSheetBy choice sheet known bytes
+    (choice : SheetChoice) × IsChoiceFor task lines sheet choice × IsMarked sheet (IsSheetBy choice sheet known) bytes
 
 -- these bytes are the list of the first names in a sheet that are not known by a choice, at most so many, and this is
 -- known of its other dates
@@ -87,7 +100,8 @@ pub record IsListBy (choice : SheetChoice) (most : ℕ) (sheet : List ℕ) (know
 -- these bytes are the list that a task asks for
 abbrev pub IsAskedList : Task → List NameLine → ℕ → List ℕ → ListedSheet → List ℕ → Type 0
 IsAskedList task lines most sheet known bytes =
-    (choice : SheetChoice) × IsChoiceFor task lines sheet choice × IsListBy choice most sheet known bytes
+    (choice : SheetChoice) × IsChoiceFor task lines sheet choice
+    × IsMarked sheet (IsListBy choice most sheet known) bytes
 
 -- why a sheet breaks off before there is a choice
 abbrev pub IsEarly : Task → List ℕ → SheetFault → Type 0
@@ -96,16 +110,21 @@ IsEarly task sheet (fault.NoColumn word names) = ⊤
 IsEarly task sheet fault.NoNames = length (text_records task.delimiter sheet) ≤ task.skip
 IsEarly task sheet other = ⊥
 
+-- the output has gained the mark of a sheet, and behind it bytes as said
+abbrev pub GainsMarked : {W : Type 0} → outputs.Ghosts W → List ℕ → W → W → (List ℕ → Type 0) → Type 0
+GainsMarked o sheet given written AreAsSaid =
+    Gains (o.contents given) (o.contents written) (IsMarked sheet AreAsSaid)
+
 -- what an output has gained of a sheet that broke off by a choice, and why it did
 abbrev pub IsBrokenBy : {W : Type 0} → outputs.Ghosts W → SheetChoice → List ℕ → W → W → SheetFault → Type 0
 IsBrokenBy o choice sheet given written fault.OutOfMemory =
-    (written ≡ given) ⊎ Gains (o.contents given) (o.contents written) (ArePartOfSheet choice (records_by choice sheet))
+    GainsMarked o sheet given written (ArePartOfSheet choice (records_by choice sheet))
 IsBrokenBy o choice sheet given written fault.Unwritten = o.has_failed written ≡ true
 IsBrokenBy o choice sheet given written fault.NoNames =
-    (written ≡ given) × (length (records_by choice sheet) ≤ choice.above)
+    GainsMarked o sheet given written (λ rest. rest ≡ []) × (length (records_by choice sheet) ≤ choice.above)
 IsBrokenBy o choice sheet given written fault.TooManyRecords =
     (record_limit < length (below choice (records_by choice sheet)))
-    × ((written ≡ given) ⊎ Gains (o.contents given) (o.contents written) (IsFullSheet choice (records_by choice sheet)))
+    × GainsMarked o sheet given written (λ rest. (rest ≡ []) ⊎ IsFullSheet choice (records_by choice sheet) rest)
 IsBrokenBy o choice sheet given written other = ⊥
 
 -- the sheet that a task asks for broke off, with nothing gained, or by a choice

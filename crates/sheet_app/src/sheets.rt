@@ -1,6 +1,6 @@
 //! What comes of a sheet.
 
-ghost use Rattle.std.specs.Prelude.{◌≡◌, ◌≤◌, ◌⊎◌, List, IfErr, IfOk, OnOk, length, true};
+ghost use Rattle.std.specs.Prelude.{◌≡◌, ◌≤◌, ◌⊎◌, List, IfErr, IfOk, OnErr, OnOk, length, true};
 ghost use Rattle.csv.specs.Records.{fields_of};
 ghost use Rattle.register_records.specs.Entries.{text_records};
 ghost use Rattle.register_records.specs.Sources.{Gains};
@@ -8,13 +8,13 @@ ghost use Rattle.register_sheets.specs.AskedOfSheets.{IsChoice, IsChoiceBy, aske
 ghost use Rattle.register_sheets.specs.declared.name_lists.NameLine.{NameLine as NameLineValue};
 ghost use Rattle.sheet_arguments.specs.Requests.{task_of};
 ghost use Rattle.sheet_app.specs.SheetFaults.{IsOfColumns};
-ghost use Rattle.sheet_app.specs.SheetViews.{AsksFor, IsDoneBy, IsEndedBy, IsTask, MakesChoices};
-ghost use Rattle.sheet_app.specs.Sheets.{IsAskedOf, IsBrokenBy, IsEnded, IsListBy, names_of};
+ghost use Rattle.sheet_app.specs.SheetViews.{AsksFor, IsBrokenBehind, IsDoneBy, IsEndedBy, IsTask, MakesChoices};
+ghost use Rattle.sheet_app.specs.Sheets.{HasMark, IsAskedOf, IsEnded, IsListBy, names_of};
 
 use crate::columns::{dates_named, id_named};
 use crate::sheet_faults::{SheetFault, fault_of_columns};
 use csv::ByteRecord;
-use register_records::{Output, send};
+use register_records::{Output, OutputFault, send};
 use register_sheets::{
     AskedByNames, AskedOfSheet, NameList, SheetCounts, SheetEnd, SheetSetup, UnreadDates,
     convert_outputs, head_record, unknown_names,
@@ -120,7 +120,7 @@ fn list_unknown<'b, W: Output>(
     ensures whole { IfOk result (λ listed. Gains (W.contents output.old) (W.contents output.new)
         (IsListBy setup.now.choice MOST_UNKNOWN sheet.now listed)) }
     ensures flushed { OnOk result (W.is_flushed output.new ≡ true) }
-    ensures broken { IfErr result (IsBrokenBy W.Output setup.now.choice sheet.now output.old output.new) }
+    ensures broken { IfErr result (IsBrokenBehind W.Output setup.now.choice sheet.now output.old output.new) }
 {
     let unknown = unknown_names(alloc, sheet, setup, MOST_UNKNOWN)?;
     let text = unknown.text(alloc)?;
@@ -159,7 +159,35 @@ fn write_outputs<'b, W: Output>(
     }
 }
 
-/// Writes what a job asks of a sheet, by what is known.
+/// The mark of UTF-8 that a sheet begins with, or nothing.
+#[tactic(auto, using(crate::proofs::MarkLemmas::heads))]
+fn mark_of(sheet: &[u8]) -> &[u8]
+    ensures { HasMark sheet.now result.now }
+{
+    if sheet.len() >= 3 && sheet[0] == 0xEF && sheet[1] == 0xBB && sheet[2] == 0xBF {
+        &sheet[..3]
+    } else {
+        &sheet[..0]
+    }
+}
+
+/// Writes the mark of UTF-8 where a sheet begins with it.
+///
+/// # Errors
+///
+/// `OutputFault` where the output has failed.
+fn write_mark<W: Output>(sheet: &[u8], output: &mut W) -> Result<(), OutputFault>
+    ensures ok { OnOk result (Gains (W.contents output.old) (W.contents output.new) (HasMark sheet.now)) }
+    ensures fails { OnErr result (W.has_failed output.new ≡ true) }
+{
+    let mark = mark_of(sheet);
+    if mark.is_empty() {
+        return Ok(());
+    }
+    send(output, mark)
+}
+
+/// Writes what a job asks of a sheet, by what is known: behind the mark of UTF-8 where the sheet begins with it.
 fn write_known<'b, W: Output>(
     alloc: Global,
     sheet: &[u8],
@@ -174,6 +202,7 @@ fn write_known<'b, W: Output>(
         registers.new result }
 {
     let setup = setup_of(known);
+    write_mark(sheet, output)?;
     if job.unknown {
         let listed = list_unknown(alloc, sheet, &setup, output)?;
         return Ok(SheetDone::Listed(listed));

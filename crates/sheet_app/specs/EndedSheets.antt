@@ -13,6 +13,7 @@ use Rattle.sheet_app.specs.Lines.{lines_on, names_line}
 use Rattle.sheet_app.specs.TreeTexts.{IsTextEnded}
 use Rattle.sheet_app.specs.declared.converting.EndedSheet.{EndedSheet}
 use Rattle.sheet_app.specs.declared.file_sheets.FileSheet.{FileSheet}
+use Rattle.sheet_app.specs.declared.sheet_faults.SheetFault.{SheetFault}
 use Rattle.sheet_app.specs.declared.sheet_faults.SheetFault.TheVariants as fault
 use Rattle.sheet_app.specs.declared.sheets.SheetDone.{SheetDone}
 use Rattle.sheet_app.specs.declared.sheets.SheetDone.TheVariants as done
@@ -21,12 +22,16 @@ use Rattle.sheet_app.specs.declared.sheets.SheetDone.TheVariants as done
 abbrev pub Gives : {R : Type 0} → reads.Ghosts R → R → List ℕ → Type 0
 Gives r source text = IfSome (r.remaining source) (λ left. text ≡ left)
 
--- a sheet was read and has ended so, with what its outputs have gained; or it could not be read, and they have gained
+-- a sheet could not be read, or memory ran out while it was
+abbrev pub IsUnread : SheetFault → Type 0
+IsUnread why = (why ≡ fault.Unread) ⊎ (why ≡ fault.OutOfMemory)
+
+-- a sheet was read and has ended so, with what its outputs have gained; or it was not read to its end, and they have gained
 -- nothing
 abbrev pub IsConverted : {R W : Type 0} → reads.Ghosts R → outputs.Ghosts W → Task → List NameLine → R → W → W
     → List W → List W → SheetDone → Type 0
 IsConverted r o task lines source given written new registers how =
-    ((how ≡ done.Broken fault.Unread) × (written ≡ given) × (registers ≡ new))
+    ((why : SheetFault) × IsUnread why × (how ≡ done.Broken why) × (written ≡ given) × (registers ≡ new))
     ⊎ ((text : List ℕ) × Gives r source text × IsTextEnded o task lines text given written new registers how)
 
 abbrev pub ended_name : {W : Type 0} → EndedSheet W → Text

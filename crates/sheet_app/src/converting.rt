@@ -5,9 +5,10 @@ ghost use Rattle.std.specs.Prelude.{map};
 ghost use Rattle.std.specs.List.{AllZip};
 ghost use Rattle.register_files.specs.Places.{place_name};
 ghost use Rattle.sheet_arguments.specs.Requests.{task_of};
-ghost use Rattle.sheet_app.specs.EndedSheets.{AreReported, IsConverted, IsEndOf, ended_lines, ended_name};
+ghost use Rattle.sheet_app.specs.EndedSheets.{AreReported, IsConverted, IsEndOf, IsUnread, ended_lines, ended_name};
 ghost use Rattle.sheet_app.specs.EndedSheets.{is_complete};
 ghost use Rattle.sheet_app.specs.SheetViews.{IsTask, Says};
+ghost use Rattle.sheet_app.specs.TreeTexts.{IsTextEnded};
 
 use crate::file_sheets::FileSheet;
 use crate::reports::{report_names, report_sheet};
@@ -19,7 +20,7 @@ use register_records::Output;
 use register_sheets::NameList;
 use sheet_arguments::Job;
 use std::alloc::Global;
-use std::io::Read;
+use std::io::{ErrorKind, Read};
 
 /// What standard input is called.
 const INPUT: &str = "standard input";
@@ -40,6 +41,35 @@ pub struct EndedSheet<'a, W> {
     pub is_reported: bool,
 }
 
+/// Why a sheet was not read to its end.
+fn fault_of_reading<'b>(kind: ErrorKind) -> SheetFault<'b>
+    ensures { IsUnread result }
+{
+    match kind {
+        ErrorKind::OutOfMemory => SheetFault::OutOfMemory,
+        _ => SheetFault::Unread,
+    }
+}
+
+/// Writes what a job asks of the sheet of a text, by the names of a list.
+fn convert_read<'b, W: Output>(
+    alloc: Global,
+    list: &NameList,
+    job: &Job<'b>,
+    text: Vec<u8>,
+    output: &mut W,
+    registers: &mut [W],
+) -> SheetDone<'b>
+    requires { IsTask (task_of job.now) }
+    ensures { IsTextEnded W.Output (task_of job.now) list.now.lines.items text.entry.items output.old output.new
+        registers.old registers.new result }
+{
+    match sheet_of(alloc, text, job) {
+        Ok(sheet) => convert_text(alloc, sheet.as_slice(), list, job, output, registers),
+        Err(fault) => SheetDone::Broken(fault),
+    }
+}
+
 /// Reads a sheet, and writes what a job asks of it, by the names of a list.
 fn convert_source<'b, R: Read, W: Output>(
     alloc: Global,
@@ -54,12 +84,9 @@ fn convert_source<'b, R: Read, W: Output>(
         registers.old registers.new result }
 {
     let mut text = Vec::new(alloc);
-    if source.read_to_end(&mut text).is_err() {
-        return SheetDone::Broken(SheetFault::Unread);
-    }
-    match sheet_of(alloc, text, job) {
-        Ok(sheet) => convert_text(alloc, sheet.as_slice(), list, job, output, registers),
-        Err(fault) => SheetDone::Broken(fault),
+    match source.read_to_end(&mut text) {
+        Ok(_) => convert_read(alloc, list, job, text, output, registers),
+        Err(error) => SheetDone::Broken(fault_of_reading(error.kind())),
     }
 }
 

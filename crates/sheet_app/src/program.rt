@@ -28,7 +28,7 @@ use register_records::{Output, send};
 use register_sheets::{NameList, NameListFault};
 use sheet_arguments::{HELP, Job, MEMORY_FAULT, PRINT_FAULT, Request, VERSION, read_request};
 use std::alloc::Global;
-use std::io::Read;
+use std::io::{ErrorKind, Read};
 
 /// Memory ran out before the first sheet was read.
 const OUT_OF_MEMORY: u8 = 3;
@@ -157,6 +157,7 @@ fn read_file<'a, R: Read + Drop, W: Output, P: FileStore<R, W>>(
     let mut text = Vec::new(alloc);
     match source.read_to_end(&mut text) {
         Ok(_) => Ok(text),
+        Err(error) if error.kind() == ErrorKind::OutOfMemory => Err(ProgramFault::OutOfMemory),
         Err(_) => Err(ProgramFault::UnreadList(file)),
     }
 }

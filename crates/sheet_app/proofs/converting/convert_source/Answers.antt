@@ -1,27 +1,10 @@
--- What is converted is the sheet of the text that was read.
+-- What is converted is the text that was read.
 use Rattle.std.proofs.Common.{inr, rules}
-use Rattle.sheet_arguments.specs.Requests.{task_of}
 use Rattle.sheet_app.specs.EndedSheets.{Gives}
-use Rattle.sheet_app.proofs.TreeLemmas.{text_broken, text_ended}
 use Rattle.sheet_app.proofs.converting.convert_source.Goals as goal
 
 pub returns-in-Ok : goal.returns-in-Ok
 returns-in-Ok g c =
     let text = c.read_to_end.new.buf.items in
     let gives : Gives g.R.Read c.args.source.now text = search rules in
-    inr (
-      text,
-      gives,
-      text_ended g.W.Output (task_of c.args.job.now) _ text _ _ _ _ _ _ c.in-Ok.ensures.fine c.in-Ok.ensures.sheet
-          (rw c.as_slice.ensures.value at c.convert_text.ensures),
-    )
-
-pub returns-in-Err : goal.returns-in-Err
-returns-in-Err g c =
-    let text = c.read_to_end.new.buf.items in
-    let gives : Gives g.R.Read c.args.source.now text = search rules in
-    inr (
-      text,
-      gives,
-      text_broken g.W.Output (task_of c.args.job.now) _ text _ _ c.in-Err.fault c.in-Err.ensures.fault,
-    )
+    inr (text, gives, c.convert_read.ensures)

@@ -21,6 +21,9 @@ REFUSED = {
     "--date=1 --all=julian/gregorian": "unknown calendar: julian/gregorian",
     "--date=1 --calendar=2 --else=mars": "unknown calendar: mars",
     "--date=1 --calendar=2 --else=": "unknown calendar: ",
+    # A word that means something in dates alone, and the second of two.
+    "--date=1 --all=Mai": "unknown calendar: Mai",
+    "--date=1 --date=2 --all=O.S. --all=O.Z.": "unknown calendar: O.Z.",
     "--date=1 --all=iso --else=julian": "--else is for --calendar",
     "--date=1 --all=mars --else=julian": "--else is for --calendar",
     "--tree --date=1": AT_ODDS,
@@ -47,7 +50,8 @@ REFUSED = {
     # The first fault in the order of the checks.
     "a a --date=1 --all=iso --to=x": "unknown column: x",
     "--skip=x --date=1 --all=iso --order=x": "unknown order: x",
-    "--order=x --all=mars --date=1": "unknown calendar: mars",
+    "--order=x --all=mars --date=1": "unknown order: x",
+    "--register --all=mars --date=1": "--register is for files",
     "--short-years=x --short-hebrew-years=y --skip=z --date=1 --all=iso": "bad short years: x",
     "--skip=z --delimiter=y --short-hebrew-years=x --date=1 --all=iso": "bad short Hebrew years: x",
     "--to=x --delimiter=y --skip=z --date=1 --all=iso": "bad number of records to skip: z",
@@ -227,6 +231,7 @@ FILES = {
     "tree.ged": TREE,
     "spans.csv": SPANS, "styles.csv": STYLES, "old-style.csv": "name,means,in\nstary/nowy,julian,\nO.S.,both,\n",
     "a.csv": SHEET, "marked.csv": f"\ufeff{SHEET}", "c.csv": SHEET, "own.csv": SHEET, "two.csv": TWO_DATES, "empty.csv": "",
+    "swedish.csv": "name,means,in\nschwedisch,julian,\n",
     "names.csv": "name,means,in\nMeyo,month 5,\n", "weekdays.csv": "name,means,in\nSonntag,weekday 0,\n",
     "other.csv": "name,means,in\nMeyo,month 6,\nJuno,month 7,\n",
     "own.csv.unknown.csv": "name,means,in\nMeyo,month 5,\n",
@@ -287,6 +292,17 @@ STREAMS = [
      "d,c,rd,refusal\n1752-09-02,,639796,\n1752-09-14, ,639797,\n1752-09-02,gregorian,639785,\n", ""),
     ("--date d --calendar c --else both --to gregorian", "d,c\n10/22 January 1863,\n", 0,
      "d,c,gregorian,refusal\n10/22 January 1863,,1863-01-22,\n", ""),
+    # Calendars by the names of lists, as in a column of calendars: letters of any case, blanks at the ends, the user's list
+    # before the built-in one. 1 January 1700 in the Julian calendar was 11 January in the Gregorian one.
+    ("--date d --all O.S. --to gregorian", "d\n1700-1-1\n", 0, "d,gregorian,refusal\n1700-1-1,1700-01-11,\n", ""),
+    ("--date d '--all= СТ. СТ. ' --to gregorian", "d\n1700-1-1\n", 0, "d,gregorian,refusal\n1700-1-1,1700-01-11,\n", ""),
+    ("--date d --all=greg. --to julian", "d\n1700-1-11\n", 0, "d,julian,refusal\n1700-1-11,1700-01-01,\n", ""),
+    ("--date d --calendar c --else o.s. --to gregorian", "d,c\n1700-1-1,\n1700-1-1,greg.\n", 0,
+     "d,c,gregorian,refusal\n1700-1-1,,1700-01-11,\n1700-1-1,greg.,1700-01-01,\n", ""),
+    ("--date d --all O.S. --to gregorian --names old-style.csv", "d\n10/22 stycznia 1863\n", 0,
+     "d,gregorian,refusal\n10/22 stycznia 1863,1863-01-22,\n", ""),
+    ("--date d --all Schwedisch --to gregorian --names swedish.csv", "d\n1700-1-1\n", 0,
+     "d,gregorian,refusal\n1700-1-1,1700-01-11,\n", ""),
     # Lists of names: that of the first stands before the others. A word is month 5 by the one, and month 6 by the other.
     ("--date 1 --all gregorian --order day --to gregorian --names names.csv --names other.csv",
      "d\n2 Meyo 1806\n2 Juno 1806\n", 0, "d,gregorian,refusal\n2 Meyo 1806,1806-05-02,\n2 Juno 1806,1806-07-02,\n", ""),
@@ -394,6 +410,9 @@ STREAMS = [
     ("--date 1 --all iso --names sign.csv", "", 3, "", lines("bad list of names sign.csv: name of record 2")),
     ("--date 1 --all iso --names empty-name.csv", "", 3, "", lines("bad list of names empty-name.csv: name of record 1")),
     ("--date 1 --all iso --names none.csv", "", 3, "", lines("cannot open none.csv")),
+    # A list of names is read before calendars are looked up, and these before files are opened.
+    ("--date 1 --all mars --names none.csv", "", 3, "", lines("cannot open none.csv")),
+    ("--date 1 --all mars --names names.csv none.csv", "", 2, "", lines("unknown calendar: mars")),
     # The first list that is none, in their order.
     ("--date 1 --all iso --names names.csv --names both.csv --names none.csv", "", 3, "",
      lines("bad list of names both.csv: means of record 1")),

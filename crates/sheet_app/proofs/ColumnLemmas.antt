@@ -7,6 +7,7 @@ use Rattle.std.specs.Prelude.{option_map}
 use Rattle.std.proofs.lemmas.Option.{slice_get-get_or, slice_get-map}
 use Rattle.register_records.specs.Entries.{Fields}
 use Rattle.register_sheets.specs.declared.choices.DateColumn.{DateColumn}
+use Rattle.register_sheets.specs.declared.name_lists.NameLine.{NameLine}
 use Rattle.sheet_arguments.specs.Requests.{Task}
 use Rattle.clap.specs.Words.{Text}
 use Rattle.command_lines.specs.Values.{IsNumberWord}
@@ -28,21 +29,22 @@ get_more (x ∷ xs) y zero b is = inl is
 get_more (x ∷ xs) y (suc k) b is = elim (get_more xs y k b is) [ inl h ↦ inl h | inr h ↦ inr (ap suc h.0, h.1) ]
 
 -- these are the columns of dates at the first indices, so many
-pub record AreFirstDates (names : Fields) (task : Task) (columns : List DateColumn) (n : ℕ) : Type 0 where
+pub record AreFirstDates (lines : List NameLine) (names : Fields) (task : Task) (columns : List DateColumn) (n : ℕ) : Type 0 where
   pub as_many : length columns ≡ n
   pub each : (index : ℕ) (column : DateColumn) → slice_get columns index ≡ Some column
-      → IsDateColumn names task index column
+      → IsDateColumn lines names task index column
 
-pub one_more_date : (names : Fields) (task : Task) (columns new : List DateColumn) (n : ℕ) (column : DateColumn)
-    → AreFirstDates names task columns n → IsDateColumn names task n column → new ≡ columns ++ column ∷ []
-    → AreFirstDates names task new (n + 1)
-one_more_date names task columns new n column first is more = record {
+pub one_more_date : (lines : List NameLine) (names : Fields) (task : Task) (columns new : List DateColumn) (n : ℕ)
+    (column : DateColumn) → AreFirstDates lines names task columns n → IsDateColumn lines names task n column
+    → new ≡ columns ++ column ∷ [] → AreFirstDates lines names task new (n + 1)
+one_more_date lines names task columns new n column first is more = record {
   as_many = ap length more ∙ omega (arith, first.as_many, length-append columns (column ∷ []));
   each = λ index other at. elim (get_more columns column index other (sym (ap (λ l. slice_get l index) more) ∙ at)) [
     | inl old ↦ first.each index other old
     | inr last ↦
         let here : n ≡ index = sym (last.0 ∙ first.as_many) in
-        subst (λ c. IsDateColumn names task index c) last.1 (subst (λ k. IsDateColumn names task k column) here is)
+        subst (λ c. IsDateColumn lines names task index c) last.1
+        (subst (λ k. IsDateColumn lines names task k column) here is)
   ];
 }
 
@@ -77,10 +79,10 @@ asked_word words index word within there =
     = slice_get-get_or words index word within ∙ ap (λ (w : Bor Text). Some w) (sym there) in
     slice_get-map (λ (w : Bor Text). w.now) words index ∙ ap (option_map (λ (w : Bor Text). w.now)) found
 
-pub date_column : (names : Fields) (task : Task) (index : ℕ) (word : Text) (column : DateColumn)
+pub date_column : (lines : List NameLine) (names : Fields) (task : Task) (index : ℕ) (word : Text) (column : DateColumn)
     → slice_get task.dates index ≡ Some word → IsColumn names word column.date
-    → IsCalendarField names task.calendars index column.calendar → IsDateColumn names task index column
-date_column names task index word column asked date calendar = record {
+    → IsCalendarField lines names task.calendars index column.calendar → IsDateColumn lines names task index column
+date_column lines names task index word column asked date calendar = record {
   word = word;
   asked = asked;
   date = date;

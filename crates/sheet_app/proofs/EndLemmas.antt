@@ -29,18 +29,18 @@ use Rattle.sheet_app.proofs.TaskLemmas.{is_choice}
 
 -- what is known was made of what a task asks
 pub asks_for : (task : Task) (lines : List NameLine) (sheet : List ℕ) (known : AskedByNames) (asked : SheetAsked)
-    → IsAskedOf task (names_of task sheet) asked
+    → IsAskedOf task lines (names_of task sheet) asked
     → ((choice : SheetChoice) → IsChoiceBy known choice → IsListedChoice asked lines sheet choice)
     → AsksFor task lines sheet known
 asks_for task lines sheet known asked is listed = λ choice by good.
     record { asked = asked; is_asked = is; listed = listed choice by; is_choice = good }
 
 pub makes_choices : (task : Task) (lines : List NameLine) (sheet : List ℕ) (known : AskedByNames) (asked : SheetAsked)
-    → IsTask task → IsAskedOf task (names_of task sheet) asked
+    → IsTask task → IsAskedOf task lines (names_of task sheet) asked
     → ((choice : SheetChoice) → IsChoiceBy known choice → IsListedChoice asked lines sheet choice) → MakesChoices known
 makes_choices task lines sheet known asked task_is is listed = λ choice by.
     let list = listed choice by in
-    is_choice task (names_of task sheet) list.headings asked sheet list.in_dates (map bare_name list.of_calendars)
+    is_choice task lines (names_of task sheet) list.headings asked sheet list.in_dates (map bare_name list.of_calendars)
     choice
     task_is is list.headed list.chosen
 

@@ -1,19 +1,16 @@
--- Which file a fault names, and why nothing is done.
+-- Which file a fault names.
 use Rattle.std.proofs.Common.{◌≡◌, ◌++◌, ◌<◌, ◌∙◌, ◌∷◌, ◌⊎◌, [], ℕ, List, arith, get_or, inl, length, map, subst, suc, sym, zero}
 use Rattle.std.specs.Prelude.{Contains, Err, IfErr, IsErrAnd, Ok, Result, flat_map}
 use Rattle.std.specs.String.{string_bytes}
 use Rattle.std.proofs.lemmas.List.{get_or-map, length-map}
 use Rattle.std.proofs.lemmas.List.Elements.{Contains-append_left, Contains-append_right, Contains-get_or}
 use Rattle.clap.specs.Words.{Text}
-use Rattle.command_lines.specs.Meanings.{work}
-use Rattle.sheet_arguments.specs.Requests.{MeanJust, Task}
+use Rattle.sheet_arguments.specs.Requests.{Task}
 use Rattle.sheet_app.specs.FileSheets.{outputs_of}
-use Rattle.sheet_app.specs.ProgramFaults.{IsFaultOfAsked, IsFaultOfFiles, IsFaultOfTask, fault_status}
+use Rattle.sheet_app.specs.ProgramFaults.{IsFaultOfFiles}
 use Rattle.sheet_app.specs.SheetViews.{IsOfInputs, IsOfOutputs}
 use Rattle.sheet_app.specs.declared.file_sheets.FileFault.{FileFault}
 use Rattle.sheet_app.specs.declared.file_sheets.FileFault.TheVariants as file_fault
-use Rattle.sheet_app.specs.declared.program_faults.ProgramFault.{ProgramFault}
-use Rattle.sheet_app.specs.declared.program_faults.ProgramFault.TheVariants as program_fault
 
 -- a fault that is handed on
 pub handed : {A E : Type 0} (Q : E → Type 0) (result : Result A E) (fault : E) → IsErrAnd result (λ why. why ≡ fault)
@@ -33,7 +30,7 @@ of_more names more (file_fault.CannotOpen file) within is = absurd is
 of_more names more (file_fault.CannotMake name) within is = within _ is
 of_more names more file_fault.OutOfMemory within is = tt
 
-is_only : (one name : Text) → Contains (one ∷ []) name → one ≡ name
+pub is_only : (one name : Text) → Contains (one ∷ []) name → one ≡ name
 is_only one name (zero, within, e) = e
 is_only one name (suc k, within, e) = absurd (omega (arith, within))
 
@@ -75,21 +72,3 @@ of_outputs task names (file_fault.CannotOpen file) same is = absurd is
 of_outputs task names (file_fault.CannotMake name) same is =
     subst (λ (xs : List Text). Contains xs (string_bytes name)) same is
 of_outputs task names file_fault.OutOfMemory same is = tt
-
--- a task that is not begun gives status 3
-pub gives_three : (task : Task) (why : ProgramFault) (status : ℕ) → IsFaultOfTask task why
-    → (status ≡ 3) ⊎ (status ≡ fault_status why) → status ≡ 3
-gives_three task (program_fault.Arguments error) status is either = absurd is
-gives_three task (program_fault.Files fault) status is either = grind (arith, either)
-gives_three task (program_fault.UnreadList file) status is either = grind (arith, either)
-gives_three task (program_fault.NoList file fault) status is either = grind (arith, either)
-gives_three task program_fault.OutOfMemory status is either = grind (arith, either)
-
--- and it is the one that arguments ask for
-pub of_asked : (arguments : List Text) (task : Task) (why : ProgramFault) → MeanJust arguments (work task)
-    → IsFaultOfTask task why → IsFaultOfAsked arguments why
-of_asked arguments task (program_fault.Arguments error) just is = absurd is
-of_asked arguments task (program_fault.Files fault) just is = (task, just, is)
-of_asked arguments task (program_fault.UnreadList file) just is = (task, just, is)
-of_asked arguments task (program_fault.NoList file fault) just is = (task, just, is)
-of_asked arguments task program_fault.OutOfMemory just is = tt

@@ -1,10 +1,12 @@
 -- Which file serves which public clause of `answer`:
---   ColumnLemmas, EndLemmas, MarkLemmas: what becomes of a sheet, for `answered`.
+--   CalendarLemmas, ColumnLemmas, EndLemmas, MarkLemmas: what becomes of a sheet, for `answered`.
 --   LineLemmas: the lines on sheets, for `answered`.
 --   ListLemmas: the sheets of files, one after the other, for `answered`.
 --   NameLemmas: the names of outputs, for `answered`. NameListLemmas: what lists dates are read by, for `answered`.
---   RefusedLemmas: `refused` and `reported`. FaultLemmas: which file a line names, for `reported`.
+--   RefusedLemmas: `refused`, `only` and `reported`. FaultLemmas: which file a line names, for `reported`. StartLemmas: why
+--   a task is not begun, for `only` and `reported`.
 --   RegisterLemmas: the outputs of registers, for `answered`. TreeLemmas: the sheets of texts, for `answered`.
+mod CalendarLemmas
 mod ColumnLemmas
 mod EndLemmas
 mod FaultLemmas
@@ -15,5 +17,6 @@ mod NameLemmas
 mod NameListLemmas
 mod RefusedLemmas
 mod RegisterLemmas
+mod StartLemmas
 mod TaskLemmas
 mod TreeLemmas

@@ -1,5 +1,5 @@
 -- When arguments are refused, and what is reported then.
-use Rattle.std.proofs.Common.{◌≡◌, ◌≢◌, ◌⊎◌, inl, inr, List, Option, Some, None, ℕ, refl, ◌↔◌, IfSome}
+use Rattle.std.proofs.Common.{◌≡◌, ◌≢◌, ◌⊎◌, arith, inl, inr, List, Option, Some, None, ℕ, refl, IfSome}
 use Rattle.std.specs.Option.{option_map_or}
 use Rattle.std.specs.Io.KnownBytes.{Appends}
 use Rattle.clap.specs.Words.{Text}
@@ -9,20 +9,24 @@ use Rattle.sheet_arguments.specs.Requests.{AreWrong, IsFaultOf, MeanJust, Task}
 use Rattle.sheet_app.specs.Answers.{IsReported}
 use Rattle.sheet_app.specs.declared.program_faults.ProgramFault.TheVariants as program_fault
 
--- arguments that ask for something are not refused
-pub never_refused : (arguments : List Text) (meaning : Meaning Task Fault) (status : ℕ) → MeanJust arguments meaning
-    → ((fault : Fault) → wrong fault ≢ meaning) → status ≢ 2
-    → (status ≡ 2) ↔ AreWrong arguments
-never_refused arguments meaning status just differs
-    other = (λ e. absurd (other e), λ is. absurd (differs is.0 ((just (wrong is.0)).1 is.1)))
+-- nothing is wrong with arguments that ask for something
+pub never_wrong : (arguments : List Text) (meaning : Meaning Task Fault) → MeanJust arguments meaning
+    → ((fault : Fault) → wrong fault ≢ meaning) → AreWrong arguments → ⊥
+never_wrong arguments meaning just differs is = differs is.0 ((just (wrong is.0)).1 is.1)
 
--- arguments that are wrong are, unless there was no memory
-pub is_refused : (arguments : List Text) (found : Option Fault) (status : ℕ)
+-- arguments that are wrong are refused, unless there was no memory
+pub is_refused : (found : Option Fault) (status : ℕ)
+    → (status ≡ 3) ⊎ (status ≡ option_map_or (λ fault. 2) found 3) → status ≢ 3 → status ≡ 2
+is_refused found status (inl three) had = absurd (had three)
+is_refused None status (inr three) had = absurd (had three)
+is_refused (Some fault) status (inr two) had = two
+
+pub are_wrong : (arguments : List Text) (found : Option Fault) (status : ℕ)
     → IfSome found (λ fault. MeanJust arguments (wrong fault))
-    → (status ≡ 3) ⊎ (status ≡ option_map_or (λ fault. 2) found 3) → status ≢ 3 → (status ≡ 2) ↔ AreWrong arguments
-is_refused arguments found status just (inl three) had = absurd (had three)
-is_refused arguments None status just (inr three) had = absurd (had three)
-is_refused arguments (Some fault) status just (inr two) had = (λ e. (fault, (just (wrong fault)).0 refl), λ is. two)
+    → (status ≡ 3) ⊎ (status ≡ option_map_or (λ fault. 2) found 3) → status ≡ 2 → AreWrong arguments
+are_wrong arguments found status just (inl three) two = absurd (omega (arith, three, two))
+are_wrong arguments None status just (inr three) two = absurd (omega (arith, three, two))
+are_wrong arguments (Some fault) status just (inr is) two = (fault, (just (wrong fault)).0 refl)
 
 -- and then they have the fault that is reported
 pub is_wrong : (arguments : List Text) (found : Option Fault) → IfSome found (λ fault. MeanJust arguments (wrong fault))

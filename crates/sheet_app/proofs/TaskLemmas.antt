@@ -34,6 +34,7 @@ use Rattle.register_sheets.specs.declared.choices.DateColumn.{DateColumn}
 use Rattle.register_sheets.specs.declared.choices.SheetChoice.{SheetChoice}
 use Rattle.register_sheets.specs.declared.choices.Spans.{Spans}
 use Rattle.register_sheets.specs.declared.choices.Spans.TheVariants as spans
+use Rattle.register_sheets.specs.declared.name_lists.NameLine.{NameLine}
 use Rattle.sheet_arguments.specs.CommandLine.{Values}
 use Rattle.sheet_arguments.specs.Faults.{Fault, column_twice, unknown_column}
 use Rattle.sheet_arguments.specs.Requests.{Ask, Task}
@@ -281,10 +282,11 @@ wanted_long several own kind columns (date ∷ dates) =
     length-append (wanted_for several own kind columns date) (flat_map (wanted_for several own kind columns) dates)
     ∙ grind (arith, here, rest)
 
-pub is_choice : (task : Task) (names headings : Fields) (asked : SheetAsked) (sheet : List ℕ) (in_dates : List Name)
-    (of_calendars : List (List ℕ × CalendarMeaning)) (choice : SheetChoice) → IsTask task → IsAskedOf task names asked
+pub is_choice : (task : Task) (lines : List NameLine) (names headings : Fields) (asked : SheetAsked) (sheet : List ℕ)
+    (in_dates : List Name) (of_calendars : List (List ℕ × CalendarMeaning)) (choice : SheetChoice) → IsTask task
+    → IsAskedOf task lines names asked
     → HasHeadings asked sheet headings → IsChoiceOf asked in_dates of_calendars headings choice → IsChoice choice
-is_choice task names headings asked sheet in_dates of_calendars choice task_is is headed of =
+is_choice task lines names headings asked sheet in_dates of_calendars choice task_is is headed of =
     let own = get_or (text_records asked.delimiter sheet) asked.above [] in
     let dates : length choice.dates.now ≡ length task.dates = ap length of.dates ∙ is.dates.as_many in
     let made : length choice.headings.now ≡ length headings

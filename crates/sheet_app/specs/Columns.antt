@@ -3,16 +3,17 @@ use Rattle.std.specs.Prelude.{◌≡◌, ◌≢◌, ◌<◌, ◌+◌, ◌⊎◌,
 use Rattle.clap.specs.Words.{Text}
 use Rattle.command_lines.specs.Values.{IsNumberWord}
 use Rattle.register_records.specs.Entries.{Fields}
-use Rattle.register_sheets.specs.NameMeanings.{SaysCalendar}
 use Rattle.register_sheets.specs.declared.choices.CalendarColumn.{CalendarColumn}
 use Rattle.register_sheets.specs.declared.choices.CalendarField.{CalendarField}
 use Rattle.register_sheets.specs.declared.choices.CalendarField.TheVariants as calendar
 use Rattle.register_sheets.specs.declared.choices.DateColumn.{DateColumn}
 use Rattle.register_sheets.specs.declared.choices.IdField.{IdField}
 use Rattle.register_sheets.specs.declared.choices.IdField.TheVariants as id
+use Rattle.register_sheets.specs.declared.name_lists.NameLine.{NameLine}
 use Rattle.sheet_arguments.specs.Requests.{CalendarsWanted, Task, all_have, in_columns}
 use Rattle.written_dates.specs.Fields.{without_blanks}
 use Rattle.written_dates.specs.declared.fields.CalendarMeaning.{CalendarMeaning}
+use Rattle.sheet_app.specs.CalendarWords.{SaysBy}
 
 -- at this index stands the first of these names of which this holds
 pub record IsFirst (Holds : Text → Type 0) (names : Fields) (index : ℕ) : Type 0 where
@@ -55,29 +56,31 @@ IsIdField names (Some word) field = (index : ℕ) × (field ≡ id.Column index)
 abbrev pub IsItsOwn : {A : Type 0} → List A → ℕ → A → Type 0
 IsItsOwn xs index x = ((length xs ≡ 1) × (slice_get xs 0 ≡ Some x)) ⊎ ((length xs ≢ 1) × (slice_get xs index ≡ Some x))
 
--- what a word says for empty fields, if there is one
-abbrev pub SaysElse : Option Text → Option CalendarMeaning → Type 0
-SaysElse None meant = meant ≡ None
-SaysElse (Some word) meant = (meaning : CalendarMeaning) × (meant ≡ Some meaning) × SaysCalendar word meaning
+-- what a word says for empty fields by the names of these lines, if there is one
+abbrev pub SaysElse : List NameLine → Option Text → Option CalendarMeaning → Type 0
+SaysElse lines None meant = meant ≡ None
+SaysElse lines (Some word) meant = (meaning : CalendarMeaning) × (meant ≡ Some meaning) × SaysBy lines word meaning
 
 -- the calendars of the column of dates at an index
-abbrev pub IsCalendarField : Fields → CalendarsWanted → ℕ → CalendarField → Type 0
-IsCalendarField names (in_columns words otherwise) index field =
+abbrev pub IsCalendarField : List NameLine → Fields → CalendarsWanted → ℕ → CalendarField → Type 0
+IsCalendarField lines names (in_columns words otherwise) index field =
     (word : Text) × IsItsOwn words index word × (column : CalendarColumn) × (field ≡ calendar.Column column)
-    × IsColumn names word column.place × SaysElse otherwise column.otherwise
-IsCalendarField names (all_have words) index field =
+    × IsColumn names word column.place × SaysElse lines otherwise column.otherwise
+IsCalendarField lines names (all_have words) index field =
     (word : Text) × IsItsOwn words index word × (meaning : CalendarMeaning) × (field ≡ calendar.All meaning)
-    × SaysCalendar word meaning
+    × SaysBy lines word meaning
 
 -- the column of dates at an index
-pub record IsDateColumn (names : Fields) (task : Task) (index : ℕ) (column : DateColumn) : Type 0 where
+pub record IsDateColumn (lines : List NameLine) (names : Fields) (task : Task) (index : ℕ) (column : DateColumn)
+    : Type 0 where
   pub word : Text
   pub asked : slice_get task.dates index ≡ Some word
   pub date : IsColumn names word column.date
-  pub calendar : IsCalendarField names task.calendars index column.calendar
+  pub calendar : IsCalendarField lines names task.calendars index column.calendar
 
--- the columns of dates that are asked for
-pub record AreDateColumns (names : Fields) (task : Task) (columns : List DateColumn) : Type 0 where
+-- the columns of dates that are asked for, by the names of these lines
+pub record AreDateColumns (lines : List NameLine) (names : Fields) (task : Task) (columns : List DateColumn)
+    : Type 0 where
   pub as_many : length columns ≡ length task.dates
   pub each : (index : ℕ) (column : DateColumn) → slice_get columns index ≡ Some column
-      → IsDateColumn names task index column
+      → IsDateColumn lines names task index column

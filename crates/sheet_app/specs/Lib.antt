@@ -1,3 +1,4 @@
+pub mod CalendarWords
 pub mod Columns
 pub mod FileSheets
 pub mod SheetFaults

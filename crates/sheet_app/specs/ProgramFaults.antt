@@ -8,6 +8,7 @@ use Rattle.register_sheets.specs.declared.name_lists.NameListFault.{NameListFaul
 use Rattle.register_sheets.specs.declared.name_lists.NameListFault.TheVariants as list_fault
 use Rattle.sheet_arguments.specs.Faults.{error_line, fault_of_error, memory_line, program_line, status_of_fault}
 use Rattle.sheet_arguments.specs.Requests.{IsFaultOf, MeanJust, Task}
+use Rattle.sheet_app.specs.CalendarWords.{calendar_words}
 use Rattle.sheet_app.specs.FileSheets.{outputs_of}
 use Rattle.sheet_app.specs.declared.file_sheets.FileFault.{FileFault}
 use Rattle.sheet_app.specs.declared.file_sheets.FileFault.TheVariants as file_fault
@@ -26,18 +27,23 @@ abbrev pub IsFaultOfTask : Task → ProgramFault → Type 0
 IsFaultOfTask task (program_fault.Files fault) = IsFaultOfFiles task fault
 IsFaultOfTask task (program_fault.UnreadList file) = Contains task.names file.now
 IsFaultOfTask task (program_fault.NoList file fault) = Contains task.names file.now
+IsFaultOfTask task (program_fault.UnknownCalendar word) = ⊥
 IsFaultOfTask task program_fault.OutOfMemory = ⊤
 IsFaultOfTask task (program_fault.Arguments error) = ⊥
 
--- nothing is done for this reason: the arguments are wrong, memory ran out, or the task that they ask for is not begun
+-- nothing is done for this reason: the arguments are wrong, memory ran out, or the task that they ask for is not begun, or
+-- has a word for calendars that is not known
 abbrev pub IsFaultOfAsked : List Text → ProgramFault → Type 0
 IsFaultOfAsked arguments (program_fault.Arguments error) = IfSome (fault_of_error error) (IsFaultOf arguments)
 IsFaultOfAsked arguments program_fault.OutOfMemory = ⊤
+IsFaultOfAsked arguments (program_fault.UnknownCalendar word) =
+    (task : Task) × MeanJust arguments (work task) × Contains (calendar_words task.calendars) word.now
 IsFaultOfAsked arguments fault = (task : Task) × MeanJust arguments (work task) × IsFaultOfTask task fault
 
--- 2 for what is wrong with the arguments, and 3 for the rest
+-- 2 for what is wrong with the arguments, also by the lists of names, and 3 for the rest
 abbrev pub fault_status : ProgramFault → ℕ
 fault_status (program_fault.Arguments error) = status_of_fault error
+fault_status (program_fault.UnknownCalendar word) = 2
 fault_status other = 3
 
 -- the line on a list of names that is none
@@ -60,4 +66,5 @@ fault_line (program_fault.Files (file_fault.CannotMake name)) =
 fault_line (program_fault.Files file_fault.OutOfMemory) = Some memory_line
 fault_line (program_fault.UnreadList file) = Some (program_line (codes "cannot read " ++ file.now))
 fault_line (program_fault.NoList file fault) = Some (list_line file.now fault)
+fault_line (program_fault.UnknownCalendar word) = Some (program_line (codes "unknown calendar: " ++ word.now))
 fault_line program_fault.OutOfMemory = Some memory_line

@@ -17,10 +17,13 @@ use Rattle.register_sheets.specs.declared.name_lists.NameLine.{NameLine}
 use Rattle.register_sheets.specs.declared.sheet_ends.SheetCause.{SheetCause}
 use Rattle.sheet_arguments.specs.Requests.{Task}
 use Rattle.sheet_arguments.specs.WordLists.{columns_asked}
+use Rattle.sheet_app.specs.CalendarWords.{SaysNothing}
 use Rattle.sheet_app.specs.SheetFaults.{fault_by}
 use Rattle.sheet_app.specs.Sheets.{AreRegistersBy, IsBroken, IsChoiceFor, IsEnded, IsSheetBy, records_by}
 use Rattle.sheet_app.specs.declared.file_sheets.FileFault.{FileFault}
 use Rattle.sheet_app.specs.declared.file_sheets.FileFault.TheVariants as file_fault
+use Rattle.sheet_app.specs.declared.program_faults.ProgramFault.{ProgramFault}
+use Rattle.sheet_app.specs.declared.program_faults.ProgramFault.TheVariants as program_fault
 use Rattle.sheet_app.specs.declared.sheet_faults.SheetFault.{SheetFault}
 use Rattle.sheet_app.specs.declared.sheet_faults.SheetFault.TheVariants as fault
 use Rattle.sheet_app.specs.declared.sheets.SheetDone.{SheetDone}
@@ -95,3 +98,9 @@ pub record IsTask (task : Task) : Type 0 where
   pub delimited : is_delimiter task.delimiter ≡ true
   pub list : Option Text
   pub columns : columns_asked list ≡ Ok task.columns
+
+-- memory ran out, or one of these words says nothing of the calendar of dates by the names of these lines
+abbrev pub IsOfWords : List NameLine → List Text → ProgramFault → Type 0
+IsOfWords lines words (program_fault.UnknownCalendar word) = Contains words word.now × SaysNothing lines word.now
+IsOfWords lines words program_fault.OutOfMemory = ⊤
+IsOfWords lines words other = ⊥

@@ -45,20 +45,20 @@ IsFaultOfText text why = IsFaultOf (text_records 44 text) why
 abbrev pub names_of : Task → List ℕ → Fields
 names_of task sheet = get_or (text_records task.delimiter sheet) task.skip []
 
--- this is what a task asks of a sheet whose columns have these names
-pub record IsAskedOf (task : Task) (names : Fields) (asked : SheetAsked) : Type 0 where
+-- this is what a task asks of a sheet whose columns have these names, by the names of these lines
+pub record IsAskedOf (task : Task) (lines : List NameLine) (names : Fields) (asked : SheetAsked) : Type 0 where
   pub delimiter : asked.delimiter ≡ task.delimiter
   pub above : asked.above ≡ task.skip
   pub id : IsIdField names task.id asked.id
   pub reading : asked.reading ≡ task.reading
   pub spans : asked.spans ≡ task.spans
-  pub dates : AreDateColumns names task asked.dates
+  pub dates : AreDateColumns lines names task asked.dates
   pub columns : asked.columns ≡ task.columns
 
 -- the choice is what a task asks of a sheet, by the names of these lines
 pub record IsChoiceFor (task : Task) (lines : List NameLine) (sheet : List ℕ) (choice : SheetChoice) : Type 0 where
   pub asked : SheetAsked
-  pub is_asked : IsAskedOf task (names_of task sheet) asked
+  pub is_asked : IsAskedOf task lines (names_of task sheet) asked
   pub listed : IsListedChoice asked lines sheet choice
   pub is_choice : IsChoice choice
 

@@ -4,14 +4,13 @@ ghost use Rattle.std.specs.Prelude.{◌≡◌, ◌≤◌, ◌^◌, ◌⊎◌, �
 ghost use Rattle.csv.specs.Records.{fields_of};
 ghost use Rattle.sheet_arguments.specs.Requests.{task_of};
 ghost use Rattle.sheet_app.specs.Columns.{AreDateColumns, HoldsOfNone, IsBareWord, IsCalendarField, IsColumn, IsFirst};
-ghost use Rattle.register_sheets.specs.NameMeanings.{SaysCalendar};
+ghost use Rattle.sheet_app.specs.CalendarWords.{SaysBy};
 ghost use Rattle.sheet_app.specs.Columns.{IsIdField, IsItsOwn, IsWord, NamesNoColumn, SaysElse};
 
+use crate::calendar_words::calendar_by;
 use command_lines::number_named;
 use csv::ByteRecord;
-use register_sheets::{
-    CalendarColumn, CalendarField, DateColumn, IdField, calendar_said, field_at,
-};
+use register_sheets::{CalendarColumn, CalendarField, DateColumn, IdField, NameList, field_at};
 use sheet_arguments::{CalendarsAsked, Job};
 use std::alloc::{AllocError, Global};
 use written_dates::{CalendarMeaning, without_blanks};
@@ -116,33 +115,44 @@ fn word_at<'a>(words: &[&'a str], index: usize) -> Option<&'a str>
     words.get(index).copied()
 }
 
-/// What a word says of the calendar of dates.
-fn meaning_said(word: &str) -> Result<CalendarMeaning, ColumnFault<'_>>
-    ensures { IfOk result (SaysCalendar word.entry.now) }
+/// What a word says of the calendar of dates by the names of a list.
+fn meaning_said<'a>(
+    alloc: Global,
+    list: &NameList,
+    word: &'a str,
+) -> Result<CalendarMeaning, ColumnFault<'a>>
+    ensures { IfOk result (SaysBy list.now.lines.items word.entry.now) }
 {
-    match calendar_said(word) {
+    match calendar_by(alloc, list, word)? {
         Some(meaning) => Ok(meaning),
         None => Err(ColumnFault::NoColumn(word)),
     }
 }
 
-/// What a word says for empty fields, if there is one.
-fn otherwise_said<'a>(word: Option<&'a str>) -> Result<Option<CalendarMeaning>, ColumnFault<'a>>
-    ensures { IfOk result (SaysElse (option_map (λ w. w.now) word.entry)) }
+/// What a word says for empty fields by the names of a list, if there is one.
+fn otherwise_said<'a>(
+    alloc: Global,
+    list: &NameList,
+    word: Option<&'a str>,
+) -> Result<Option<CalendarMeaning>, ColumnFault<'a>>
+    ensures { IfOk result (SaysElse list.now.lines.items (option_map (λ w. w.now) word.entry)) }
 {
     match word {
-        Some(word) => Ok(Some(meaning_said(word)?)),
+        Some(word) => Ok(Some(meaning_said(alloc, list, word)?)),
         None => Ok(None),
     }
 }
 
-/// Where the calendars of the column of dates at an index are.
+/// Where the calendars of the column of dates at an index are, by the names of a list.
 fn calendar_named<'a>(
+    alloc: Global,
+    list: &NameList,
     names: &ByteRecord,
     job: &Job<'a>,
     index: usize,
 ) -> Result<CalendarField, ColumnFault<'a>>
-    ensures { IfOk result (λ field. IsCalendarField (fields_of names.now) (task_of job.now).calendars index field) }
+    ensures { IfOk result (λ field.
+        IsCalendarField list.now.lines.items (fields_of names.now) (task_of job.now).calendars index field) }
 {
     match &job.calendars {
         CalendarsAsked::Columns(words, otherwise) => {
@@ -152,23 +162,25 @@ fn calendar_named<'a>(
             let Some(place) = column_named(names, word) else {
                 return Err(ColumnFault::NoColumn(word));
             };
-            let otherwise = otherwise_said(*otherwise)?;
+            let otherwise = otherwise_said(alloc, list, *otherwise)?;
             Ok(CalendarField::Column(CalendarColumn { place, otherwise }))
         }
         CalendarsAsked::All(words) => match word_at(words.as_slice(), index) {
-            Some(word) => Ok(CalendarField::All(meaning_said(word)?)),
+            Some(word) => Ok(CalendarField::All(meaning_said(alloc, list, word)?)),
             None => Err(ColumnFault::NoColumn("")),
         },
     }
 }
 
-/// The columns of dates that a job asks for, in a sheet with these names.
+/// The columns of dates that a job asks for, in a sheet with these names, by the names of a list.
 pub fn dates_named<'a>(
     alloc: Global,
+    list: &NameList,
     names: &ByteRecord,
     job: &Job<'a>,
 ) -> Result<Vec<DateColumn>, ColumnFault<'a>>
-    ensures { IfOk result (λ dates. AreDateColumns (fields_of names.now) (task_of job.now) dates.items) }
+    ensures { IfOk result (λ dates.
+        AreDateColumns list.now.lines.items (fields_of names.now) (task_of job.now) dates.items) }
 {
     let mut dates = Vec::new(alloc);
     'dates: for index in 0..job.dates.len() {
@@ -176,7 +188,7 @@ pub fn dates_named<'a>(
         let Some(date) = column_named(names, word) else {
             return Err(ColumnFault::NoColumn(word));
         };
-        let calendar = calendar_named(names, job, index)?;
+        let calendar = calendar_named(alloc, list, names, job, index)?;
         if dates.push(DateColumn { date, calendar }).is_err() {
             return Err(ColumnFault::OutOfMemory);
         }

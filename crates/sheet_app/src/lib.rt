@@ -3,6 +3,7 @@
 //! built-in list of names.
 #![tactic(auto)]
 
+mod calendar_words;
 mod columns;
 mod converting;
 mod file_sheets;

@@ -11,12 +11,14 @@ ghost use Rattle.register_sheets.specs.declared.name_lists.NameLine.{NameLine as
 ghost use Rattle.sheet_arguments.specs.Faults.{memory_line};
 ghost use Rattle.sheet_arguments.specs.Requests.{AreWrong, MeanJust, Task as TaskValue, task_of};
 ghost use Rattle.sheet_app.specs.Answers.{AreFilesAnswered, AreListsIn, AreNamesOf, IsInputAnswered, IsInputConverted};
-ghost use Rattle.sheet_app.specs.Answers.{IsListIn, IsPageAnswered, IsPrinted, IsReported, version_line};
+ghost use Rattle.sheet_app.specs.Answers.{IsListIn, IsPageAnswered, IsPrinted, IsReported, IsUnknown};
+ghost use Rattle.sheet_app.specs.Answers.{IsFaultOfStart, NameUnknown, version_line};
 ghost use Rattle.sheet_app.specs.EndedSheets.{AreReported, Gives, IsEndedSheet, ended_name, is_complete};
 ghost use Rattle.sheet_app.specs.FileSheets.{AreApartOutputs, IsNewSheet, register_endings, sheet_name};
 ghost use Rattle.sheet_app.specs.SheetViews.{IsTask};
 ghost use Rattle.sheet_app.specs.ProgramFaults.{IsFaultOfAsked, IsFaultOfTask, fault_status};
 
+use crate::calendar_words::check_calendars;
 use crate::converting::{EndedSheet, are_complete, convert_all, convert_input};
 use crate::file_sheets::{FileFault, FileSheet, open_sheets};
 use crate::name_lists::push_list;
@@ -236,7 +238,7 @@ struct Prepared<'a, R, W> {
     room: Vec<EndedSheet<'a, W>>,
 }
 
-/// Reads the lists of names, opens all files, and then makes the outputs.
+/// Reads the lists of names, looks up the calendars that the job names, opens all files, and then makes the outputs.
 fn prepare<'a, R: Read + Drop, W: Output + Drop, P: FileStore<R, W>>(
     alloc: Global,
     built: &[u8],
@@ -251,9 +253,10 @@ fn prepare<'a, R: Read + Drop, W: Output + Drop, P: FileStore<R, W>>(
     ensures apart { OnOk result (AreApartOutputs (P.are_apart store.now) (task_of job.now)) }
     ensures room { IfOk result (λ prepared. (prepared.room.items ≡ [])
         × (vec_len prepared.sheets ≤ vec_capacity prepared.room)) }
-    ensures fault { IfErr result (IsFaultOfTask (task_of job.now)) }
+    ensures fault { IfErr result (IsFaultOfStart R.Read (P.is_opened store.now) (task_of job.now) built.now) }
 {
     let list = read_list(alloc, built, store, job)?;
+    check_calendars(alloc, &list, job)?;
     let sheets = match open_sheets(alloc, store, job) {
         Ok(sheets) => sheets,
         Err(fault) => return Err(ProgramFault::Files(fault)),
@@ -314,9 +317,11 @@ fn run_job<'a, R: Read + Drop, W: Output + Drop, P: FileStore<R, W>, E: Output>(
         (task_of job.now) lines) result.sheets.items
         × ((result.status ≡ 0) ↔ All (λ sheet. is_complete sheet ≡ true) result.sheets.items)
         × AreReported E.Output (task_of job.now) result.sheets.items errors.old errors.new }
-    ensures statuses { (result.status ≡ 0) ⊎ (result.status ≡ 1) ⊎ (result.status ≡ 3) }
-    ensures untouched { result.status ≡ 3 → result.output ≡ output }
-    ensures reported { result.status ≡ 3 → E.has_failed errors.new ≡ false → (arguments : List (List ℕ))
+    ensures statuses { result.status ≤ 3 }
+    ensures unknown { result.status ≡ 2 → (word : List ℕ)
+        × IsUnknown R.Read (P.is_opened store.now) (task_of job.now) built.now word }
+    ensures untouched { 2 ≤ result.status → result.output ≡ output }
+    ensures reported { 2 ≤ result.status → E.has_failed errors.new ≡ false → (arguments : List (List ℕ))
         → MeanJust arguments (work (task_of job.now))
         → IsReported arguments result.status (E.contents errors.old) (E.contents errors.new) }
     ensures errors_mark { E.own_mark errors.new ≡ E.own_mark errors.old }
@@ -345,7 +350,8 @@ fn run_job<'a, R: Read + Drop, W: Output + Drop, P: FileStore<R, W>, E: Output>(
 /// - 0 where all sheets were converted, refused dates included, or a page was printed;
 /// - 1 where a sheet broke off or an output has not got its name, with a line for each such sheet in order, where there
 ///   was no memory for a line, or where the page could not be printed;
-/// - 2 where the arguments were refused, with one line of the program's own or the text of clap;
+/// - 2 where the arguments were refused, or name a calendar that no list of names knows, with one line of the program's own
+///   or the text of clap;
 /// - 3 where a file could not be opened or made, an output would go to an input or to the file of another output, the list
 ///   of names is none, or memory ran out before the first sheet was read, with one line.
 ///
@@ -375,8 +381,11 @@ pub fn answer<'a, R: Read + Drop, W: Output + Drop, P: FileStore<R, W>, E: Outpu
         (P.are_apart store.now) (map string_bytes arguments.entry.now) built.now result.status output result.output
         result.sheets.items errors.old errors.new }
 
-    // Unless the status is 3, arguments are refused exactly where something is wrong with them.
-    ensures refused { result.status ≢ 3 → (result.status ≡ 2) ↔ AreWrong (map string_bytes arguments.entry.now) }
+    // Unless the status is 3, arguments with which something is wrong are refused; and only these, or those that name a
+    // calendar which no list of names knows.
+    ensures refused { result.status ≢ 3 → AreWrong (map string_bytes arguments.entry.now) → result.status ≡ 2 }
+    ensures only { result.status ≡ 2 → AreWrong (map string_bytes arguments.entry.now)
+        ⊎ NameUnknown R.Read (P.is_opened store.now) (map string_bytes arguments.entry.now) built.now }
     // Where nothing is done, standard error has gained the line on why, unless it failed.
     ensures reported { 2 ≤ result.status → E.has_failed errors.new ≡ false
         → IsReported (map string_bytes arguments.entry.now) result.status (E.contents errors.old) (E.contents errors.new) }

@@ -19,6 +19,8 @@ pub enum ProgramFault<'a> {
     UnreadList(&'a str),
     /// The file is no list of names.
     NoList(&'a str, NameListFault),
+    /// A word says nothing of the calendar of dates by any list of names, as it was given.
+    UnknownCalendar(&'a str),
     /// Memory ran out.
     OutOfMemory,
 }
@@ -43,13 +45,14 @@ fn list_line(alloc: Global, file: &str, fault: NameListFault) -> Result<String, 
 impl ProgramFault<'_> {
     ghost use Rattle.sheet_app.specs.ProgramFaults.{fault_line, fault_status};
 
-    /// The exit status: 2 for what is wrong with the arguments, and 3 for files, for a list of names, and where memory ran
-    /// out.
+    /// The exit status: 2 for what is wrong with the arguments, also by the lists of names, and 3 for files, for a list of
+    /// names, and where memory ran out.
     pub fn status(&self) -> u8
         ensures { result ≡ fault_status self.now }
     {
         match self {
             ProgramFault::Arguments(fault) => fault.status(),
+            ProgramFault::UnknownCalendar(_) => 2,
             _ => 3,
         }
     }
@@ -74,6 +77,7 @@ impl ProgramFault<'_> {
             }
             ProgramFault::UnreadList(file) => own_line(alloc, "cannot read ", file),
             ProgramFault::NoList(file, fault) => list_line(alloc, file, *fault),
+            ProgramFault::UnknownCalendar(word) => own_line(alloc, "unknown calendar: ", word),
             ProgramFault::Files(FileFault::OutOfMemory) | ProgramFault::OutOfMemory => {
                 String::from_str(alloc, MEMORY_FAULT)
             }

@@ -58,20 +58,22 @@ pub enum SheetDone<'a> {
     Broken(SheetFault<'a>),
 }
 
-/// What a job asks of a sheet with these names.
+/// What a job asks of a sheet with these names, by the names of a list.
 fn asked_by_names<'a>(
     alloc: Global,
+    list: &NameList,
     names: ByteRecord,
     job: &Job<'a>,
 ) -> Result<AskedOfSheet, SheetFault<'a>>
-    ensures asked { IfOk result (λ asked. IsAskedOf (task_of job.now) (fields_of names) (asked_in asked)) }
+    ensures asked { IfOk result (λ asked. IsAskedOf (task_of job.now) list.now.lines.items (fields_of names)
+        (asked_in asked)) }
     ensures fault { IfErr result IsOfColumns }
 {
     let id = match id_named(&names, job.id) {
         Ok(id) => id,
         Err(fault) => return Err(fault_of_columns(fault, names)),
     };
-    let dates = match dates_named(alloc, &names, job) {
+    let dates = match dates_named(alloc, list, &names, job) {
         Ok(dates) => dates,
         Err(fault) => return Err(fault_of_columns(fault, names)),
     };
@@ -86,15 +88,20 @@ fn asked_by_names<'a>(
     })
 }
 
-/// What a job asks of a sheet.
-fn asked_of<'a>(alloc: Global, sheet: &[u8], job: &Job<'a>) -> Result<AskedOfSheet, SheetFault<'a>>
-    ensures asked { IfOk result (λ asked. IsAskedOf (task_of job.now) (names_of (task_of job.now) sheet.now)
-        (asked_in asked)) }
+/// What a job asks of a sheet, by the names of a list.
+fn asked_of<'a>(
+    alloc: Global,
+    sheet: &[u8],
+    list: &NameList,
+    job: &Job<'a>,
+) -> Result<AskedOfSheet, SheetFault<'a>>
+    ensures asked { IfOk result (λ asked. IsAskedOf (task_of job.now) list.now.lines.items
+        (names_of (task_of job.now) sheet.now) (asked_in asked)) }
     ensures fault { IfErr result (λ fault. IsOfColumns fault ⊎ ((fault ≡ SheetFault.NoNames)
         × (length (text_records job.now.delimiter sheet.now) ≤ job.now.skip))) }
 {
     match head_record(alloc, sheet, job.delimiter, job.skip)? {
-        Some(names) => asked_by_names(alloc, names, job),
+        Some(names) => asked_by_names(alloc, list, names, job),
         None => Err(SheetFault::NoNames),
     }
 }
@@ -223,7 +230,7 @@ fn write_asked<'b, W: Output>(
     ensures { IsEndedBy W.Output (task_of job.now) list.now.lines.items MOST_UNKNOWN sheet.now output.old output.new
         registers.old registers.new result }
 {
-    let asked = asked_of(alloc, sheet, job)?;
+    let asked = asked_of(alloc, sheet, list, job)?;
     let names = list.names(alloc)?;
     let calendars = list.calendar_names(alloc)?;
     let headings = asked.headings(alloc, sheet)?;

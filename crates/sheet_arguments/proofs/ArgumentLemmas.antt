@@ -1,5 +1,5 @@
 -- What the arguments of this program mean is one thing: what `MeaningLemmas` of `command_lines` wants to be shown.
-use Rattle.std.proofs.Common.{◌≡◌, ◌∙◌, Bool, true≢false, List, [], ◌∷◌, inl, inr, sym, rules, Result, Ok, Err}
+use Rattle.std.proofs.Common.{◌≡◌, ◌∙◌, Bool, true≢false, List, [], ◌∷◌, sym, rules, Result, Ok, Err}
 use Rattle.clap.specs.Words.{IsAmong, Text, fault_of}
 use Rattle.clap.specs.declared.error.kind.ErrorKind.{ErrorKind}
 use Rattle.command_lines.specs.Values.{delimiter_option}
@@ -9,10 +9,10 @@ use Rattle.command_lines.proofs.MeaningLemmas.{sound_option}
 use Rattle.sheet_arguments.specs.CommandLine.{Values, command_line, values_of}
 use Rattle.sheet_arguments.specs.Faults.{Fault, tree_at_odds}
 use Rattle.sheet_arguments.specs.OptionValues.{order_option, short_hebrew_option, short_option, skip_option}
-use Rattle.sheet_arguments.specs.Requests.{Ask, AskMeant, Task, calendar_check, false_check, given_checks, result_check}
+use Rattle.sheet_arguments.specs.Requests.{Ask, AskMeant, Task, false_check, given_checks, result_check}
 use Rattle.sheet_arguments.specs.Requests.{sheet_line, value_checks}
 use Rattle.sheet_arguments.specs.TreeValues.{is_at_odds, meant}
-use Rattle.sheet_arguments.specs.WordLists.{AreCalendarWords, IsFirstUnknown, columns_asked}
+use Rattle.sheet_arguments.specs.WordLists.{columns_asked}
 use Rattle.written_dates.specs.declared.written.Choice.{Choice}
 use Rattle.sheet_arguments.proofs.OptionLemmas.{one_order, one_short, one_short_hebrew, one_skip, same_order, same_short}
 
@@ -39,24 +39,8 @@ same_value result a b is same = cc
 sound_result : {A : Type 0} (result : Result A Fault) → IsSound (result_check result)
 sound_result result = record { one = same_fault result; none = λ f passes is. no_both result passes.0 f passes.1 is }
 
--- the first word that says no calendar is one, and there is none where all say one
-one_unknown : (words : List Text) (f g : Fault) → IsFirstUnknown words f → IsFirstUnknown words g → f ≡ g
-one_unknown [] f g is same = absurd is
-one_unknown (w ∷ words) f g (inl is) (inl same) = is.0 ∙ sym same.0
-one_unknown (w ∷ words) f g (inl is) (inr same) = absurd (is.1 same.0)
-one_unknown (w ∷ words) f g (inr is) (inl same) = absurd (same.1 is.0)
-one_unknown (w ∷ words) f g (inr is) (inr same) = one_unknown words f g is.1 same.1
-
-none_unknown : (words : List Text) (f : Fault) → AreCalendarWords words → IsFirstUnknown words f → ⊥
-none_unknown [] f said is = is
-none_unknown (w ∷ words) f said (inl is) = is.1 said.0
-none_unknown (w ∷ words) f said (inr is) = none_unknown words f said.1 is.1
-
-sound_calendars : (words : List Text) → IsSound (calendar_check words)
-sound_calendars words = record { one = one_unknown words; none = λ f said is. none_unknown words f said is }
-
 sound_checks : (values : Values) → AreSound (value_checks values)
-sound_checks values = search (rules, sound_false, sound_calendars, sound_result, sound_option, sound_files)
+sound_checks values = search (rules, sound_false, sound_result, sound_option, sound_files)
 
 -- values that ask for a task pass each check
 all_pass : (values : Values) (task : Task) → Ask values task → AllPass (value_checks values)

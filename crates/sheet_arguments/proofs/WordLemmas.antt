@@ -24,10 +24,8 @@ use Rattle.date_texts.specs.declared.target.Target.TheVariants.{Date, Haab, Tzol
 use Rattle.register_sheets.specs.Headings.{asked_name}
 use Rattle.register_sheets.specs.declared.choices.AskedColumn.{AskedColumn}
 use Rattle.register_sheets.specs.declared.choices.AskedColumn.TheVariants.{Cells, Church, DayNumber, Weekday}
-use Rattle.written_dates.specs.declared.fields.CalendarMeaning.{CalendarMeaning}
-use Rattle.register_sheets.specs.NameMeanings.{SaysCalendar}
-use Rattle.sheet_arguments.specs.Faults.{Fault, column_twice, unknown_calendar, unknown_column}
-use Rattle.sheet_arguments.specs.WordLists.{AreCalendarWords, IsCalendarWord, IsFirstUnknown, all_columns, column_named, is_among}
+use Rattle.sheet_arguments.specs.Faults.{Fault, column_twice, unknown_column}
+use Rattle.sheet_arguments.specs.WordLists.{all_columns, column_named, is_among}
 use Rattle.sheet_arguments.specs.WordLists.{or_fault}
 use Rattle.sheet_arguments.specs.WordLists.{is_column_name, names_in, with_columns}
 
@@ -109,32 +107,6 @@ cut_at [] i d lt = absurd (omega arith)
 cut_at (x ∷ xs) zero d lt = refl
 cut_at (x ∷ xs) (suc i) d lt = ap (λ (ys : List _). x ∷ ys) (cut_at xs i d (omega arith))
 
--- words before this one say calendars, and it does, or does not
-pub calendar_more : (words : List Text) (i : ℕ) (d : Text) → i < length words → AreCalendarWords (take i words)
-    → IsCalendarWord (get_or words i d) → AreCalendarWords (take (i + 1) words)
-calendar_more [] i d lt said is = absurd (omega arith)
-calendar_more (w ∷ words) zero d lt said is = (is, tt)
-calendar_more (w ∷ words) (suc i) d lt said is =
-    let next : suc i + 1 ≡ suc (i + 1) = omega arith in
-    rw next (said.0, calendar_more words i d (omega arith) said.1 is)
-
--- what is found of a word says whether it is one
-pub word_said : (found : Option CalendarMeaning) (word : Text) → is_some found ≡ true → IfSome found (SaysCalendar word)
-    → IsCalendarWord word
-word_said None word some says = absurd (cc)
-word_said (Some meaning) word some says = (meaning, says)
-
-pub word_unsaid : (found : Option CalendarMeaning) (word : Text) → is_some found ≡ false
-    → (found ≡ None → (meaning : CalendarMeaning) → ¬ (SaysCalendar word meaning)) → ¬ (IsCalendarWord word)
-word_unsaid None word some none is = none refl is.0 is.1
-word_unsaid (Some meaning) word some none is = absurd (cc)
-
-pub calendar_fault : (words : List Text) (i : ℕ) (d : Text) → i < length words → AreCalendarWords (take i words)
-    → ¬ (IsCalendarWord (get_or words i d)) → IsFirstUnknown words (unknown_calendar (get_or words i d))
-calendar_fault [] i d lt said none = absurd (omega arith)
-calendar_fault (w ∷ words) zero d lt said none = inl (refl, none)
-calendar_fault (w ∷ words) (suc i) d lt said none = inr (said.0, calendar_fault words i d (omega arith) said.1 none)
-
 module _ (before : List Text) (name : Text) (columns : List AskedColumn)
     (so_far : with_columns [] before ≡ Ok columns) where
   -- the next name names a column that was not named before
@@ -174,24 +146,3 @@ cut_behind names before i name place front = (
   cut_at names i name place.0
       ∙ ap₂ (λ (xs : List Text) (x : Text). xs ++ x ∷ drop (suc i) names) (sym front) (sym place.1),
 )
-
--- ---- words as a slice holds them
-
-module _ (words : List (Bor Text)) (i : ℕ) (d : Bor Text) (lt : i < length words)
-    (said : AreCalendarWords (take i (map (λ word. word.now) words))) where
-  low : i < length (map (λ (word : Bor Text). word.now) words)
-  low = rw (length-map words (λ (word : Bor Text). word.now)) lt
-
-  at : get_or (map (λ word. word.now) words) i [] ≡ (get_or words i d).now
-  at = get_or-map (λ word. word.now) words i d [] lt
-
-  pub calendar_more_at : IsCalendarWord (get_or words i d).now
-      → AreCalendarWords (take (i + 1) (map (λ word. word.now) words))
-  calendar_more_at is =
-      calendar_more (map (λ word. word.now) words) i [] low said (subst IsCalendarWord (sym at) is)
-
-  pub calendar_fault_at : ¬ (IsCalendarWord (get_or words i d).now)
-      → IsFirstUnknown (map (λ word. word.now) words) (unknown_calendar (get_or words i d).now)
-  calendar_fault_at none =
-      subst (λ (t : Text). IsFirstUnknown (map (λ word. word.now) words) (unknown_calendar t)) at
-      (calendar_fault (map (λ word. word.now) words) i [] low said (λ is. none (subst IsCalendarWord at is)))

@@ -12,7 +12,7 @@ use Rattle.sheet_arguments.specs.declared.request_faults.RequestFault.TheVariant
 
 -- what is wrong: the options are not written as they are taken, with a tree the columns or the form of a sheet are given,
 -- no column of dates is named or more than eight, the calendars are not as many, a calendar is said for empty fields of no
--- column, a word says no calendar, no order, no rule of short years, no number or no delimiter, a
+-- column, a word says no order, no rule of short years, no number or no delimiter, a
 -- name names no column or one twice, registers of standard input are asked for, there are more than 32 files, or a file
 -- is named twice
 pub data Fault : Type 0 where
@@ -22,7 +22,6 @@ pub data Fault : Type 0 where
   too_many_dates : Fault
   calendar_count : Fault
   else_alone : Fault
-  unknown_calendar : List ℕ → Fault
   unknown_order : List ℕ → Fault
   bad_short_years : List ℕ → Fault
   bad_short_hebrew_years : List ℕ → Fault
@@ -43,7 +42,6 @@ fault_of_error request_fault.NoDate = Some no_date
 fault_of_error request_fault.TooManyDates = Some too_many_dates
 fault_of_error request_fault.CalendarCount = Some calendar_count
 fault_of_error request_fault.ElseAlone = Some else_alone
-fault_of_error (request_fault.UnknownCalendar word) = Some (unknown_calendar word.now)
 fault_of_error (request_fault.UnknownOrder word) = Some (unknown_order word.now)
 fault_of_error (request_fault.BadShortYears word) = Some (bad_short_years word.now)
 fault_of_error (request_fault.BadShortHebrewYears word) = Some (bad_short_hebrew_years word.now)
@@ -83,7 +81,6 @@ error_line request_fault.TooManyDates = Some (program_line (codes "more than 8 c
 error_line request_fault.CalendarCount =
     Some (program_line (codes "give --calendar COLUMN or --all CALENDAR, once or once for each --date"))
 error_line request_fault.ElseAlone = Some (program_line (codes "--else is for --calendar"))
-error_line (request_fault.UnknownCalendar word) = Some (program_line (codes "unknown calendar: " ++ word.now))
 error_line (request_fault.UnknownOrder word) = Some (program_line (codes "unknown order: " ++ word.now))
 error_line (request_fault.BadShortYears word) = Some (program_line (codes "bad short years: " ++ word.now))
 error_line (request_fault.BadShortHebrewYears word) =

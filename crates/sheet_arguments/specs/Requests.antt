@@ -1,6 +1,6 @@
 -- What the arguments ask for.
 use Rattle.std.specs.Prelude.{◌≡◌, ◌==◌, ◌||◌, ◌&&◌, ℕ, Bool, true, false, List, [], ◌∷◌, length, map, nat_lt, not}
-use Rattle.std.specs.Prelude.{if◌then◌else◌, Option, is_some, option_map, option_to_list, Result, Ok, Err}
+use Rattle.std.specs.Prelude.{if◌then◌else◌, Option, is_some, option_map, Result, Ok, Err}
 use Rattle.clap.specs.Words.{Text}
 use Rattle.command_lines.specs.FileLists.{AreFilesToConvert}
 use Rattle.command_lines.specs.Meanings as lines
@@ -18,7 +18,7 @@ use Rattle.sheet_arguments.specs.Faults.{too_many_files, tree_at_odds, unknown_d
 use Rattle.sheet_arguments.specs.OptionValues.{order_number, order_option, short_hebrew_option, short_number}
 use Rattle.sheet_arguments.specs.OptionValues.{short_option, skip_option}
 use Rattle.sheet_arguments.specs.TreeValues.{is_at_odds, meant}
-use Rattle.sheet_arguments.specs.WordLists.{AreCalendarWords, IsFirstUnknown, columns_asked}
+use Rattle.sheet_arguments.specs.WordLists.{columns_asked}
 use Rattle.sheet_arguments.specs.declared.requests.CalendarsAsked.{CalendarsAsked}
 use Rattle.sheet_arguments.specs.declared.requests.CalendarsAsked.TheVariants as asked
 use Rattle.sheet_arguments.specs.declared.requests.Job.{Job}
@@ -88,8 +88,6 @@ pub record Ask (values : Values) (task : Task) : Type 0 where
   pub as_many : are_misfits (length values.dates) (length values.calendars) (length values.all) ≡ false
   pub not_alone : is_else_alone (length values.calendars) values.otherwise ≡ false
   pub calendars : task.calendars ≡ calendars_wanted values.calendars values.all values.otherwise
-  pub all_say : AreCalendarWords values.all
-  pub else_says : AreCalendarWords (option_to_list values.otherwise)
   pub id : task.id ≡ values.id
   pub order : IsValueOf order_option values.order (order_number task.reading.order)
   pub short_years : IsValueOf short_option values.short_years (short_number task.reading.short_years)
@@ -116,10 +114,6 @@ false_check holds fault = record { fails = λ f. (f ≡ fault) × (holds ≡ tru
 abbrev pub result_check : {A : Type 0} → Result A Fault → Check Fault
 result_check {A} result = record { fails = λ f. result ≡ Err f; passes = (a : A) × (result ≡ Ok a) }
 
--- the check of words that are to say calendars
-abbrev pub calendar_check : List Text → Check Fault
-calendar_check words = record { fails = IsFirstUnknown words; passes = AreCalendarWords words }
-
 -- the checks of values, in order
 abbrev pub value_checks : Values → List (Check Fault)
 value_checks values =
@@ -127,7 +121,6 @@ value_checks values =
     ∷ false_check (nat_lt date_limit (length values.dates)) too_many_dates
     ∷ false_check (are_misfits (length values.dates) (length values.calendars) (length values.all)) calendar_count
     ∷ false_check (is_else_alone (length values.calendars) values.otherwise) else_alone
-    ∷ calendar_check values.all ∷ calendar_check (option_to_list values.otherwise)
     ∷ option_check order_option unknown_order values.order
     ∷ option_check short_option bad_short_years values.short_years
     ∷ option_check short_hebrew_option bad_short_hebrew_years values.short_hebrew_years

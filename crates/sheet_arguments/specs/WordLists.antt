@@ -1,5 +1,5 @@
 -- What lists of words name.
-use Rattle.std.specs.Prelude.{◌≡◌, ◌==◌, ◌⊎◌, ⊤, ◌++◌, ◌∷◌, Bool, List, [], map, Option, Some, None, Result, Ok, Err, if◌then◌else◌}
+use Rattle.std.specs.Prelude.{◌≡◌, ◌==◌, ◌++◌, ◌∷◌, Bool, List, [], map, Option, Some, None, Result, Ok, Err, if◌then◌else◌}
 use Rattle.std.specs.List.{find, list_any, slice_split}
 use Rattle.std.specs.Str.{bytes_eq, str_to_ascii_lowercase}
 use Rattle.clap.specs.Words.{Text}
@@ -8,30 +8,14 @@ use Rattle.date_texts.specs.Trimmed.{trimmed}
 use Rattle.date_texts.specs.declared.target.Target.TheVariants as target
 use Rattle.date_texts.specs.declared.calendar.Calendar.TheVariants.{Gregorian}
 use Rattle.register_sheets.specs.Headings.{asked_name}
-use Rattle.register_sheets.specs.NameMeanings.{SaysCalendar}
-use Rattle.written_dates.specs.declared.fields.CalendarMeaning.{CalendarMeaning}
 use Rattle.register_sheets.specs.declared.choices.AskedColumn.{AskedColumn}
 use Rattle.register_sheets.specs.declared.choices.AskedColumn.TheVariants.{Cells, Church, DayNumber, Weekday}
-use Rattle.sheet_arguments.specs.Faults.{Fault, column_twice, unknown_calendar, unknown_column}
+use Rattle.sheet_arguments.specs.Faults.{Fault, column_twice, unknown_column}
 
 -- goes on with what there is, or ends with the fault where there is nothing
 abbrev pub or_fault : {A B : Type 0} → Fault → Option A → (A → Result B Fault) → Result B Fault
 or_fault fault None next = Err fault
 or_fault fault (Some a) next = next a
-
--- a word says something of the calendar of dates
-abbrev pub IsCalendarWord : Text → Type 0
-IsCalendarWord word = (meaning : CalendarMeaning) × SaysCalendar word meaning
-
-abbrev pub AreCalendarWords : List Text → Type 0
-AreCalendarWords [] = ⊤
-AreCalendarWords (word ∷ words) = IsCalendarWord word × AreCalendarWords words
-
--- the fault is the first of these words that says nothing of it
-abbrev pub IsFirstUnknown : List Text → Fault → Type 0
-IsFirstUnknown [] fault = ⊥
-IsFirstUnknown (word ∷ words) fault =
-    ((fault ≡ unknown_calendar word) × ¬ (IsCalendarWord word)) ⊎ (IsCalendarWord word × IsFirstUnknown words fault)
 
 -- the columns that there are
 abbrev pub all_columns : List AskedColumn

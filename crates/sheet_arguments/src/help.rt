@@ -25,8 +25,8 @@ Options:
                       --calendar, --all, --skip and --delimiter.
     --date COLUMN     where the dates are; once to eight times.
     --calendar COLUMN where their calendars are; or
-    --all CALENDAR    the calendar that they all have: a name as register has
-                      it, both (dates in both styles), or a change, as
+    --all CALENDAR    the calendar that they all have: any name of a list, as
+                      O.S., both (dates in both styles), or a change, as
                       julian/gregorian:1582-10-15 (Julian before that day).
                       One of both, once for all columns of dates or once for
                       each, in order.

@@ -1,7 +1,6 @@
 //! What the arguments of the program `register-sheet` ask for, and what is wrong with them.
 #![tactic(auto)]
 
-mod calendar_words;
 mod column_lists;
 mod help;
 mod option_values;

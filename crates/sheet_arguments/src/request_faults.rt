@@ -30,8 +30,6 @@ pub enum RequestFault<'a> {
     CalendarCount,
     /// There is `--else`, and no `--calendar`.
     ElseAlone,
-    /// A word that says nothing of the calendar of dates, as it was given.
-    UnknownCalendar(&'a str),
     /// An order that is none of the three words, as it was given.
     UnknownOrder(&'a str),
     /// A rule of short years that is none of the two words and no century from 100 to 2000, as it was given.
@@ -130,7 +128,6 @@ impl RequestFault<'_> {
                 "",
             ),
             RequestFault::ElseAlone => ("--else is for --calendar", ""),
-            RequestFault::UnknownCalendar(word) => ("unknown calendar: ", *word),
             RequestFault::UnknownOrder(word) => ("unknown order: ", *word),
             RequestFault::BadShortYears(word) => ("bad short years: ", *word),
             RequestFault::BadShortHebrewYears(word) => ("bad short Hebrew years: ", *word),

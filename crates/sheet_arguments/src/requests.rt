@@ -20,7 +20,6 @@ ghost use Rattle.sheet_arguments.specs.Requests.{AskMeant, given_checks};
 ghost use Rattle.sheet_arguments.specs.Requests.{AreSaidBy, FewDates, WordsAre, output_checks, value_checks, values_by};
 ghost use Rattle.sheet_arguments.specs.Requests.{spans_asked as spans_spec, wanted_by, word_checks};
 
-use crate::calendar_words::{check_calendars, check_otherwise};
 use crate::column_lists::chosen_columns;
 use crate::option_values::{
     chosen_delimiter, chosen_order, chosen_short_hebrew_years, chosen_short_years, chosen_skip,
@@ -346,7 +345,7 @@ fn outputs_fit<'a>(register: bool, files: &[&'a str]) -> Result<(), RequestFault
 ///
 /// # Errors
 ///
-/// The first that applies: `NoDate`, `TooManyDates`, `CalendarCount`, `ElseAlone`, `UnknownCalendar`, `UnknownOrder`,
+/// The first that applies: `NoDate`, `TooManyDates`, `CalendarCount`, `ElseAlone`, `UnknownOrder`,
 /// `BadShortYears`, `BadShortHebrewYears`, `BadSkip`, `UnknownDelimiter`, the faults of the list of columns as
 /// [`chosen_columns`] has them, `RegisterOfInput`, and the faults of the files as [`check_files`] has them; and
 /// `OutOfMemory` where memory runs out on the way.
@@ -356,8 +355,6 @@ fn chosen_job<'a>(alloc: Global, options: Options<'a>) -> Result<Job<'a>, Reques
         (FailFirst (value_checks (values_by options.entry)))) }
 {
     dates_fit(&options)?;
-    check_calendars(options.all.as_slice())?;
-    check_otherwise(options.otherwise)?;
     let reading = chosen_reading(&options.words)?;
     let columns = chosen_columns(alloc, options.to)?;
     outputs_fit(options.register, options.files.as_slice())?;

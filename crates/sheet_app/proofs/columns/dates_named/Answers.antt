@@ -17,6 +17,7 @@ dates-preserved c =
     let within : index < length words = omega (arith, c.dates-test.true, c.len-index-end.ensures) in
     let there : word ≡ get_or words index word = search rules in
     let pushed : c.push.new.self.items ≡ c.dates.dates.items ++ column ∷ [] = search rules in
-    one_more_date names task c.dates.dates.items c.push.new.self.items index column c.dates.invariant
-    (date_column names task index word.now column (asked_word words index word within there) c.in-Some.ensures.some
+    let lines = c.args.list.now.lines.items in
+    one_more_date lines names task c.dates.dates.items c.push.new.self.items index column c.dates.invariant
+    (date_column lines names task index word.now column (asked_word words index word within there) c.in-Some.ensures.some
     c.in_ok-calendar.ensures) pushed

@@ -10,7 +10,7 @@ use Rattle.sheet_arguments.specs.declared.requests.Request.{Request}
 use Rattle.sheet_arguments.specs.Faults.{fault_of_error}
 use Rattle.sheet_app.specs.Answers.{version_line}
 use Rattle.sheet_app.proofs.ListLemmas.{none_or_some}
-use Rattle.sheet_app.proofs.RefusedLemmas.{is_refused, is_wrong, never_refused}
+use Rattle.sheet_app.proofs.RefusedLemmas.{are_wrong, is_refused, is_wrong, never_wrong}
 use Rattle.sheet_app.proofs.TaskLemmas.{is_task}
 use Rattle.sheet_app.proofs.program.answer.Goals as goal
 
@@ -84,41 +84,50 @@ returns-in-Ok-Help-clause-refused g c =
     let arguments = map string_bytes c.args.arguments.now in
     let just : MeanJust arguments help = subst (λ (r : Request). MeanJust arguments (meaning_of r)) c.in-Ok-Help.field-0-is
     c.in-Ok-Help.ensures.asked in
-    λ had. never_refused arguments help c.print_page.result.status just (λ fault e. cc)
-    (λ two. elim c.print_page.ensures.statuses
-    [ inl zero ↦ absurd (omega (arith, two)) | inr one ↦ absurd (omega (arith, two, one)) ])
+    λ had is. absurd (never_wrong arguments help just (λ fault e. cc) is)
+
+pub returns-in-Ok-Help-clause-only : goal.returns-in-Ok-Help-clause-only
+returns-in-Ok-Help-clause-only g c = λ two. elim c.print_page.ensures.statuses
+    [ inl zero ↦ absurd (omega (arith, two, zero)) | inr one ↦ absurd (omega (arith, two, one)) ]
 
 pub returns-in-Ok-Version-clause-refused : goal.returns-in-Ok-Version-clause-refused
 returns-in-Ok-Version-clause-refused g c =
     let arguments = map string_bytes c.args.arguments.now in
     let just : MeanJust arguments version = subst (λ (r : Request). MeanJust arguments (meaning_of r)) c.in-Ok-Version.field-0-is
     c.in-Ok-Version.ensures.asked in
-    λ had. never_refused arguments version c.print_page-in-Ok-Version.result.status just (λ fault e. cc)
-    (λ two. elim c.print_page-in-Ok-Version.ensures.statuses
-    [ inl zero ↦ absurd (omega (arith, two)) | inr one ↦ absurd (omega (arith, two, one)) ])
+    λ had is. absurd (never_wrong arguments version just (λ fault e. cc) is)
+
+pub returns-in-Ok-Version-clause-only : goal.returns-in-Ok-Version-clause-only
+returns-in-Ok-Version-clause-only g c = λ two. elim c.print_page-in-Ok-Version.ensures.statuses
+    [ inl zero ↦ absurd (omega (arith, two, zero)) | inr one ↦ absurd (omega (arith, two, one)) ]
 
 never_high : {A : Type 0} (status : ℕ) → (status ≡ 0) ⊎ (status ≡ 1) → 2 ≤ status → A
 never_high status (inl zero) high = absurd (omega (arith, zero, high))
 never_high status (inr one) high = absurd (omega (arith, one, high))
-
-at_most_three : (status : ℕ) → 2 ≤ status → (status ≡ 0) ⊎ (status ≡ 1) ⊎ (status ≡ 3) → status ≡ 3
-at_most_three status high among = grind arith
-
-never_two : (status : ℕ) → (status ≡ 0) ⊎ (status ≡ 1) ⊎ (status ≡ 3) → status ≡ 2 → ⊥
-never_two status among two = grind arith
 
 pub returns-in-Ok-Convert-clause-refused : goal.returns-in-Ok-Convert-clause-refused
 returns-in-Ok-Convert-clause-refused g c =
     let just : MeanJust (map string_bytes c.args.arguments.now) (work (task_of c.in-Ok-Convert.job))
     = subst (λ (r : Request). MeanJust (map string_bytes c.args.arguments.now) (meaning_of r)) c.in-Ok-Convert.field-0-is
     c.in-Ok-Convert.ensures.asked in
-    λ had. never_refused _ _ c.run_job.result.status just (λ fault e. cc)
-    (never_two c.run_job.result.status c.run_job.ensures.statuses)
+    λ had is. absurd (never_wrong _ _ just (λ fault e. cc) is)
+
+pub returns-in-Ok-Convert-clause-only : goal.returns-in-Ok-Convert-clause-only
+returns-in-Ok-Convert-clause-only g c =
+    let just : MeanJust (map string_bytes c.args.arguments.now) (work (task_of c.in-Ok-Convert.job))
+    = subst (λ (r : Request). MeanJust (map string_bytes c.args.arguments.now) (meaning_of r)) c.in-Ok-Convert.field-0-is
+    c.in-Ok-Convert.ensures.asked in
+    λ two. let (word, unknown) = c.run_job.ensures.unknown two in
+    inr (task_of c.in-Ok-Convert.job, just, word, unknown)
 
 pub returns-in-Err-clause-refused : goal.returns-in-Err-clause-refused
 returns-in-Err-clause-refused g c =
-    λ had. is_refused (map string_bytes c.args.arguments.now) (fault_of_error c.in-Err.fault) c.refuse.result.status
-    c.in-Err.ensures.refused c.refuse.ensures.status had
+    λ had is. is_refused (fault_of_error c.in-Err.fault) c.refuse.result.status c.refuse.ensures.status had
+
+pub returns-in-Err-clause-only : goal.returns-in-Err-clause-only
+returns-in-Err-clause-only g c =
+    λ two. inl (are_wrong (map string_bytes c.args.arguments.now) (fault_of_error c.in-Err.fault) c.refuse.result.status
+    c.in-Err.ensures.refused c.refuse.ensures.status two)
 
 -- standard error: nothing of a page; that memory ran out or a file was missing; and else what is wrong
 pub returns-in-Ok-Help-clause-reported : goal.returns-in-Ok-Help-clause-reported
@@ -137,7 +146,7 @@ returns-in-Ok-Version-clause-untouched g c =
 
 pub returns-in-Ok-Convert-clause-untouched : goal.returns-in-Ok-Convert-clause-untouched
 returns-in-Ok-Convert-clause-untouched g c = λ high.
-    c.run_job.ensures.untouched (at_most_three c.run_job.result.status high c.run_job.ensures.statuses)
+    c.run_job.ensures.untouched high
 
 pub returns-in-Err-clause-untouched : goal.returns-in-Err-clause-untouched
 returns-in-Err-clause-untouched g c = λ high. c.refuse.ensures.untouched
@@ -147,7 +156,7 @@ returns-in-Ok-Convert-clause-reported g c = λ high good.
     let just : MeanJust (map string_bytes c.args.arguments.now) (work (task_of c.in-Ok-Convert.job))
     = subst (λ (r : Request). MeanJust (map string_bytes c.args.arguments.now) (meaning_of r)) c.in-Ok-Convert.field-0-is
     c.in-Ok-Convert.ensures.asked in
-    c.run_job.ensures.reported (at_most_three c.run_job.result.status high c.run_job.ensures.statuses) good
+    c.run_job.ensures.reported high good
     (map string_bytes c.args.arguments.now) just
 
 pub returns-in-Err-clause-reported : goal.returns-in-Err-clause-reported

@@ -3,36 +3,49 @@ use Rattle.std.proofs.Common.{rules, ◌≡◌, ◌≤◌, ◌⊎◌, ◌↔◌,
 use Rattle.sheet_arguments.specs.Requests.{task_of}
 use Rattle.sheet_app.specs.EndedSheets.{is_complete}
 use Rattle.sheet_app.specs.declared.converting.EndedSheet.{EndedSheet}
-use Rattle.sheet_app.proofs.FaultLemmas.{gives_three, of_asked}
+use Rattle.sheet_app.proofs.StartLemmas.{gives_three, of_asked}
 use Rattle.sheet_app.proofs.ListLemmas.{ends_all, ends_named, no_names, some_names}
 use Rattle.sheet_app.proofs.program.run_job.Goals as goal
 
 -- nothing is done where the job is not begun
-is_three : {A : Type 0} → (status : ℕ) → status ≡ 3 → status ≤ 1 → A
-is_three status three low = absurd (omega (arith, three, low))
+is_high : {A : Type 0} → (status : ℕ) → 2 ≤ status → status ≤ 1 → A
+is_high status high low = absurd (omega (arith, high, low))
 
-not_three : {A : Type 0} (status : ℕ) → (status ≡ 0) ⊎ (status ≡ 1) → status ≡ 3 → A
-not_three status (inl zero) three = absurd (omega (arith, zero, three))
-not_three status (inr one) three = absurd (omega (arith, one, three))
+not_high : {A : Type 0} (status : ℕ) → (status ≡ 0) ⊎ (status ≡ 1) → 2 ≤ status → A
+not_high status (inl zero) high = absurd (omega (arith, zero, high))
+not_high status (inr one) high = absurd (omega (arith, one, high))
+
+not_two : {A : Type 0} (status : ℕ) → (status ≡ 0) ⊎ (status ≡ 1) → status ≡ 2 → A
+not_two status (inl zero) two = absurd (omega (arith, zero, two))
+not_two status (inr one) two = absurd (omega (arith, one, two))
 
 pub returns-in-Err-clause-input : goal.returns-in-Err-clause-input
 returns-in-Err-clause-input g c =
-    is_three c.refuse.result.status
-    (gives_three (task_of c.args.job.now) c.in-Err.why _ c.in-Err.ensures.fault c.refuse.ensures.status)
+    is_high c.refuse.result.status
+    (gives_three g.R.Read (g.P.FileStore.is_opened c.args.store.now) (task_of c.args.job.now) c.args.built.now
+    c.in-Err.why _ c.in-Err.ensures.fault c.refuse.ensures.status).0
 
 pub returns-in-Err-clause-files : goal.returns-in-Err-clause-files
 returns-in-Err-clause-files g c =
-    is_three c.refuse.result.status
-    (gives_three (task_of c.args.job.now) c.in-Err.why _ c.in-Err.ensures.fault c.refuse.ensures.status)
+    is_high c.refuse.result.status
+    (gives_three g.R.Read (g.P.FileStore.is_opened c.args.store.now) (task_of c.args.job.now) c.args.built.now
+    c.in-Err.why _ c.in-Err.ensures.fault c.refuse.ensures.status).0
 
 pub returns-in-Err-clause-statuses : goal.returns-in-Err-clause-statuses
 returns-in-Err-clause-statuses g c =
-    inr (inr (gives_three (task_of c.args.job.now) c.in-Err.why _ c.in-Err.ensures.fault c.refuse.ensures.status))
+    (gives_three g.R.Read (g.P.FileStore.is_opened c.args.store.now) (task_of c.args.job.now) c.args.built.now
+    c.in-Err.why _ c.in-Err.ensures.fault c.refuse.ensures.status).1
+
+pub returns-in-Err-clause-unknown : goal.returns-in-Err-clause-unknown
+returns-in-Err-clause-unknown g c =
+    (gives_three g.R.Read (g.P.FileStore.is_opened c.args.store.now) (task_of c.args.job.now) c.args.built.now
+    c.in-Err.why _ c.in-Err.ensures.fault c.refuse.ensures.status).2
 
 pub returns-in-Err-clause-reported : goal.returns-in-Err-clause-reported
-returns-in-Err-clause-reported g c = λ three good arguments just.
+returns-in-Err-clause-reported g c = λ high good arguments just.
     c.refuse.ensures.reported arguments
-    (of_asked arguments (task_of c.args.job.now) c.in-Err.why just c.in-Err.ensures.fault) good
+    (of_asked g.R.Read (g.P.FileStore.is_opened c.args.store.now) (task_of c.args.job.now) c.args.built.now arguments
+    c.in-Err.why just c.in-Err.ensures.fault) good
 
 pub returns-then-is_empty-clause-files : goal.returns-then-is_empty-clause-files
 returns-then-is_empty-clause-files g c = λ low some.
@@ -42,10 +55,13 @@ returns-then-is_empty-clause-files g c = λ low some.
 
 pub returns-then-is_empty-clause-statuses : goal.returns-then-is_empty-clause-statuses
 returns-then-is_empty-clause-statuses g c =
-    elim c.run_input.ensures.statuses [ inl zero ↦ inl zero | inr one ↦ inr (inl one) ]
+    elim c.run_input.ensures.statuses [ inl zero ↦ omega (arith, zero) | inr one ↦ omega (arith, one) ]
+
+pub returns-then-is_empty-clause-unknown : goal.returns-then-is_empty-clause-unknown
+returns-then-is_empty-clause-unknown g c = not_two c.run_input.result.status c.run_input.ensures.statuses
 
 pub returns-then-is_empty-clause-reported : goal.returns-then-is_empty-clause-reported
-returns-then-is_empty-clause-reported g c = not_three c.run_input.result.status c.run_input.ensures.statuses
+returns-then-is_empty-clause-reported g c = not_high c.run_input.result.status c.run_input.ensures.statuses
 
 pub returns-clause-input : goal.returns-clause-input
 returns-clause-input g c = λ low none.
@@ -75,20 +91,23 @@ returns-clause-files g c = λ low some.
 
 pub returns-clause-statuses : goal.returns-clause-statuses
 returns-clause-statuses g c =
-    elim c.status_of.ensures.statuses [ inl zero ↦ inl zero | inr one ↦ inr (inl one) ]
+    elim c.status_of.ensures.statuses [ inl zero ↦ omega (arith, zero) | inr one ↦ omega (arith, one) ]
+
+pub returns-clause-unknown : goal.returns-clause-unknown
+returns-clause-unknown g c = not_two c.status_of.result c.status_of.ensures.statuses
 
 pub returns-in-Err-clause-untouched : goal.returns-in-Err-clause-untouched
-returns-in-Err-clause-untouched g c = λ three. c.refuse.ensures.untouched
+returns-in-Err-clause-untouched g c = λ high. c.refuse.ensures.untouched
 
 pub returns-then-is_empty-clause-input : goal.returns-then-is_empty-clause-input
 returns-then-is_empty-clause-input g c = λ low none.
     (c.in-Ok.prepared.list.lines.items, c.in-Ok.ensures.lists, c.run_input.ensures.none, c.run_input.ensures.answered)
 
 pub returns-then-is_empty-clause-untouched : goal.returns-then-is_empty-clause-untouched
-returns-then-is_empty-clause-untouched g c = not_three c.run_input.result.status c.run_input.ensures.statuses
+returns-then-is_empty-clause-untouched g c = not_high c.run_input.result.status c.run_input.ensures.statuses
 
 pub returns-clause-untouched : goal.returns-clause-untouched
-returns-clause-untouched g c = λ three. refl
+returns-clause-untouched g c = λ high. refl
 
 pub returns-clause-reported : goal.returns-clause-reported
-returns-clause-reported g c = not_three c.status_of.result c.status_of.ensures.statuses
+returns-clause-reported g c = not_high c.status_of.result c.status_of.ensures.statuses

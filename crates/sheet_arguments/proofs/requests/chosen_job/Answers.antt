@@ -1,24 +1,20 @@
 -- What the options mean.
-use Rattle.std.proofs.Common.{drop, inl, inr, option_to_list, refl, take}
+use Rattle.std.proofs.Common.{drop, inl, inr, refl, take}
 use Rattle.command_lines.proofs.MeaningLemmas.{AllPass}
 use Rattle.command_lines.specs.Meanings.{FailFirst}
 use Rattle.sheet_arguments.specs.CommandLine.{Values}
 use Rattle.sheet_arguments.specs.Faults.{Fault}
 use Rattle.sheet_arguments.specs.Requests.{AreSaidBy, FewDates, output_checks, result_check, value_checks, values_by}
 use Rattle.sheet_arguments.specs.Requests.{word_checks}
-use Rattle.sheet_arguments.specs.WordLists.{AreCalendarWords, IsFirstUnknown, columns_asked}
+use Rattle.sheet_arguments.specs.WordLists.{columns_asked}
 use Rattle.sheet_arguments.specs.declared.requests.Reading.{Reading}
 use Rattle.sheet_arguments.specs.declared.requests.Words.{Words}
 use Rattle.sheet_arguments.proofs.FaultLemmas.{among_first, behind, found_up}
 use Rattle.sheet_arguments.proofs.requests.chosen_job.Goals as goal
 
--- what passes up to the words for calendars, up to the last of these, and up to the delimiter
+-- what passes up to the words, and up to the delimiter
 passed_four : (v : Values) → FewDates v → AllPass (take 4 (value_checks v))
 passed_four v few = (few.0, (few.1, (few.2, (few.3, tt))))
-
-passed_six : (v : Values) → FewDates v → AreCalendarWords v.all → AreCalendarWords (option_to_list v.otherwise)
-    → AllPass (take 6 (value_checks v))
-passed_six v few all otherwise = (few.0, (few.1, (few.2, (few.3, (all, (otherwise, tt))))))
 
 passed_words : (words : Words) (reading : Reading) → AreSaidBy words reading → AllPass (word_checks words)
 passed_words words reading said =
@@ -30,38 +26,14 @@ returns-in_err-dates_fit-clause-fault c =
     found_up c.from_residual.result c.in_err-dates_fit.field-0.0 checks (FailFirst (take 4 checks))
     c.from_residual.ensures.1 c.in_err-dates_fit.ensures.fault (among_first (take 4 checks) (drop 4 checks))
 
-pub returns-in_err-check_calendars-clause-fault : goal.returns-in_err-check_calendars-clause-fault
-returns-in_err-check_calendars-clause-fault c =
-    let v = values_by c.args.options in
-    let checks = value_checks v in
-    let four = passed_four v c.in_ok-dates_fit.ensures.fine in
-    let first : (fault : Fault) → IsFirstUnknown v.all fault → FailFirst checks fault
-    = λ fault is. behind (take 4 checks) (drop 4 checks) fault four (inl is) in
-    found_up c.from_residual-in_err-check_calendars.result c.in_err-check_calendars.field-0.0 checks (IsFirstUnknown v.all)
-    c.from_residual-in_err-check_calendars.ensures.1
-    (rw c.as_slice.ensures.value at c.in_err-check_calendars.ensures.fault) first
-
-pub returns-in_err-check_otherwise-clause-fault : goal.returns-in_err-check_otherwise-clause-fault
-returns-in_err-check_otherwise-clause-fault c =
-    let v = values_by c.args.options in
-    let checks = value_checks v in
-    let four = passed_four v c.in_ok-dates_fit.ensures.fine in
-    let all = rw c.as_slice.ensures.value at c.in_ok-check_calendars.ensures.fine in
-    let words = option_to_list v.otherwise in
-    let first : (fault : Fault) → IsFirstUnknown words fault → FailFirst checks fault
-    = λ fault is. behind (take 4 checks) (drop 4 checks) fault four (inr (all, inl is)) in
-    found_up c.from_residual-in_err-check_otherwise.result c.in_err-check_otherwise.field-0.0 checks (IsFirstUnknown words)
-    c.from_residual-in_err-check_otherwise.ensures.1 c.in_err-check_otherwise.ensures.fault first
-
 pub returns-in_err-reading-clause-fault : goal.returns-in_err-reading-clause-fault
 returns-in_err-reading-clause-fault c =
     let v = values_by c.args.options in
     let checks = value_checks v in
     let words = word_checks c.args.options.words in
-    let six = passed_six v c.in_ok-dates_fit.ensures.fine
-    (rw c.as_slice.ensures.value at c.in_ok-check_calendars.ensures.fine) c.in_ok-check_otherwise.ensures.fine in
+    let four = passed_four v c.in_ok-dates_fit.ensures.fine in
     let first : (fault : Fault) → FailFirst words fault → FailFirst checks fault
-    = λ fault is. behind (take 6 checks) (drop 6 checks) fault six (among_first words (drop 11 checks) fault is) in
+    = λ fault is. behind (take 4 checks) (drop 4 checks) fault four (among_first words (drop 9 checks) fault is) in
     found_up c.from_residual-in_err-reading.result c.in_err-reading.field-0.0 checks (FailFirst words)
     c.from_residual-in_err-reading.ensures.1 c.in_err-reading.ensures.fault first
 
@@ -69,14 +41,13 @@ pub returns-in_err-columns-clause-fault : goal.returns-in_err-columns-clause-fau
 returns-in_err-columns-clause-fault c =
     let v = values_by c.args.options in
     let checks = value_checks v in
-    let six = passed_six v c.in_ok-dates_fit.ensures.fine
-    (rw c.as_slice.ensures.value at c.in_ok-check_calendars.ensures.fine) c.in_ok-check_otherwise.ensures.fine in
+    let four = passed_four v c.in_ok-dates_fit.ensures.fine in
     let words = word_checks c.args.options.words in
     let said = passed_words c.args.options.words _ c.in_ok-reading.ensures.value in
     let fails = (result_check (columns_asked v.to)).fails in
     let first : (fault : Fault) → fails fault → FailFirst checks fault
-    = λ fault is. behind (take 6 checks) (drop 6 checks) fault six
-    (behind words (drop 11 checks) fault said (inl is)) in
+    = λ fault is. behind (take 4 checks) (drop 4 checks) fault four
+    (behind words (drop 9 checks) fault said (inl is)) in
     found_up c.from_residual-in_err-columns.result c.in_err-columns.field-0.0 checks fails
     c.from_residual-in_err-columns.ensures.1 c.in_err-columns.ensures.fault first
 
@@ -84,22 +55,21 @@ pub returns-in_err-outputs_fit-clause-fault : goal.returns-in_err-outputs_fit-cl
 returns-in_err-outputs_fit-clause-fault c =
     let v = values_by c.args.options in
     let checks = value_checks v in
-    let six = passed_six v c.in_ok-dates_fit.ensures.fine
-    (rw c.as_slice.ensures.value at c.in_ok-check_calendars.ensures.fine) c.in_ok-check_otherwise.ensures.fine in
+    let four = passed_four v c.in_ok-dates_fit.ensures.fine in
     let words = word_checks c.args.options.words in
     let said = passed_words c.args.options.words _ c.in_ok-reading.ensures.value in
     let outputs = output_checks v.register v.files in
     let first : (fault : Fault) → FailFirst outputs fault → FailFirst checks fault
-    = λ fault is. behind (take 6 checks) (drop 6 checks) fault six
-    (behind words (drop 11 checks) fault said (inr ((_, c.in_ok-columns.ensures.value), is))) in
+    = λ fault is. behind (take 4 checks) (drop 4 checks) fault four
+    (behind words (drop 9 checks) fault said (inr ((_, c.in_ok-columns.ensures.value), is))) in
     found_up c.from_residual-in_err-outputs_fit.result c.in_err-outputs_fit.field-0.0 checks (FailFirst outputs)
-    c.from_residual-in_err-outputs_fit.ensures.1 (rw c.as_slice-2.ensures.value at c.in_err-outputs_fit.ensures.fault) first
+    c.from_residual-in_err-outputs_fit.ensures.1 (rw c.as_slice.ensures.value at c.in_err-outputs_fit.ensures.fault) first
 
 pub returns-clause-asked : goal.returns-clause-asked
 returns-clause-asked c =
     let few = c.in_ok-dates_fit.ensures.fine in
     let said = c.in_ok-reading.ensures.value in
-    let fit = rw c.as_slice-2.ensures.value at c.in_ok-outputs_fit.ensures.fine in
+    let fit = rw c.as_slice.ensures.value at c.in_ok-outputs_fit.ensures.fine in
     record {
       tree = refl;
       dates = refl;
@@ -108,8 +78,6 @@ returns-clause-asked c =
       as_many = few.2;
       not_alone = few.3;
       calendars = c.chosen_calendars.ensures;
-      all_say = rw c.as_slice.ensures.value at c.in_ok-check_calendars.ensures.fine;
-      else_says = c.in_ok-check_otherwise.ensures.fine;
       id = refl;
       order = said.0;
       short_years = said.1;

@@ -61,7 +61,7 @@ fn convert_read<'b, W: Output>(
     registers: &mut [W],
 ) -> SheetDone<'b>
     requires { IsTask (task_of job.now) }
-    ensures { IsTextEnded W.Output (task_of job.now) list.now.lines.items text.entry.items output.old output.new
+    ensures { IsTextEnded W.Output (task_of job.now) list.now.lines.items text.items output.old output.new
         registers.old registers.new result }
 {
     match sheet_of(alloc, text, job) {

@@ -191,6 +191,7 @@ stands_alone choice calendar names text runs civil plain stands =
           (first_of_two _ _ (either_stands (is_some (runs_behind_minus (tokens 0 text))) true refl)),
       rw (whole, civil) (stood_at_once choice calendar names text runs stands),
     )
+
 -- ---- brackets
 by_bare : (choice : Choice) (calendar : Calendar) (names : List Name) (text bare first last : List ℕ) (found : Marks)
     → without_brackets text ≡ Some bare

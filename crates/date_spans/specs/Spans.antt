@@ -206,6 +206,7 @@ IsDateAlone choice calendar names text first last =
     (is_date choice calendar names (dated_text choice calendar names text) ≡ true)
     × (first ≡ written choice (Some calendar) names (dated_text choice calendar names text))
     × (last ≡ written choice (Some calendar) names (dated_text choice calendar names text))
+
 -- the span of a text in which no brackets count
 abbrev pub IsPlainSpan : Choice → Calendar → List Name → List ℕ → List ℕ → List ℕ → Marks → Type 0
 IsPlainSpan choice calendar names text first last found =

@@ -4,7 +4,7 @@
 const { dayOf, dateIn, placed, sundayOf, weekdayOf } = require("./day_counts.cjs");
 
 const WITHOUT_WORDS = ["iso", "longcount"], CHURCHES = ["gregorian", "julian"], REPUBLICAN = ["french", "republican"];
-const COUNT_HUNDREDS = ["islamic", "coptic", "ethiopic", "armenian"];
+const KEEP_SHORT = [...WITHOUT_WORDS, ...REPUBLICAN, "egyptian", "roman"];
 const BEGIN_AT_MIDNIGHT = [...CHURCHES, ...REPUBLICAN];
 const BLANKS = " \\t\\r\\n\\u00a0\\u202f", DASHES = "\\-\\u2010-\\u2014\\u2212";
 const ENDS = new RegExp(`^[${BLANKS}]+|[${BLANKS}]+$`, "g");
@@ -229,8 +229,8 @@ const stays = (text, reason) => ({ text, rule: null, reason });
 function ruleOf({ value, digits }, choice, calendar) {
   const ofTwo = value < 100 && digits <= 2;
   if (CHURCHES.includes(calendar) && ofTwo) return choice.short;
-  if (COUNT_HUNDREDS.includes(calendar) && ofTwo && choice.short !== "k") return "r";
-  return calendar === "hebrew" && value < 1000 && digits <= 3 ? choice.hebrew : "k";
+  if (calendar === "hebrew") return value < 1000 && digits <= 3 ? choice.hebrew : "k";
+  return ofTwo && !KEEP_SHORT.includes(calendar) && choice.short !== "k" ? "r" : "k";
 }
 
 function byYear(year, choice, calendar) {

@@ -3,15 +3,20 @@ use Rattle.std.proofs.Common.{◌≡◌, ◌↔◌, ◌∙◌, ◌+◌, ◌-◌,
 use Rattle.std.proofs.Common.{ap, arith, get_or, inl, inr, length, length-append, refl, slice_get, sym, subst}
 use Rattle.std.proofs.Common.{map}
 use Rattle.std.specs.Borrow.{Bor}
-use Rattle.std.specs.Prelude.{option_map}
-use Rattle.std.proofs.lemmas.Option.{slice_get-get_or, slice_get-map}
+use Rattle.std.specs.Prelude.{Contains, Option, option_map}
+use Rattle.std.proofs.lemmas.List.Elements.{Contains-get_or}
+use Rattle.std.proofs.lemmas.Option.{get_or_from_slice_get, slice_get-get_or, slice_get-map, slice_get_within}
 use Rattle.register_records.specs.Entries.{Fields}
 use Rattle.register_sheets.specs.declared.choices.DateColumn.{DateColumn}
 use Rattle.register_sheets.specs.declared.name_lists.NameLine.{NameLine}
-use Rattle.sheet_arguments.specs.Requests.{Task}
+use Rattle.sheet_arguments.specs.Requests.{CalendarsWanted, Task, all_have, in_columns}
 use Rattle.clap.specs.Words.{Text}
 use Rattle.command_lines.specs.Values.{IsNumberWord}
-use Rattle.sheet_app.specs.Columns.{HoldsOfNone, IsBareWord, IsCalendarField, IsColumn, IsDateColumn, IsWord, NamesNoColumn}
+use Rattle.sheet_app.specs.CalendarWords.{SaysNothing, calendar_words}
+use Rattle.sheet_app.specs.Columns.{HoldsOfNone, IsBareWord, IsCalendarField, IsColumn, IsDateColumn, IsForWord, IsItsOwn}
+use Rattle.sheet_app.specs.Columns.{IsMissing, IsWord, NamesNoColumn, NamesNone, calendar_columns}
+use Rattle.sheet_app.specs.declared.columns.ColumnFault.{ColumnFault}
+use Rattle.sheet_app.specs.declared.columns.ColumnFault.TheVariants as column_fault
 
 -- this holds of none of the first names, so many
 abbrev pub HoldsOfNoneBefore : (Text → Type 0) → Fields → ℕ → Type 0
@@ -88,3 +93,37 @@ date_column lines names task index word column asked date calendar = record {
   date = date;
   calendar = calendar;
 }
+
+-- what stands at an index is one of all
+one_of : (words : List Text) (index : ℕ) (word : Text) → slice_get words index ≡ Some word → Contains words word
+one_of words index word at =
+    subst (Contains words) (get_or_from_slice_get words index word [] at)
+    (Contains-get_or words index [] (slice_get_within words index word at))
+
+its_own : (words : List Text) (index : ℕ) (word : Text) → IsItsOwn words index word → Contains words word
+its_own words index word (inl h) = one_of words 0 word h.1
+its_own words index word (inr h) = one_of words index word h.1
+
+-- the word of a column of calendars is missing, and one that says no calendar
+pub missing_column : (lines : List NameLine) (names : Fields) (task : Task) (words own : List Text)
+    (otherwise : Option Text) (index : ℕ) (word : Text) → task.calendars ≡ in_columns words otherwise → own ≡ words
+    → IsItsOwn own index word → NamesNone names word → IsMissing lines names task word
+missing_column lines names task words own otherwise index word wanted same is none =
+    let among : Contains words word = subst (λ l. Contains l word) same (its_own own index word is) in
+    inl (inr (inr (subst (λ (c : CalendarsWanted). Contains (calendar_columns c) word) (sym wanted) among)), none)
+
+pub missing_calendar : (lines : List NameLine) (names : Fields) (task : Task) (words own : List Text) (index : ℕ)
+    (word : Text) (why : ColumnFault) → task.calendars ≡ all_have words → own ≡ words → IsItsOwn own index word
+    → IsForWord (λ other. (other ≡ word) × SaysNothing lines other) why → IsForWord (IsMissing lines names task) why
+missing_calendar lines names task words own index word column_fault.OutOfMemory wanted same is h = tt
+missing_calendar lines names task words own index word (column_fault.NoColumn other) wanted same is h =
+    let among : Contains words word = subst (λ l. Contains l word) same (its_own own index word is) in
+    let said : Contains (calendar_words task.calendars) word
+    = subst (λ (c : CalendarsWanted). Contains (calendar_words c) word) (sym wanted) among in
+    inr (inl (subst (Contains (calendar_words task.calendars)) (sym h.0) said, h.1))
+
+-- and that of ids
+pub missing_id : (lines : List NameLine) (names : Fields) (task : Task) (why : ColumnFault)
+    → IsForWord (λ word. (task.id ≡ Some word) × NamesNone names word) why → IsForWord (IsMissing lines names task) why
+missing_id lines names task column_fault.OutOfMemory h = tt
+missing_id lines names task (column_fault.NoColumn word) h = inl (inl h.0, h.1)

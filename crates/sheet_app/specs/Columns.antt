@@ -1,5 +1,6 @@
 -- The columns of a sheet that words name.
-use Rattle.std.specs.Prelude.{◌≡◌, ◌≢◌, ◌<◌, ◌+◌, ◌⊎◌, ℕ, List, [], Option, None, Some, get_or, length, slice_get}
+use Rattle.std.specs.Prelude.{◌≡◌, ◌≢◌, ◌≤◌, ◌<◌, ◌+◌, ◌^◌, ◌⊎◌, ⊤, ℕ, Contains, List, [], Option, None, Some, get_or, length}
+use Rattle.std.specs.Prelude.{slice_get}
 use Rattle.clap.specs.Words.{Text}
 use Rattle.command_lines.specs.Values.{IsNumberWord}
 use Rattle.register_records.specs.Entries.{Fields}
@@ -13,7 +14,9 @@ use Rattle.register_sheets.specs.declared.name_lists.NameLine.{NameLine}
 use Rattle.sheet_arguments.specs.Requests.{CalendarsWanted, Task, all_have, in_columns}
 use Rattle.written_dates.specs.Fields.{without_blanks}
 use Rattle.written_dates.specs.declared.fields.CalendarMeaning.{CalendarMeaning}
-use Rattle.sheet_app.specs.CalendarWords.{SaysBy}
+use Rattle.sheet_app.specs.CalendarWords.{SaysBy, SaysNothing, calendar_words}
+use Rattle.sheet_app.specs.declared.columns.ColumnFault.{ColumnFault}
+use Rattle.sheet_app.specs.declared.columns.ColumnFault.TheVariants as column_fault
 
 -- at this index stands the first of these names of which this holds
 pub record IsFirst (Holds : Text → Type 0) (names : Fields) (index : ℕ) : Type 0 where
@@ -46,6 +49,10 @@ pub record NamesNoColumn (names : Fields) (word : Text) : Type 0 where
   pub no_name : HoldsOfNone (IsWord word) names
   pub no_bare_name : HoldsOfNone (IsBareWord word) names
   pub no_number : (number : ℕ) → ¬ IsNumberWord (length names) word number
+
+-- it names none, or only one whose index has more than 32 bits
+abbrev pub NamesNone : Fields → Text → Type 0
+NamesNone names word = NamesNoColumn names word ⊎ ((index : ℕ) × IsColumn names word index × (2 ^ 32 ≤ index))
 
 -- ids are in the column of a word, or without one the numbers of the records
 abbrev pub IsIdField : Fields → Option Text → IdField → Type 0
@@ -84,3 +91,34 @@ pub record AreDateColumns (lines : List NameLine) (names : Fields) (task : Task)
   pub as_many : length columns ≡ length task.dates
   pub each : (index : ℕ) (column : DateColumn) → slice_get columns index ≡ Some column
       → IsDateColumn lines names task index column
+
+-- the words that are to name columns of calendars, and those of which each column of dates has its own or all have one
+abbrev pub calendar_columns : CalendarsWanted → List Text
+calendar_columns (in_columns words otherwise) = words
+calendar_columns (all_have words) = []
+
+abbrev pub own_words : CalendarsWanted → List Text
+own_words (in_columns words otherwise) = words
+own_words (all_have words) = words
+
+-- a task has this word to name a column: that of ids, or one of dates or of calendars
+abbrev pub IsToNameColumn : Task → Text → Type 0
+IsToNameColumn task word =
+    (task.id ≡ Some word) ⊎ Contains task.dates word ⊎ Contains (calendar_columns task.calendars) word
+
+-- there are neither one of these words nor as many as columns of dates
+abbrev pub AreTooFew : Task → List Text → Type 0
+AreTooFew task words = (length words ≢ 1) × (length words < length task.dates)
+
+-- for this word of a task there is no column among these names: it is to name one and names none, or is to say a calendar
+-- and says none by the names of these lines; or there is no word for a column of dates, which is told as an empty one
+abbrev pub IsMissing : List NameLine → Fields → Task → Text → Type 0
+IsMissing lines names task word =
+    (IsToNameColumn task word × NamesNone names word)
+    ⊎ (Contains (calendar_words task.calendars) word × SaysNothing lines word)
+    ⊎ ((word ≡ []) × AreTooFew task (own_words task.calendars))
+
+-- memory ran out, or there is no column for a word of which this holds
+abbrev pub IsForWord : (Text → Type 0) → ColumnFault → Type 0
+IsForWord Holds column_fault.OutOfMemory = ⊤
+IsForWord Holds (column_fault.NoColumn word) = Holds word.now

@@ -1,5 +1,5 @@
 -- What a task asks of a sheet, and what comes of it.
-use Rattle.std.specs.Prelude.{◌≡◌, ◌≤◌, ◌<◌, ◌++◌, ◌⊎◌, ⊤, ℕ, List, [], Option, None, Some, Result, Ok, Err, get_or}
+use Rattle.std.specs.Prelude.{◌≡◌, ◌≤◌, ◌<◌, ◌++◌, ◌⊎◌, ⊤, ℕ, List, [], Result, Ok, Err, get_or}
 use Rattle.std.specs.Prelude.{length}
 use Rattle.std.specs.Prelude.{false, true}
 use Rattle.csv.specs.Reading.{strip_bom}
@@ -18,7 +18,7 @@ use Rattle.register_sheets.specs.declared.name_lists.NameListFault.TheVariants a
 use Rattle.register_sheets.specs.declared.sheet_ends.SheetCause.{SheetCause}
 use Rattle.sheet_arguments.specs.Requests.{Task}
 use Rattle.sheet_app.specs.Columns.{AreDateColumns, IsIdField}
-use Rattle.sheet_app.specs.SheetFaults.{fault_by}
+use Rattle.sheet_app.specs.SheetFaults.{IsOfColumns, fault_by}
 use Rattle.sheet_app.specs.declared.sheet_faults.SheetFault.{SheetFault}
 use Rattle.sheet_app.specs.declared.sheet_faults.SheetFault.TheVariants as fault
 use Rattle.sheet_app.specs.declared.sheets.ListedSheet.{ListedSheet}
@@ -104,11 +104,10 @@ IsAskedList task lines most sheet known bytes =
     × IsMarked sheet (IsListBy choice most sheet known) bytes
 
 -- why a sheet breaks off before there is a choice
-abbrev pub IsEarly : Task → List ℕ → SheetFault → Type 0
-IsEarly task sheet fault.OutOfMemory = ⊤
-IsEarly task sheet (fault.NoColumn word names) = ⊤
-IsEarly task sheet fault.NoNames = length (text_records task.delimiter sheet) ≤ task.skip
-IsEarly task sheet other = ⊥
+abbrev pub IsEarly : Task → List NameLine → List ℕ → SheetFault → Type 0
+IsEarly task lines sheet why =
+    IsOfColumns task lines (names_of task sheet) why
+    ⊎ ((why ≡ fault.NoNames) × (length (text_records task.delimiter sheet) ≤ task.skip))
 
 -- the output has gained the mark of a sheet, and behind it bytes as said
 abbrev pub GainsMarked : {W : Type 0} → outputs.Ghosts W → List ℕ → W → W → (List ℕ → Type 0) → Type 0
@@ -131,7 +130,7 @@ IsBrokenBy o choice sheet given written other = ⊥
 abbrev pub IsBroken : {W : Type 0} → outputs.Ghosts W → Task → List NameLine → List ℕ → W → W → SheetFault
     → Type 0
 IsBroken o task lines sheet given written fault =
-    ((written ≡ given) × IsEarly task sheet fault)
+    ((written ≡ given) × IsEarly task lines sheet fault)
     ⊎ ((choice : SheetChoice) × IsChoiceFor task lines sheet choice × IsBrokenBy o choice sheet given written fault)
 
 -- the registers of a sheet have come out by a choice, each by an answer of its own, of which this is the first fault

@@ -1,11 +1,12 @@
 //! The columns of a sheet that the arguments name.
 
-ghost use Rattle.std.specs.Prelude.{◌≡◌, ◌≤◌, ◌^◌, ◌⊎◌, ℕ, IfNone, IfOk, IfSome, map, option_map};
+ghost use Rattle.std.specs.Prelude.{◌≡◌, ◌≢◌, ◌≤◌, ◌<◌, IfErr, IfNone, IfOk, IfSome, Some, length, map, option_map};
 ghost use Rattle.csv.specs.Records.{fields_of};
 ghost use Rattle.sheet_arguments.specs.Requests.{task_of};
 ghost use Rattle.sheet_app.specs.Columns.{AreDateColumns, HoldsOfNone, IsBareWord, IsCalendarField, IsColumn, IsFirst};
-ghost use Rattle.sheet_app.specs.CalendarWords.{SaysBy};
-ghost use Rattle.sheet_app.specs.Columns.{IsIdField, IsItsOwn, IsWord, NamesNoColumn, SaysElse};
+ghost use Rattle.sheet_app.specs.CalendarWords.{SaysBy, SaysNothing};
+ghost use Rattle.sheet_app.specs.Columns.{IsForWord, IsIdField, IsItsOwn, IsMissing, IsWord, NamesNoColumn, NamesNone};
+ghost use Rattle.sheet_app.specs.Columns.{SaysElse};
 
 use crate::calendar_words::calendar_by;
 use command_lines::number_named;
@@ -83,8 +84,7 @@ fn column_found(names: &ByteRecord, word: &str) -> Option<usize>
 /// without the blanks at the ends of both, or else of the one with this number from 1. `None` where there is none.
 pub fn column_named(names: &ByteRecord, word: &str) -> Option<u32>
     ensures some { IfSome result (λ index. IsColumn (fields_of names.now) word.now index) }
-    ensures none { IfNone result (NamesNoColumn (fields_of names.now) word.now
-        ⊎ ((index : ℕ) × IsColumn (fields_of names.now) word.now index × (2 ^ 32 ≤ index))) }
+    ensures none { IfNone result (NamesNone (fields_of names.now) word.now) }
 {
     match column_found(names, word) {
         Some(index) => u32::try_from(index).ok(),
@@ -94,7 +94,9 @@ pub fn column_named(names: &ByteRecord, word: &str) -> Option<u32>
 
 /// Where the ids are.
 pub fn id_named<'a>(names: &ByteRecord, id: Option<&'a str>) -> Result<IdField, ColumnFault<'a>>
-    ensures { IfOk result (λ field. IsIdField (fields_of names.now) (option_map (λ w. w.now) id.entry) field) }
+    ensures field { IfOk result (λ field. IsIdField (fields_of names.now) (option_map (λ w. w.now) id.entry) field) }
+    ensures fault { IfErr result (IsForWord (λ word. (option_map (λ w. w.now) id.entry ≡ Some word)
+        × NamesNone (fields_of names.now) word)) }
 {
     match id {
         Some(word) => match column_named(names, word) {
@@ -107,7 +109,8 @@ pub fn id_named<'a>(names: &ByteRecord, id: Option<&'a str>) -> Result<IdField, 
 
 /// The word at an index of a list, or its only one.
 fn word_at<'a>(words: &[&'a str], index: usize) -> Option<&'a str>
-    ensures { IfSome result (λ word. IsItsOwn (map (λ w. w.now) words.now) index word.now) }
+    ensures some { IfSome result (λ word. IsItsOwn (map (λ w. w.now) words.now) index word.now) }
+    ensures none { IfNone result ((length words.now ≢ 1) × (length words.now ≤ index)) }
 {
     if words.len() == 1 {
         return Some(words[0]);
@@ -121,7 +124,9 @@ fn meaning_said<'a>(
     list: &NameList,
     word: &'a str,
 ) -> Result<CalendarMeaning, ColumnFault<'a>>
-    ensures { IfOk result (SaysBy list.now.lines.items word.entry.now) }
+    ensures said { IfOk result (SaysBy list.now.lines.items word.entry.now) }
+    ensures fault { IfErr result (IsForWord (λ other. (other ≡ word.entry.now)
+        × SaysNothing list.now.lines.items other)) }
 {
     match calendar_by(alloc, list, word)? {
         Some(meaning) => Ok(meaning),
@@ -135,7 +140,9 @@ fn otherwise_said<'a>(
     list: &NameList,
     word: Option<&'a str>,
 ) -> Result<Option<CalendarMeaning>, ColumnFault<'a>>
-    ensures { IfOk result (SaysElse list.now.lines.items (option_map (λ w. w.now) word.entry)) }
+    ensures said { IfOk result (SaysElse list.now.lines.items (option_map (λ w. w.now) word.entry)) }
+    ensures fault { IfErr result (IsForWord (λ other. (option_map (λ w. w.now) word.entry ≡ Some other)
+        × SaysNothing list.now.lines.items other)) }
 {
     match word {
         Some(word) => Ok(Some(meaning_said(alloc, list, word)?)),
@@ -151,8 +158,10 @@ fn calendar_named<'a>(
     job: &Job<'a>,
     index: usize,
 ) -> Result<CalendarField, ColumnFault<'a>>
-    ensures { IfOk result (λ field.
+    ensures field { IfOk result (λ field.
         IsCalendarField list.now.lines.items (fields_of names.now) (task_of job.now).calendars index field) }
+    ensures fault { index < length job.now.dates.items
+        → IfErr result (IsForWord (IsMissing list.now.lines.items (fields_of names.now) (task_of job.now))) }
 {
     match &job.calendars {
         CalendarsAsked::Columns(words, otherwise) => {
@@ -179,8 +188,10 @@ pub fn dates_named<'a>(
     names: &ByteRecord,
     job: &Job<'a>,
 ) -> Result<Vec<DateColumn>, ColumnFault<'a>>
-    ensures { IfOk result (λ dates.
+    ensures dates { IfOk result (λ dates.
         AreDateColumns list.now.lines.items (fields_of names.now) (task_of job.now) dates.items) }
+    ensures fault { IfErr result
+        (IsForWord (IsMissing list.now.lines.items (fields_of names.now) (task_of job.now))) }
 {
     let mut dates = Vec::new(alloc);
     'dates: for index in 0..job.dates.len() {

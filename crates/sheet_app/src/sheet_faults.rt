@@ -1,7 +1,10 @@
 //! Why a sheet breaks off.
 
-ghost use Rattle.std.specs.Prelude.{◌≡◌, ◌++◌, OnOk, codes};
+ghost use Rattle.std.specs.Prelude.{◌≡◌, ◌++◌, List, OnOk, codes};
 ghost use Rattle.csv.specs.Records.{fields_of};
+ghost use Rattle.register_sheets.specs.declared.name_lists.NameLine.{NameLine};
+ghost use Rattle.sheet_arguments.specs.Requests.{Task};
+ghost use Rattle.sheet_app.specs.Columns.{IsForWord, IsMissing};
 ghost use Rattle.sheet_app.specs.Lines.{listed_at, told};
 ghost use Rattle.sheet_app.specs.SheetFaults.{IsOfColumns};
 
@@ -77,7 +80,8 @@ impl From<SheetCause> for SheetFault<'_> {
 
 /// The fault for columns that are not found in a sheet with these names.
 pub fn fault_of_columns<'a>(fault: ColumnFault<'a>, names: ByteRecord) -> SheetFault<'a>
-    ensures { IsOfColumns result }
+    ensures { (task : Task) (lines : List NameLine) → IsForWord (IsMissing lines (fields_of names) task) fault.entry
+        → IsOfColumns task lines (fields_of names) result }
 {
     match fault {
         ColumnFault::OutOfMemory => SheetFault::OutOfMemory,

@@ -1,15 +1,14 @@
 //! What comes of a sheet.
 
-ghost use Rattle.std.specs.Prelude.{◌≡◌, ◌≤◌, ◌⊎◌, List, IfErr, IfOk, OnErr, OnOk, length, true};
+ghost use Rattle.std.specs.Prelude.{◌≡◌, List, IfErr, IfOk, OnErr, OnOk, true};
 ghost use Rattle.csv.specs.Records.{fields_of};
-ghost use Rattle.register_records.specs.Entries.{text_records};
 ghost use Rattle.register_records.specs.Sources.{Gains};
 ghost use Rattle.register_sheets.specs.AskedOfSheets.{IsChoice, IsChoiceBy, asked_in};
 ghost use Rattle.register_sheets.specs.declared.name_lists.NameLine.{NameLine as NameLineValue};
 ghost use Rattle.sheet_arguments.specs.Requests.{task_of};
 ghost use Rattle.sheet_app.specs.SheetFaults.{IsOfColumns};
 ghost use Rattle.sheet_app.specs.SheetViews.{AsksFor, IsBrokenBehind, IsDoneBy, IsEndedBy, IsTask, MakesChoices};
-ghost use Rattle.sheet_app.specs.Sheets.{HasMark, IsAskedOf, IsEnded, IsListBy, names_of};
+ghost use Rattle.sheet_app.specs.Sheets.{HasMark, IsAskedOf, IsEarly, IsEnded, IsListBy, names_of};
 
 use crate::columns::{dates_named, id_named};
 use crate::sheet_faults::{SheetFault, fault_of_columns};
@@ -67,7 +66,7 @@ fn asked_by_names<'a>(
 ) -> Result<AskedOfSheet, SheetFault<'a>>
     ensures asked { IfOk result (λ asked. IsAskedOf (task_of job.now) list.now.lines.items (fields_of names)
         (asked_in asked)) }
-    ensures fault { IfErr result IsOfColumns }
+    ensures fault { IfErr result (IsOfColumns (task_of job.now) list.now.lines.items (fields_of names)) }
 {
     let id = match id_named(&names, job.id) {
         Ok(id) => id,
@@ -97,8 +96,7 @@ fn asked_of<'a>(
 ) -> Result<AskedOfSheet, SheetFault<'a>>
     ensures asked { IfOk result (λ asked. IsAskedOf (task_of job.now) list.now.lines.items
         (names_of (task_of job.now) sheet.now) (asked_in asked)) }
-    ensures fault { IfErr result (λ fault. IsOfColumns fault ⊎ ((fault ≡ SheetFault.NoNames)
-        × (length (text_records job.now.delimiter sheet.now) ≤ job.now.skip))) }
+    ensures fault { IfErr result (IsEarly (task_of job.now) list.now.lines.items sheet.now) }
 {
     match head_record(alloc, sheet, job.delimiter, job.skip)? {
         Some(names) => asked_by_names(alloc, list, names, job),

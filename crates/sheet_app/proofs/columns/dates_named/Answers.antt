@@ -20,4 +20,4 @@ dates-preserved c =
     let lines = c.args.list.now.lines.items in
     one_more_date lines names task c.dates.dates.items c.push.new.self.items index column c.dates.invariant
     (date_column lines names task index word.now column (asked_word words index word within there) c.in-Some.ensures.some
-    c.in_ok-calendar.ensures) pushed
+    c.in_ok-calendar.ensures.field) pushed

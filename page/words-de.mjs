@@ -530,7 +530,7 @@ export const WORDS = {
   dayOrderIs: 'Ein Monat mit Namen wird in jeder Reihenfolge gelesen, `30. November 1699`, `Nov. 30, 1699`, wenn das Jahr mehr als ' +
     'zwei Ziffern hat. Sonst legt diese Einstellung fest, welche Zahl das Jahr ist: bei `15 Ventôse 6` steht der Tag zuerst.',
   short: 'Ein- und zweistellige Jahre',
-  shortIs: 'Wie `12.5.82`. Ein Jahrhundert kommt nur bei gregorianischen und julianischen dazu; andere, außer französischen, werden dann abgelehnt.',
+  shortIs: 'Wie `12.5.82`. Ein Jahrhundert kommt nur zu gregorianischen und julianischen Jahren; andere, außer französischen, werden dann abgelehnt.',
   shortRules: { refuse: 'solche Datumsangaben weglassen', keep: 'wie geschrieben: 82 ist das Jahr 82' },
   shortAdds: (n) => `${n} dazuzählen: 82 ist ${n + 82}`,
   spans: 'Auch Monate, Jahre und Zeiträume',

@@ -507,7 +507,7 @@ export const WORDS = {
   dayOrderIs: 'A month by its name is read in any order, `30. November 1699`, `Nov. 30, 1699`, where the year has more than ' +
     'two digits. Else this choice says which number is the year: for `15 Ventôse 6` the day stands first.',
   short: 'Years of one or two digits',
-  shortIs: 'As `12.5.82`. A century is added to Gregorian and Julian ones; others but French ones are then refused.',
+  shortIs: 'As `12.5.82`. A century is added to Gregorian and Julian years; others, but French ones, are then refused.',
   shortRules: { refuse: 'leave such dates out', keep: 'as written: 82 is the year 82' },
   shortAdds: (n) => `add ${n}: 82 is ${n + 82}`,
   spans: 'Months, years and ranges too',

@@ -26,7 +26,7 @@ module _ {W : Type 0} (o : outputs.Ghosts W) (task : Task) (lines : List NameLin
   broken_by (Some why) sheet given new fault is = (ap done.Broken is, refl, refl)
   broken_by None sheet given new fault is =
       subst (λ (f : SheetFault). IsEnded o task lines MOST_UNKNOWN sheet given given new new (done.Broken f)) (sym is)
-      (inl (refl, tt), inl refl)
+      (inl (refl, inl tt), inl refl)
 
   -- a text that gives none has broken off
   pub text_broken : (text : List ℕ) (given : W) (new : List W) (fault : SheetFault)

@@ -2,9 +2,10 @@
 
 mod first_half;
 
-/// The list of names.
-pub const BUILT_NAMES: &str = crate::with_first_half!(
-    "\
+pub use first_half::FIRST_HALF;
+
+/// The other half of the list.
+pub const SECOND_HALF: &str = "\
 Pentecostes,easter 49,gregorian julian\nPentecoste,easter 49,gregorian julian\nPentecost,easter 49,gregorian julian\nWh\
 itsunday,easter 49,gregorian julian\nWhit Sunday,easter 49,gregorian julian\nPentecôte,easter 49,gregorian julian\nPfi\
 ngstmontag,easter 50,gregorian julian\nWhit Monday,easter 50,gregorian julian\nTrinitatis,easter 56,gregorian julian\nT\
@@ -796,5 +797,4 @@ entos y,400,\nquatrocientos y,400,\nquinientos,500,\nquinientos y,500,\nseiscien
 1000,\nmil y,1000,\na los,,gregorian julian\nin the morning,,gregorian julian\nmorgens,,gregorian julian\nvormittags,,g\
 regorian julian\nnachmittags,,gregorian julian\nthis,,\nau matin,,gregorian julian french republican\ndu matin,,gregori\
 an julian french republican\nle matin,,gregorian julian french republican\n\
-"
-);
+";

@@ -6,11 +6,12 @@
 
 mod built_names;
 
-use built_names::BUILT_NAMES;
+use built_names::{FIRST_HALF, SECOND_HALF};
 use register_files::{Destination, Disk, LoggedWriter, Source, lines_to};
 use register_records::PlainOutput;
 use sheet_app::{Outcome, answer};
 use sheet_arguments::MEMORY_FAULT;
+use std::alloc::AllocError;
 use std::fs::OpenOptions;
 use std::process::ExitCode;
 use std::rt::{Env, Files};
@@ -32,6 +33,14 @@ fn unread_arguments(rt: &impl Eprint, error: &io::Error) -> ExitCode {
     ExitCode::from(2)
 }
 
+/// The built-in list of names.
+fn whole_list<R: AllocGlobal>(rt: &R) -> Result<Vec<u8>, AllocError> {
+    let mut names = Vec::new(rt.alloc());
+    names.extend_from_slice(FIRST_HALF.as_bytes())?;
+    names.extend_from_slice(SECOND_HALF.as_bytes())?;
+    Ok(names)
+}
+
 /// Opens a file that has no bytes. The system gives it the first free number.
 fn open_nothing<R: Files>(rt: &R) -> Option<R::File> {
     OpenOptions::new().read(true).open(rt, "/dev/null").ok()
@@ -45,6 +54,10 @@ fn main(rt: HostRuntime) -> ExitCode {
         Ok(arguments) => arguments,
         Err(error) => return unread_arguments(&rt, &error),
     };
+    let Ok(names) = whole_list(&rt) else {
+        let _ = eprint!(rt; "{MEMORY_FAULT}");
+        return ExitCode::from(3);
+    };
     let input = Source::Input(rt.stdin());
     let output = PlainOutput::new(LoggedWriter::new(Destination::Output(rt.stdout())), 1);
     let mut errors = PlainOutput::new(
@@ -57,7 +70,7 @@ fn main(rt: HostRuntime) -> ExitCode {
         sheets: _,
     } = answer(
         rt.alloc(),
-        BUILT_NAMES.as_bytes(),
+        names.as_slice(),
         arguments.as_slice(),
         input,
         output,

@@ -1,10 +1,7 @@
 //! The first half of the built-in list of names: names.csv, from which check/built-names writes this file.
 
-/// The list of names from its first half and the rest.
-#[macro_export]
-macro_rules! with_first_half {
-    ($rest:literal) => {
-        concat!("\
+/// The first half of the list.
+pub const FIRST_HALF: &str = "\
 name,means,in\nGregorian,gregorian,\ngregorianisch,gregorian,\ngregorianischer Kalender,gregorian,\ngreg.,gregorian,\ng\
 reg,gregorian,\ngrégorien,gregorian,\ncalendrier grégorien,gregorian,\ngregoriaans,gregorian,\ngregoriaanse kalender,\
 gregorian,\ngregoriano,gregorian,\ncalendario gregoriano,gregorian,\ngregoriański,gregorian,\nkalendarz gregoriański,\
@@ -770,6 +767,4 @@ n Sunday,easter 35,gregorian julian\nHimmelfahrt,easter 39,gregorian julian\nChr
 lian\nAuffahrt,easter 39,gregorian julian\nAscensionis Domini,easter 39,gregorian julian\nAscensionis,easter 39,gregori\
 an julian\nAscension Day,easter 39,gregorian julian\nAscension,easter 39,gregorian julian\nExaudi,easter 42,gregorian j\
 ulian\nPfingsten,easter 49,gregorian julian\nPfingstsonntag,easter 49,gregorian julian\n\
-", $rest)
-    };
-}
+";

@@ -765,6 +765,5 @@ ter 7,gregorian julian\nMisericordias Domini,easter 14,gregorian julian\nMiseric
 ,easter 28,gregorian julian\nRogate,easter 35,gregorian julian\nVocem jucunditatis,easter 35,gregorian julian\nRogatio\
 n Sunday,easter 35,gregorian julian\nHimmelfahrt,easter 39,gregorian julian\nChristi Himmelfahrt,easter 39,gregorian ju\
 lian\nAuffahrt,easter 39,gregorian julian\nAscensionis Domini,easter 39,gregorian julian\nAscensionis,easter 39,gregori\
-an julian\nAscension Day,easter 39,gregorian julian\nAscension,easter 39,gregorian julian\nExaudi,easter 42,gregorian j\
-ulian\nPfingsten,easter 49,gregorian julian\nPfingstsonntag,easter 49,gregorian julian\n\
+an julian\nAscension Day,easter 39,gregorian julian\n\
 ";

@@ -245,525 +245,527 @@ regorian julian\nмарта,month 3,gregorian julian\nмар,month 3,gregorian j
 ulian\nапр,month 4,gregorian julian\nапреля,month 4,gregorian julian\nмай,month 5,gregorian julian\nмая,\
 month 5,gregorian julian\nиюнь,month 6,gregorian julian\nиюня,month 6,gregorian julian\nиюн,month 6,gregoria\
 n julian\nиюль,month 7,gregorian julian\nиюля,month 7,gregorian julian\nиюл,month 7,gregorian julian\nавг\
-уст,month 8,gregorian julian\nавг,month 8,gregorian julian\nавгуста,month 8,gregorian julian\nсентяб\
-рь,month 9,gregorian julian\nсент,month 9,gregorian julian\nоктябрь,month 10,gregorian julian\nокт,mont\
-h 10,gregorian julian\nноябрь,month 11,gregorian julian\nнояб,month 11,gregorian julian\nдекабрь,mont\
-h 12,gregorian julian\nдек,month 12,gregorian julian\nсічень,month 1,gregorian julian\nсіч,month 1,gregoria\
-n julian\nсічня,month 1,gregorian julian\nлютий,month 2,gregorian julian\nлют,month 2,gregorian julian\nл\
-ютого,month 2,gregorian julian\nберезень,month 3,gregorian julian\nбер,month 3,gregorian julian\nбер\
-езня,month 3,gregorian julian\nквітень,month 4,gregorian julian\nквіт,month 4,gregorian julian\nквіт\
-ня,month 4,gregorian julian\nтравень,month 5,gregorian julian\nтрав,month 5,gregorian julian\nтравня\
-,month 5,gregorian julian\nчервень,month 6,gregorian julian\nчерв,month 6,gregorian julian\nчервня,mon\
-th 6,gregorian julian\nлипень,month 7,gregorian julian\nлип,month 7,gregorian julian\nлипня,month 7,grego\
-rian julian\nсерпень,month 8,gregorian julian\nсерп,month 8,gregorian julian\nсерпня,month 8,gregoria\
-n julian\nвересень,month 9,gregorian julian\nвер,month 9,gregorian julian\nвересня,month 9,gregorian \
-julian\nжовтень,month 10,gregorian julian\nжовт,month 10,gregorian julian\nжовтня,month 10,gregorian j\
-ulian\nлистопад,month 11,gregorian julian\nлист,month 11,gregorian julian\nлистопада,month 11,greg\
-orian julian\nгрудень,month 12,gregorian julian\nгруд,month 12,gregorian julian\nгрудня,month 12,grego\
-rian julian\nΙανουαρίου,month 1,gregorian julian\nΙαν,month 1,gregorian julian\nΦεβρουαρίου,mon\
-th 2,gregorian julian\nΦεβ,month 2,gregorian julian\nΜαρτίου,month 3,gregorian julian\nΜαρ,month 3,gregori\
-an julian\nΑπριλίου,month 4,gregorian julian\nΑπρ,month 4,gregorian julian\nΜαΐου,month 5,gregorian jul\
-ian\nΜαΐ,month 5,gregorian julian\nΙουνίου,month 6,gregorian julian\nΙουν,month 6,gregorian julian\nΙο\
-υλίου,month 7,gregorian julian\nΙουλ,month 7,gregorian julian\nΑυγούστου,month 8,gregorian julian\nΑ\
-υγ,month 8,gregorian julian\nΣεπτεμβρίου,month 9,gregorian julian\nΣεπ,month 9,gregorian julian\nΟκτ\
-ωβρίου,month 10,gregorian julian\nΟκτ,month 10,gregorian julian\nΝοεμβρίου,month 11,gregorian julian\
-\nΝοε,month 11,gregorian julian\nΔεκεμβρίου,month 12,gregorian julian\nΔεκ,month 12,gregorian julian\nO\
-cak,month 1,gregorian julian\nOca,month 1,gregorian julian\nŞubat,month 2,gregorian julian\nŞub,month 2,gregorian jul\
-ian\nNisan,month 4,gregorian julian\nNis,month 4,gregorian julian\nMayıs,month 5,gregorian julian\nHaziran,month 6,gre\
-gorian julian\nHaz,month 6,gregorian julian\nTemmuz,month 7,gregorian julian\nTem,month 7,gregorian julian\nAğustos,mo\
-nth 8,gregorian julian\nAğu,month 8,gregorian julian\nEylül,month 9,gregorian julian\nEyl,month 9,gregorian julian\nE\
-kim,month 10,gregorian julian\nEki,month 10,gregorian julian\nKasım,month 11,gregorian julian\nKas,month 11,gregorian \
-julian\nAralık,month 12,gregorian julian\nAra,month 12,gregorian julian\nΙανουάριος,month 1,gregorian julian\
-\nΦεβρουάριος,month 2,gregorian julian\nΜάρτιος,month 3,gregorian julian\nΑπρίλιος,month 4,gr\
-egorian julian\nΜάιος,month 5,gregorian julian\nΙούνιος,month 6,gregorian julian\nΙούλιος,month 7,gr\
-egorian julian\nΑύγουστος,month 8,gregorian julian\nΣεπτέμβριος,month 9,gregorian julian\nΟκτώ\
-βριος,month 10,gregorian julian\nΝοέμβριος,month 11,gregorian julian\nΔεκέμβριος,month 12,grego\
-rian julian\nvendémiaire,month 1,french republican\nvendemiaire,month 1,french republican\nvend,month 1,french republi\
-can\nvendém,month 1,french republican\nWeinlesemonat,month 1,french republican\nVendemiär,month 1,french republican\n\
-Vendémiär,month 1,french republican\nbrumaire,month 2,french republican\nbrum,month 2,french republican\nNebelmonat,m\
-onth 2,french republican\nBrumär,month 2,french republican\nfrimaire,month 3,french republican\nfrim,month 3,french re\
-publican\nReifmonat,month 3,french republican\nFrimär,month 3,french republican\nnivôse,month 4,french republican\nni\
-vose,month 4,french republican\nniv,month 4,french republican\nSchneemonat,month 4,french republican\npluviôse,month 5\
-,french republican\npluviose,month 5,french republican\npluv,month 5,french republican\nRegenmonat,month 5,french repub\
-lican\nventôse,month 6,french republican\nventose,month 6,french republican\nvent,month 6,french republican\nWindmonat\
-,month 6,french republican\ngerminal,month 7,french republican\ngerm,month 7,french republican\nKeimmonat,month 7,frenc\
-h republican\nfloréal,month 8,french republican\nfloreal,month 8,french republican\nflor,month 8,french republican\nBl\
-ütenmonat,month 8,french republican\nprairial,month 9,french republican\nprair,month 9,french republican\nWiesenmonat,\
-month 9,french republican\nmessidor,month 10,french republican\nmess,month 10,french republican\nErntemonat,month 10,fr\
-ench republican\nthermidor,month 11,french republican\ntherm,month 11,french republican\nfervidor,month 11,french repub\
-lican\nHitzemonat,month 11,french republican\nfructidor,month 12,french republican\nfruct,month 12,french republican\nF\
-ruchtmonat,month 12,french republican\njours complémentaires,month 13,french republican\njour complémentaire,month 13\
-,french republican\ncomplémentaires,month 13,french republican\ncomplémentaire,month 13,french republican\njours comp\
-lementaires,month 13,french republican\njour complementaire,month 13,french republican\ncomplementaires,month 13,frenc\
-h republican\ncomplementaire,month 13,french republican\nsansculottides,month 13,french republican\nsans-culottides,mon\
-th 13,french republican\nsansculottide,month 13,french republican\nErgänzungstag,month 13,french republican\nErgänzun\
-gstage,month 13,french republican\nNIVO,month 4,french republican\nPRAI,month 9,french republican\nTHER,month 11,frenc\
-h republican\nFRUC,month 12,french republican\nCOMP,month 13,french republican\nmois de vendémiaire,month 1,french rep\
-ublican\nmois de brumaire,month 2,french republican\nmois de frimaire,month 3,french republican\nmois de nivôse,month \
-4,french republican\nmois de pluviôse,month 5,french republican\nmois de ventôse,month 6,french republican\nmois de g\
-erminal,month 7,french republican\nmois de floréal,month 8,french republican\nmois de prairial,month 9,french republic\
-an\nmois de messidor,month 10,french republican\nmois de thermidor,month 11,french republican\nmois de fructidor,month \
-12,french republican\nNisan,month 1,hebrew\nNissan,month 1,hebrew\nNisson,month 1,hebrew\nIjar,month 2,hebrew\nIjjar,mo\
-nth 2,hebrew\nIyar,month 2,hebrew\nIyyar,month 2,hebrew\nIar,month 2,hebrew\nJjar,month 2,hebrew\nSiwan,month 3,hebrew\
-\nSivan,month 3,hebrew\nSiwon,month 3,hebrew\nSywan,month 3,hebrew\nTammus,month 4,hebrew\nTamus,month 4,hebrew\nTammuz\
-,month 4,hebrew\nTamuz,month 4,hebrew\nThammuz,month 4,hebrew\nThamus,month 4,hebrew\nAw,month 5,hebrew\nAb,month 5,heb\
-rew\nAv,month 5,hebrew\nMenachem Aw,month 5,hebrew\nMenachem Ab,month 5,hebrew\nMenachem Av,month 5,hebrew\nElul,month \
-6,hebrew\nEllul,month 6,hebrew\nTischri,month 7,hebrew\nTischrei,month 7,hebrew\nThischri,month 7,hebrew\nTishri,month \
-7,hebrew\nTishrei,month 7,hebrew\nTiszri,month 7,hebrew\nTyszri,month 7,hebrew\nCheschwan,month 8,hebrew\nMarcheschwan,\
-month 8,hebrew\nHeshvan,month 8,hebrew\nCheshvan,month 8,hebrew\nMarcheshvan,month 8,hebrew\nMarheshvan,month 8,hebrew\
-\nCheszwan,month 8,hebrew\nMarcheszwan,month 8,hebrew\nKislew,month 9,hebrew\nKislev,month 9,hebrew\nKislow,month 9,heb\
-rew\nTewet,month 10,hebrew\nTebet,month 10,hebrew\nTebeth,month 10,hebrew\nTevet,month 10,hebrew\nTeweth,month 10,hebre\
-w\nTeves,month 10,hebrew\nSchwat,month 11,hebrew\nSchewat,month 11,hebrew\nSchebat,month 11,hebrew\nSchevat,month 11,he\
-brew\nShvat,month 11,hebrew\nShevat,month 11,hebrew\nShebat,month 11,hebrew\nSzwat,month 11,hebrew\nSzewat,month 11,heb\
-rew\nAdar I,month 12,hebrew\nAdar 1,month 12,hebrew\nAdar Rischon,month 12,hebrew\nAdar Rishon,month 12,hebrew\nAdar Ri\
-szon,month 12,hebrew\nI Adar,month 12,hebrew\n1 Adar,month 12,hebrew\nAdar II,month 13,hebrew\nAdar 2,month 13,hebrew\n\
-Adar Scheni,month 13,hebrew\nAdar Sheni,month 13,hebrew\nAdar Szeni,month 13,hebrew\nWeadar,month 13,hebrew\nVeadar,mon\
-th 13,hebrew\nII Adar,month 13,hebrew\n2 Adar,month 13,hebrew\nTSH,month 7,hebrew\nCSH,month 8,hebrew\nKSL,month 9,hebr\
-ew\nTVT,month 10,hebrew\nSHV,month 11,hebrew\nADR,month 12,hebrew\nADS,month 13,hebrew\nNSN,month 1,hebrew\nIYR,month 2\
-,hebrew\nSVN,month 3,hebrew\nTMZ,month 4,hebrew\nAAV,month 5,hebrew\nELL,month 6,hebrew\nMuharram,month 1,islamic\nMoha\
-rram,month 1,islamic\nMuḥarram,month 1,islamic\nMuharrem,month 1,islamic\nSafar,month 2,islamic\nṢafar,month 2,isla\
-mic\nSafer,month 2,islamic\nSefer,month 2,islamic\nRabi I,month 3,islamic\nRabi al-awwal,month 3,islamic\nRabīʿ al-aw\
-wal,month 3,islamic\nRabi al-auwal,month 3,islamic\nRebi I,month 3,islamic\nRebi ül-evvel,month 3,islamic\nRebiülevve\
-l,month 3,islamic\nRebiyülevvel,month 3,islamic\nRebiul-evvel,month 3,islamic\nRabiʻ I,month 3,islamic\nRabi II,mont\
-h 4,islamic\nRabi ath-thani,month 4,islamic\nRabi al-thani,month 4,islamic\nRabi al-akhir,month 4,islamic\nRabīʿ ath-\
-thānī,month 4,islamic\nRebi II,month 4,islamic\nRebi ül-ahir,month 4,islamic\nRebiülahir,month 4,islamic\nRebiülâ\
-hir,month 4,islamic\nRebiyülahir,month 4,islamic\nRabiʻ II,month 4,islamic\nJumada I,month 5,islamic\nJumada al-ula,m\
-onth 5,islamic\nDschumada I,month 5,islamic\nDschumada al-ula,month 5,islamic\nǦumādā al-ūlā,month 5,islamic\nCema\
-zi I,month 5,islamic\nCemaziyelevvel,month 5,islamic\nCemâziyelevvel,month 5,islamic\nJumada II,month 6,islamic\nJumad\
-a al-akhira,month 6,islamic\nJumada al-thani,month 6,islamic\nDschumada II,month 6,islamic\nDschumada th-thaniya,month \
-6,islamic\nǦumādā al-āḫira,month 6,islamic\nCemazi II,month 6,islamic\nCemaziyelahir,month 6,islamic\nCemâziyel\
-âhir,month 6,islamic\nRajab,month 7,islamic\nRadschab,month 7,islamic\nRaǧab,month 7,islamic\nRecep,month 7,islamic\n\
-Receb,month 7,islamic\nShaban,month 8,islamic\nSha'ban,month 8,islamic\nSchaban,month 8,islamic\nScha'ban,month 8,islam\
-ic\nŠaʿbān,month 8,islamic\nŞaban,month 8,islamic\nŞaʿbân,month 8,islamic\nShaʻban,month 8,islamic\nRamadan,mon\
-th 9,islamic\nRamaḍān,month 9,islamic\nRamazan,month 9,islamic\nShawwal,month 10,islamic\nSchawwal,month 10,islamic\
-\nŠawwāl,month 10,islamic\nŞevval,month 10,islamic\nDhu al-Qada,month 11,islamic\nDhu al-Qa'da,month 11,islamic\nDh\
-u l-Qada,month 11,islamic\nDhul-Qada,month 11,islamic\nDhu l-qaʿda,month 11,islamic\nDhū l-qaʿda,month 11,islamic\nD\
-hu l-Qa'da,month 11,islamic\nZilkade,month 11,islamic\nZi'l-ka'de,month 11,islamic\nDhuʻl-Qiʻdah,month 11,islamic\nDh\
-u al-Hijja,month 12,islamic\nDhu l-Hijja,month 12,islamic\nDhul-Hijja,month 12,islamic\nDhu l-hiddscha,month 12,islamic\
-\nDhū l-ḥiǧǧa,month 12,islamic\nZilhicce,month 12,islamic\nZi'l-hicce,month 12,islamic\nDhuʻl-Hijjah,month 12,isl\
-amic\nMoharrem,month 1,islamic\nMucharrem,month 1,islamic\nSsafer,month 2,islamic\nSsafar,month 2,islamic\nSaphar,mont\
-h 2,islamic\nRebiul-ewwel,month 3,islamic\nRebi ül-ewwel,month 3,islamic\nRebi ul-ewwel,month 3,islamic\nRebi el-ewwel\
-,month 3,islamic\nRebi el-awwel,month 3,islamic\nRebiulewwel,month 3,islamic\nRebiülewwel,month 3,islamic\nRabi el-auw\
-al,month 3,islamic\nRabi el-awwal,month 3,islamic\nRebi el-auwel,month 3,islamic\nRebiul-achir,month 4,islamic\nRebi ü\
-l-achir,month 4,islamic\nRebi ul-achir,month 4,islamic\nRebi el-achir,month 4,islamic\nRebiulachir,month 4,islamic\nReb\
-iülachir,month 4,islamic\nRabi el-achir,month 4,islamic\nRabi al-achir,month 4,islamic\nRebi el-accher,month 4,islamic\
-\nDschemasi ül-ewwel,month 5,islamic\nDschemasiul-ewwel,month 5,islamic\nDschemasiulewwel,month 5,islamic\nDschemadi e\
-l-ewwel,month 5,islamic\nDschumada el-ula,month 5,islamic\nDschumadi I,month 5,islamic\nDschemadi I,month 5,islamic\nDs\
-chemasi I,month 5,islamic\nDschumadi el-ewwel,month 5,islamic\nDschemadi ül-ewwel,month 5,islamic\nDschemasi ül-achir\
-,month 6,islamic\nDschemasiul-achir,month 6,islamic\nDschemasiulachir,month 6,islamic\nDschemadi el-achir,month 6,islam\
-ic\nDschumada el-achira,month 6,islamic\nDschumadi II,month 6,islamic\nDschemadi II,month 6,islamic\nDschemasi II,mont\
-h 6,islamic\nDschumadi el-achir,month 6,islamic\nDschemadi ül-achir,month 6,islamic\nRedscheb,month 7,islamic\nRedsche\
-p,month 7,islamic\nRedjeb,month 7,islamic\nRadscheb,month 7,islamic\nSchaaban,month 8,islamic\nScha'abân,month 8,islam\
-ic\nSchabân,month 8,islamic\nSchâban,month 8,islamic\nRamasan,month 9,islamic\nRamazân,month 9,islamic\nRamadân,mon\
-th 9,islamic\nSchewwal,month 10,islamic\nSchewal,month 10,islamic\nSchauwal,month 10,islamic\nSchawal,month 10,islamic\
-\nSilkade,month 11,islamic\nSilkide,month 11,islamic\nSulkade,month 11,islamic\nDulkade,month 11,islamic\nDsulkade,mont\
-h 11,islamic\nDhulkade,month 11,islamic\nDsu'l-kade,month 11,islamic\nDhu'l-Kade,month 11,islamic\nDhu l-Kade,month 11,\
-islamic\nSilkaade,month 11,islamic\nZilkide,month 11,islamic\nSilhidsche,month 12,islamic\nSilhidje,month 12,islamic\nS\
-ilhiddsche,month 12,islamic\nSulhidsche,month 12,islamic\nDulhidsche,month 12,islamic\nDsulhidsche,month 12,islamic\nDh\
-ulhidsche,month 12,islamic\nDhulhiddsche,month 12,islamic\nDsu'l-hidsche,month 12,islamic\nDhu'l-Hidscha,month 12,islam\
-ic\nDhu l-Hidscha,month 12,islamic\nDhul-Hidscha,month 12,islamic\nThout,month 1,coptic\nThot,month 1,coptic\nThoth,mon\
-th 1,coptic\nTut,month 1,coptic\nTout,month 1,coptic\nPaopi,month 2,coptic\nPhaophi,month 2,coptic\nBabah,month 2,copti\
-c\nBaba,month 2,coptic\nHathor,month 3,coptic\nAthyr,month 3,coptic\nHatur,month 3,coptic\nHator,month 3,coptic\nKoiak,\
-month 4,coptic\nChoiak,month 4,coptic\nKiyahk,month 4,coptic\nKiahk,month 4,coptic\nTobi,month 5,coptic\nTybi,month 5,c\
-optic\nTubah,month 5,coptic\nToba,month 5,coptic\nMeshir,month 6,coptic\nMechir,month 6,coptic\nAmshir,month 6,coptic\n\
-Amschir,month 6,coptic\nMeschir,month 6,coptic\nParemhat,month 7,coptic\nPhamenoth,month 7,coptic\nBaramhat,month 7,cop\
-tic\nParmouti,month 8,coptic\nPharmuthi,month 8,coptic\nBaramudah,month 8,coptic\nBaramuda,month 8,coptic\nBaramouda,mo\
-nth 8,coptic\nParemoude,month 8,coptic\nPashons,month 9,coptic\nPachon,month 9,coptic\nBashans,month 9,coptic\nBaschans\
-,month 9,coptic\nPaschons,month 9,coptic\nPaoni,month 10,coptic\nPayni,month 10,coptic\nBaunah,month 10,coptic\nBauna,m\
-onth 10,coptic\nPaona,month 10,coptic\nEpip,month 11,coptic\nEpiphi,month 11,coptic\nAbib,month 11,coptic\nEpep,month 1\
-1,coptic\nMesori,month 12,coptic\nMesore,month 12,coptic\nMisra,month 12,coptic\nMesra,month 12,coptic\nNasie,month 13,\
-coptic\nEpagomenen,month 13,coptic\nPi Kogi Enavot,month 13,coptic\nNasi,month 13,coptic\nMaskaram,month 1,ethiopic\nMe\
-skerem,month 1,ethiopic\nMäskäräm,month 1,ethiopic\nTeqemt,month 2,ethiopic\nTikimt,month 2,ethiopic\nTiqimt,month 2\
-,ethiopic\nṬəqəmt,month 2,ethiopic\nTekemt,month 2,ethiopic\nHedar,month 3,ethiopic\nHidar,month 3,ethiopic\nḪəd\
-ar,month 3,ethiopic\nTahsas,month 4,ethiopic\nTachsas,month 4,ethiopic\nTaḫśaś,month 4,ethiopic\nTer,month 5,ethiop\
-ic\nTir,month 5,ethiopic\nṬərr,month 5,ethiopic\nYakatit,month 6,ethiopic\nYekatit,month 6,ethiopic\nYäkatit,month \
-6,ethiopic\nMagabit,month 7,ethiopic\nMegabit,month 7,ethiopic\nMäggabit,month 7,ethiopic\nMägabit,month 7,ethiopic\n\
-Miyazya,month 8,ethiopic\nMiazia,month 8,ethiopic\nMiyazia,month 8,ethiopic\nGenbot,month 9,ethiopic\nGinbot,month 9,et\
-hiopic\nGənbot,month 9,ethiopic\nSane,month 10,ethiopic\nSene,month 10,ethiopic\nSäne,month 10,ethiopic\nHamle,month \
-11,ethiopic\nHamlé,month 11,ethiopic\nḤamle,month 11,ethiopic\nNahase,month 12,ethiopic\nNehase,month 12,ethiopic\nN\
-ähase,month 12,ethiopic\nNehasse,month 12,ethiopic\nPagumen,month 13,ethiopic\nPagume,month 13,ethiopic\nPagwemen,mont\
-h 13,ethiopic\nṖagʷəmen,month 13,ethiopic\nṖagumen,month 13,ethiopic\nKalendas,K,roman\nKalendis,K,roman\nKalenda\
-e,K,roman\nKalendarum,K,roman\nKal,K,roman\nKl,K,roman\nK,K,roman\nCalendas,K,roman\nCalendis,K,roman\nCalendae,K,roman\
-\nCal,K,roman\nNonas,N,roman\nNonis,N,roman\nNonae,N,roman\nNonarum,N,roman\nNon,N,roman\nN,N,roman\nIdus,I,roman\nIdib\
-us,I,roman\nIduum,I,roman\nId,I,roman\nEid,I,roman\npridie,2,roman\nprid,2,roman\npr,2,roman\ntertio,3,roman\nquarto,4,\
-roman\nquinto,5,roman\nsexto,6,roman\nseptimo,7,roman\noctavo,8,roman\nnono,9,roman\ndecimo,10,roman\nundecimo,11,roman\
-\nduodecimo,12,roman\ntertio decimo,13,roman\nquarto decimo,14,roman\nquinto decimo,15,roman\nsexto decimo,16,roman\nse\
-ptimo decimo,17,roman\nduodevicesimo,18,roman\nundevicesimo,19,roman\ndecimo tertio,13,roman\ndecimo quarto,14,roman\nd\
-ecimo quinto,15,roman\ndecimo sexto,16,roman\ndecimo septimo,17,roman\nIIII,4,french republican\nVIIII,9,french republi\
-can\nXIIII,14,french republican\n2d,2,\n3d,3,\n22d,22,\n23d,23,\n1 ten,1,\nd 1,1,\nd 1 ten,1,\n2 ten,2,\nd 2,2,\nd 2 te\
-n,2,\n3 ten,3,\nd 3,3,\nd 3 ten,3,\n4 ten,4,\nd 4,4,\nd 4 ten,4,\n5 ten,5,\nd 5,5,\nd 5 ten,5,\n6 ten,6,\nd 6,6,\nd 6 t\
-en,6,\n7 ten,7,\nd 7,7,\nd 7 ten,7,\n8 ten,8,\nd 8,8,\nd 8 ten,8,\n9 ten,9,\nd 9,9,\nd 9 ten,9,\n10 ten,10,\nd 10,10,\n\
-d 10 ten,10,\n11 ten,11,\nd 11,11,\nd 11 ten,11,\n12 ten,12,\nd 12,12,\nd 12 ten,12,\n13 ten,13,\nd 13,13,\nd 13 ten,13\
-,\n14 ten,14,\nd 14,14,\nd 14 ten,14,\n15 ten,15,\nd 15,15,\nd 15 ten,15,\n16 ten,16,\nd 16,16,\nd 16 ten,16,\n17 ten,1\
-7,\nd 17,17,\nd 17 ten,17,\n18 ten,18,\nd 18,18,\nd 18 ten,18,\n19 ten,19,\nd 19,19,\nd 19 ten,19,\n20 ten,20,\nd 20,20\
-,\nd 20 ten,20,\n21 ten,21,\nd 21,21,\nd 21 ten,21,\n22 ten,22,\nd 22,22,\nd 22 ten,22,\n23 ten,23,\nd 23,23,\nd 23 ten\
-,23,\n24 ten,24,\nd 24,24,\nd 24 ten,24,\n25 ten,25,\nd 25,25,\nd 25 ten,25,\n26 ten,26,\nd 26,26,\nd 26 ten,26,\n27 te\
-n,27,\nd 27,27,\nd 27 ten,27,\n28 ten,28,\nd 28,28,\nd 28 ten,28,\n29 ten,29,\nd 29,29,\nd 29 ten,29,\n30 ten,30,\nd 30\
-,30,\nd 30 ten,30,\n31 ten,31,\nd 31,31,\nd 31 ten,31,\ntwo,2,\nthree,3,\nfour,4,\nfive,5,\nsix,6,\nseven,7,\neight,8,\
-\nnine,9,\nten,10,\neleven,11,\ntwelve,12,\nthirteen,13,\nfourteen,14,\nfifteen,15,\nsixteen,16,\nseventeen,17,\neighte\
-en,18,\nnineteen,19,\ntwenty,20,\ntwenty-one,21,\ntwenty-two,22,\ntwenty-three,23,\ntwenty-four,24,\ntwenty-five,25,\nt\
-wenty-six,26,\ntwenty-seven,27,\ntwenty-eight,28,\ntwenty-nine,29,\nthirty,30,\nthirty-one,31,\nthirty-two,32,\nthirty-\
-three,33,\nthirty-four,34,\nthirty-five,35,\nthirty-six,36,\nthirty-seven,37,\nthirty-eight,38,\nthirty-nine,39,\nforty\
-,40,\nforty-one,41,\nforty-two,42,\nforty-three,43,\nforty-four,44,\nforty-five,45,\nforty-six,46,\nforty-seven,47,\nfo\
-rty-eight,48,\nforty-nine,49,\nfifty,50,\nfifty-one,51,\nfifty-two,52,\nfifty-three,53,\nfifty-four,54,\nfifty-five,55,\
-\nfifty-six,56,\nfifty-seven,57,\nfifty-eight,58,\nfifty-nine,59,\nsixty,60,\nsixty-one,61,\nsixty-two,62,\nsixty-three\
-,63,\nsixty-four,64,\nsixty-five,65,\nsixty-six,66,\nsixty-seven,67,\nsixty-eight,68,\nsixty-nine,69,\nseventy,70,\nsev\
-enty-one,71,\nseventy-two,72,\nseventy-three,73,\nseventy-four,74,\nseventy-five,75,\nseventy-six,76,\nseventy-seven,77\
-,\nseventy-eight,78,\nseventy-nine,79,\neighty,80,\neighty-one,81,\neighty-two,82,\neighty-three,83,\neighty-four,84,\n\
-eighty-five,85,\neighty-six,86,\neighty-seven,87,\neighty-eight,88,\neighty-nine,89,\nninety,90,\nninety-one,91,\nninet\
-y-two,92,\nninety-three,93,\nninety-four,94,\nninety-five,95,\nninety-six,96,\nninety-seven,97,\nninety-eight,98,\nnine\
-ty-nine,99,\nfirst,1,\nsecond,2,\nthird,3,\nfourth,4,\nfifth,5,\nsixth,6,\nseventh,7,\neighth,8,\nninth,9,\ntenth,10,\n\
-eleventh,11,\ntwelfth,12,\nthirteenth,13,\nfourteenth,14,\nfifteenth,15,\nsixteenth,16,\nseventeenth,17,\neighteenth,18\
-,\nnineteenth,19,\ntwentieth,20,\ntwenty-first,21,\ntwenty-second,22,\ntwenty-third,23,\ntwenty-fourth,24,\ntwenty-fift\
-h,25,\ntwenty-sixth,26,\ntwenty-seventh,27,\ntwenty-eighth,28,\ntwenty-ninth,29,\nthirtieth,30,\nthirty-first,31,\none \
-hundred,100,\none hundred and,100,\none hundred one,101,\none hundred and one,101,\na hundred,100,\na hundred and,100,\
-\na hundred one,101,\na hundred and one,101,\ntwo hundred,200,\ntwo hundred and,200,\ntwo hundred one,201,\ntwo hundre\
-d and one,201,\nthree hundred,300,\nthree hundred and,300,\nthree hundred one,301,\nthree hundred and one,301,\nfour hu\
-ndred,400,\nfour hundred and,400,\nfour hundred one,401,\nfour hundred and one,401,\nfive hundred,500,\nfive hundred an\
-d,500,\nfive hundred one,501,\nfive hundred and one,501,\nsix hundred,600,\nsix hundred and,600,\nsix hundred one,601,\
-\nsix hundred and one,601,\nseven hundred,700,\nseven hundred and,700,\nseven hundred one,701,\nseven hundred and one,7\
-01,\neight hundred,800,\neight hundred and,800,\neight hundred one,801,\neight hundred and one,801,\nnine hundred,900,\
-\nnine hundred and,900,\nnine hundred one,901,\nnine hundred and one,901,\neleven hundred,1100,\neleven hundred and,110\
-0,\neleven hundred one,1101,\neleven hundred and one,1101,\ntwelve hundred,1200,\ntwelve hundred and,1200,\ntwelve hund\
-red one,1201,\ntwelve hundred and one,1201,\nthirteen hundred,1300,\nthirteen hundred and,1300,\nthirteen hundred one,1\
-301,\nthirteen hundred and one,1301,\nfourteen hundred,1400,\nfourteen hundred and,1400,\nfourteen hundred one,1401,\nf\
-ourteen hundred and one,1401,\nfifteen hundred,1500,\nfifteen hundred and,1500,\nfifteen hundred one,1501,\nfifteen hun\
-dred and one,1501,\nsixteen hundred,1600,\nsixteen hundred and,1600,\nsixteen hundred one,1601,\nsixteen hundred and on\
-e,1601,\nseventeen hundred,1700,\nseventeen hundred and,1700,\nseventeen hundred one,1701,\nseventeen hundred and one,1\
-701,\neighteen hundred,1800,\neighteen hundred and,1800,\neighteen hundred one,1801,\neighteen hundred and one,1801,\nn\
-ineteen hundred,1900,\nnineteen hundred and,1900,\nnineteen hundred one,1901,\nnineteen hundred and one,1901,\none thou\
-sand,1000,\none thousand and,1000,\none thousand and one,1001,\na thousand,1000,\na thousand and,1000,\na thousand and \
-one,1001,\ntwo thousand,2000,\ntwo thousand and,2000,\ntwo thousand and one,2001,\ndeux,2,\ntrois,3,\nquatre,4,\ncinq,5\
-,\nsept,7,coptic ethiopic egyptian armenian islamic hebrew french republican\nle sept,7,gregorian julian\nhuit,8,\nneuf\
-,9,\ndix,10,\nonze,11,\ndouze,12,\ntreize,13,\nquatorze,14,\nquinze,15,\nseize,16,\ndix-sept,17,\ndix-huit,18,\ndix-neu\
-f,19,\nvingt,20,\nvingt et un,21,\nvingt-un,21,\nvingt-deux,22,\nvingt-trois,23,\nvingt-quatre,24,\nvingt-cinq,25,\nvin\
-gt-six,26,\nvingt-sept,27,\nvingt-huit,28,\nvingt-neuf,29,\ntrente,30,\ntrente et un,31,\ntrente-un,31,\ntrente-deux,32\
-,\ntrente-trois,33,\ntrente-quatre,34,\ntrente-cinq,35,\ntrente-six,36,\ntrente-sept,37,\ntrente-huit,38,\ntrente-neuf,\
-39,\nquarante,40,\nquarante et un,41,\nquarante-un,41,\nquarante-deux,42,\nquarante-trois,43,\nquarante-quatre,44,\nqua\
-rante-cinq,45,\nquarante-six,46,\nquarante-sept,47,\nquarante-huit,48,\nquarante-neuf,49,\ncinquante,50,\ncinquante et \
-un,51,\ncinquante-un,51,\ncinquante-deux,52,\ncinquante-trois,53,\ncinquante-quatre,54,\ncinquante-cinq,55,\ncinquante-\
-six,56,\ncinquante-sept,57,\ncinquante-huit,58,\ncinquante-neuf,59,\nsoixante,60,\nsoixante et un,61,\nsoixante-un,61,\
-\nsoixante-deux,62,\nsoixante-trois,63,\nsoixante-quatre,64,\nsoixante-cinq,65,\nsoixante-six,66,\nsoixante-sept,67,\ns\
-oixante-huit,68,\nsoixante-neuf,69,\nsoixante-dix,70,\nseptante,70,\nsoixante et onze,71,\nsoixante-onze,71,\nseptante \
-et un,71,\nseptante-un,71,\nsoixante-douze,72,\nseptante-deux,72,\nsoixante-treize,73,\nseptante-trois,73,\nsoixante-qu\
-atorze,74,\nseptante-quatre,74,\nsoixante-quinze,75,\nseptante-cinq,75,\nsoixante-seize,76,\nseptante-six,76,\nsoixante\
--dix-sept,77,\nseptante-sept,77,\nsoixante-dix-huit,78,\nseptante-huit,78,\nsoixante-dix-neuf,79,\nseptante-neuf,79,\nq\
-uatre-vingts,80,\nquatre-vingt,80,\noctante,80,\nhuitante,80,\nquatre-vingt-un,81,\noctante-un,81,\nhuitante-un,81,\nqu\
-atre-vingt-deux,82,\noctante-deux,82,\nhuitante-deux,82,\nquatre-vingt-trois,83,\noctante-trois,83,\nhuitante-trois,83,\
-\nquatre-vingt-quatre,84,\noctante-quatre,84,\nhuitante-quatre,84,\nquatre-vingt-cinq,85,\noctante-cinq,85,\nhuitante-c\
-inq,85,\nquatre-vingt-six,86,\noctante-six,86,\nhuitante-six,86,\nquatre-vingt-sept,87,\noctante-sept,87,\nhuitante-sep\
-t,87,\nquatre-vingt-huit,88,\noctante-huit,88,\nhuitante-huit,88,\nquatre-vingt-neuf,89,\noctante-neuf,89,\nhuitante-ne\
-uf,89,\nquatre-vingt-dix,90,\nnonante,90,\nquatre-vingt-onze,91,\nnonante et un,91,\nnonante-un,91,\nquatre-vingt-douze\
-,92,\nnonante-deux,92,\nquatre-vingt-treize,93,\nnonante-trois,93,\nquatre-vingt-quatorze,94,\nnonante-quatre,94,\nquat\
-re-vingt-quinze,95,\nnonante-cinq,95,\nquatre-vingt-seize,96,\nnonante-six,96,\nquatre-vingt-dix-sept,97,\nnonante-sept\
-,97,\nquatre-vingt-dix-huit,98,\nnonante-huit,98,\nquatre-vingt-dix-neuf,99,\nnonante-neuf,99,\nan un,1,french republic\
-an\npremier,1,\ndeuxième,2,\ndeuxieme,2,\ndeuxiesme,2,\ntroisième,3,\ntroisieme,3,\ntroisiesme,3,\nquatrième,4,\nqua\
-trieme,4,\nquatriesme,4,\ncinquième,5,\ncinquieme,5,\ncinquiesme,5,\nsixième,6,\nsixieme,6,\nsixiesme,6,\nseptième,7\
-,\nseptieme,7,\nseptiesme,7,\nhuitième,8,\nhuitieme,8,\nhuitiesme,8,\nneuvième,9,\nneuvieme,9,\nneuviesme,9,\ndixièm\
-e,10,\ndixieme,10,\ndixiesme,10,\nonzième,11,\nonzieme,11,\nonziesme,11,\ndouzième,12,\ndouzieme,12,\ndouziesme,12,\n\
-treizième,13,\ntreizieme,13,\ntreiziesme,13,\nquatorzième,14,\nquatorzieme,14,\nquatorziesme,14,\nquinzième,15,\nqui\
-nzieme,15,\nquinziesme,15,\nseizième,16,\nseizieme,16,\nseiziesme,16,\ndix-septième,17,\ndix-septieme,17,\ndix-septie\
-sme,17,\ndix-huitième,18,\ndix-huitieme,18,\ndix-huitiesme,18,\ndix-neuvième,19,\ndix-neuvieme,19,\ndix-neuviesme,19,\
-\nvingtième,20,\nvingtieme,20,\nvingtiesme,20,\nvingt et unième,21,\nvingt et unieme,21,\nvingt et uniesme,21,\nvingt\
--unième,21,\nvingt-unieme,21,\nvingt-uniesme,21,\nvingt-deuxième,22,\nvingt-deuxieme,22,\nvingt-deuxiesme,22,\nvingt-\
-troisième,23,\nvingt-troisieme,23,\nvingt-troisiesme,23,\nvingt-quatrième,24,\nvingt-quatrieme,24,\nvingt-quatriesme,\
-24,\nvingt-cinquième,25,\nvingt-cinquieme,25,\nvingt-cinquiesme,25,\nvingt-sixième,26,\nvingt-sixieme,26,\nvingt-sixi\
-esme,26,\nvingt-septième,27,\nvingt-septieme,27,\nvingt-septiesme,27,\nvingt-huitième,28,\nvingt-huitieme,28,\nvingt-\
-huitiesme,28,\nvingt-neuvième,29,\nvingt-neuvieme,29,\nvingt-neuviesme,29,\ntrentième,30,\ntrentieme,30,\ntrentiesme,\
-30,\ntrente et unième,31,\ntrente et unieme,31,\ntrente et uniesme,31,\ntrente-unième,31,\ntrente-unieme,31,\ntrente-\
-uniesme,31,\ncent,100,\ncent un,101,\ncent sept,107,\ndeux cent,200,\ndeux cent un,201,\ndeux cent sept,207,\ndeux cent\
-s,200,\ndeux cents un,201,\ndeux cents sept,207,\ntrois cent,300,\ntrois cent un,301,\ntrois cent sept,307,\ntrois cent\
-s,300,\ntrois cents un,301,\ntrois cents sept,307,\nquatre cent,400,\nquatre cent un,401,\nquatre cent sept,407,\nquatr\
-e cents,400,\nquatre cents un,401,\nquatre cents sept,407,\ncinq cent,500,\ncinq cent un,501,\ncinq cent sept,507,\ncin\
-q cents,500,\ncinq cents un,501,\ncinq cents sept,507,\nsix cent,600,\nsix cent un,601,\nsix cent sept,607,\nsix cents,\
-600,\nsix cents un,601,\nsix cents sept,607,\nsept cent,700,\nsept cent un,701,\nsept cent sept,707,\nsept cents,700,\n\
-sept cents un,701,\nsept cents sept,707,\nhuit cent,800,\nhuit cent un,801,\nhuit cent sept,807,\nhuit cents,800,\nhui\
-t cents un,801,\nhuit cents sept,807,\nneuf cent,900,\nneuf cent un,901,\nneuf cent sept,907,\nneuf cents,900,\nneuf ce\
-nts un,901,\nneuf cents sept,907,\nonze cent,1100,\nonze cent un,1101,\nonze cent sept,1107,\nonze cents,1100,\nonze ce\
-nts un,1101,\nonze cents sept,1107,\ndouze cent,1200,\ndouze cent un,1201,\ndouze cent sept,1207,\ndouze cents,1200,\nd\
-ouze cents un,1201,\ndouze cents sept,1207,\ntreize cent,1300,\ntreize cent un,1301,\ntreize cent sept,1307,\ntreize ce\
-nts,1300,\ntreize cents un,1301,\ntreize cents sept,1307,\nquatorze cent,1400,\nquatorze cent un,1401,\nquatorze cent s\
-ept,1407,\nquatorze cents,1400,\nquatorze cents un,1401,\nquatorze cents sept,1407,\nquinze cent,1500,\nquinze cent un,\
-1501,\nquinze cent sept,1507,\nquinze cents,1500,\nquinze cents un,1501,\nquinze cents sept,1507,\nseize cent,1600,\nse\
-ize cent un,1601,\nseize cent sept,1607,\nseize cents,1600,\nseize cents un,1601,\nseize cents sept,1607,\ndix-sept cen\
-t,1700,\ndix-sept cent un,1701,\ndix-sept cent sept,1707,\ndix-sept cents,1700,\ndix-sept cents un,1701,\ndix-sept cent\
-s sept,1707,\ndix-huit cent,1800,\ndix-huit cent un,1801,\ndix-huit cent sept,1807,\ndix-huit cents,1800,\ndix-huit cen\
-ts un,1801,\ndix-huit cents sept,1807,\ndix-neuf cent,1900,\ndix-neuf cent un,1901,\ndix-neuf cent sept,1907,\ndix-neu\
-f cents,1900,\ndix-neuf cents un,1901,\ndix-neuf cents sept,1907,\nmil,1000,\nmil un,1001,\nmille,1000,\nmille un,1001,\
-\ndeux mil,2000,\ndeux mille,2000,\ndeux mil un,2001,\ndeux mille un,2001,\neins,1,\nzwei,2,\nzwey,2,\ndrei,3,\ndrey,3,\
-\nvier,4,\nfünf,5,\nsechs,6,\nsieben,7,\nacht,8,\nneun,9,\nzehn,10,\nelf,11,\nzwölf,12,\ndreizehn,13,\ndreyzehn,13,\n\
-vierzehn,14,\nfünfzehn,15,\nsechzehn,16,\nsiebzehn,17,\nachtzehn,18,\nneunzehn,19,\nzwanzig,20,\neinundzwanzig,21,\nei\
-n und zwanzig,21,\nzweiundzwanzig,22,\nzweyundzwanzig,22,\nzwei und zwanzig,22,\nzwey und zwanzig,22,\ndreiundzwanzig,2\
-3,\ndreyundzwanzig,23,\ndrei und zwanzig,23,\ndrey und zwanzig,23,\nvierundzwanzig,24,\nvier und zwanzig,24,\nfünfundz\
-wanzig,25,\nfünf und zwanzig,25,\nsechsundzwanzig,26,\nsechs und zwanzig,26,\nsiebenundzwanzig,27,\nsieben und zwanzig\
-,27,\nachtundzwanzig,28,\nacht und zwanzig,28,\nneunundzwanzig,29,\nneun und zwanzig,29,\ndreißig,30,\ndreyßig,30,\ne\
-inunddreißig,31,\neinunddreyßig,31,\nein und dreißig,31,\nein und dreyßig,31,\nzweiunddreißig,32,\nzweyunddreißig\
-,32,\nzweiunddreyßig,32,\nzweyunddreyßig,32,\nzwei und dreißig,32,\nzwey und dreißig,32,\nzwei und dreyßig,32,\nzw\
-ey und dreyßig,32,\ndreiunddreißig,33,\ndreyunddreyßig,33,\ndrei und dreißig,33,\ndrey und dreyßig,33,\nvierunddre\
-ißig,34,\nvierunddreyßig,34,\nvier und dreißig,34,\nvier und dreyßig,34,\nfünfunddreißig,35,\nfünfunddreyßig,35\
-,\nfünf und dreißig,35,\nfünf und dreyßig,35,\nsechsunddreißig,36,\nsechsunddreyßig,36,\nsechs und dreißig,36,\n\
-sechs und dreyßig,36,\nsiebenunddreißig,37,\nsiebenunddreyßig,37,\nsieben und dreißig,37,\nsieben und dreyßig,37,\
-\nachtunddreißig,38,\nachtunddreyßig,38,\nacht und dreißig,38,\nacht und dreyßig,38,\nneununddreißig,39,\nneunundd\
-reyßig,39,\nneun und dreißig,39,\nneun und dreyßig,39,\nvierzig,40,\neinundvierzig,41,\nein und vierzig,41,\nzweiund\
-vierzig,42,\nzweyundvierzig,42,\nzwei und vierzig,42,\nzwey und vierzig,42,\ndreiundvierzig,43,\ndreyundvierzig,43,\ndr\
-ei und vierzig,43,\ndrey und vierzig,43,\nvierundvierzig,44,\nvier und vierzig,44,\nfünfundvierzig,45,\nfünf und vier\
-zig,45,\nsechsundvierzig,46,\nsechs und vierzig,46,\nsiebenundvierzig,47,\nsieben und vierzig,47,\nachtundvierzig,48,\n\
-acht und vierzig,48,\nneunundvierzig,49,\nneun und vierzig,49,\nfünfzig,50,\neinundfünfzig,51,\nein und fünfzig,51,\
-\nzweiundfünfzig,52,\nzweyundfünfzig,52,\nzwei und fünfzig,52,\nzwey und fünfzig,52,\ndreiundfünfzig,53,\ndreyundf\
-ünfzig,53,\ndrei und fünfzig,53,\ndrey und fünfzig,53,\nvierundfünfzig,54,\nvier und fünfzig,54,\nfünfundfünfzig\
-,55,\nfünf und fünfzig,55,\nsechsundfünfzig,56,\nsechs und fünfzig,56,\nsiebenundfünfzig,57,\nsieben und fünfzig,\
-57,\nachtundfünfzig,58,\nacht und fünfzig,58,\nneunundfünfzig,59,\nneun und fünfzig,59,\nsechzig,60,\neinundsechzig\
-,61,\nein und sechzig,61,\nzweiundsechzig,62,\nzweyundsechzig,62,\nzwei und sechzig,62,\nzwey und sechzig,62,\ndreiunds\
-echzig,63,\ndreyundsechzig,63,\ndrei und sechzig,63,\ndrey und sechzig,63,\nvierundsechzig,64,\nvier und sechzig,64,\nf\
-ünfundsechzig,65,\nfünf und sechzig,65,\nsechsundsechzig,66,\nsechs und sechzig,66,\nsiebenundsechzig,67,\nsieben un\
-d sechzig,67,\nachtundsechzig,68,\nacht und sechzig,68,\nneunundsechzig,69,\nneun und sechzig,69,\nsiebzig,70,\neinunds\
-iebzig,71,\nein und siebzig,71,\nzweiundsiebzig,72,\nzweyundsiebzig,72,\nzwei und siebzig,72,\nzwey und siebzig,72,\ndr\
-eiundsiebzig,73,\ndreyundsiebzig,73,\ndrei und siebzig,73,\ndrey und siebzig,73,\nvierundsiebzig,74,\nvier und siebzig,\
-74,\nfünfundsiebzig,75,\nfünf und siebzig,75,\nsechsundsiebzig,76,\nsechs und siebzig,76,\nsiebenundsiebzig,77,\nsieb\
-en und siebzig,77,\nachtundsiebzig,78,\nacht und siebzig,78,\nneunundsiebzig,79,\nneun und siebzig,79,\nachtzig,80,\nei\
-nundachtzig,81,\nein und achtzig,81,\nzweiundachtzig,82,\nzweyundachtzig,82,\nzwei und achtzig,82,\nzwey und achtzig,82\
-,\ndreiundachtzig,83,\ndreyundachtzig,83,\ndrei und achtzig,83,\ndrey und achtzig,83,\nvierundachtzig,84,\nvier und ach\
-tzig,84,\nfünfundachtzig,85,\nfünf und achtzig,85,\nsechsundachtzig,86,\nsechs und achtzig,86,\nsiebenundachtzig,87,\
-\nsieben und achtzig,87,\nachtundachtzig,88,\nacht und achtzig,88,\nneunundachtzig,89,\nneun und achtzig,89,\nneunzig,9\
-0,\neinundneunzig,91,\nein und neunzig,91,\nzweiundneunzig,92,\nzweyundneunzig,92,\nzwei und neunzig,92,\nzwey und neun\
-zig,92,\ndreiundneunzig,93,\ndreyundneunzig,93,\ndrei und neunzig,93,\ndrey und neunzig,93,\nvierundneunzig,94,\nvier u\
-nd neunzig,94,\nfünfundneunzig,95,\nfünf und neunzig,95,\nsechsundneunzig,96,\nsechs und neunzig,96,\nsiebenundneunzi\
-g,97,\nsieben und neunzig,97,\nachtundneunzig,98,\nacht und neunzig,98,\nneunundneunzig,99,\nneun und neunzig,99,\nzwo,\
-2,\neilf,11,\nerste,1,\nersten,1,\nerster,1,\nzweite,2,\nzweiten,2,\nzweiter,2,\nzweyte,2,\nzweyten,2,\nzweyter,2,\nzwo\
-te,2,\nzwoten,2,\nzwoter,2,\ndritte,3,\ndritten,3,\ndritter,3,\nvierte,4,\nvierten,4,\nvierter,4,\nfünfte,5,\nfünften\
-,5,\nfünfter,5,\nsechste,6,\nsechsten,6,\nsechster,6,\nsiebente,7,\nsiebenten,7,\nsiebenter,7,\nsiebte,7,\nsiebten,7,\
-\nsiebter,7,\nachte,8,\nachten,8,\nachter,8,\nneunte,9,\nneunten,9,\nneunter,9,\nzehnte,10,\nzehnten,10,\nzehnter,10,\n\
-elfte,11,\nelften,11,\nelfter,11,\neilfte,11,\neilften,11,\neilfter,11,\nzwölfte,12,\nzwölften,12,\nzwölfter,12,\ndr\
-eizehnte,13,\ndreizehnten,13,\ndreizehnter,13,\ndreyzehnte,13,\ndreyzehnten,13,\ndreyzehnter,13,\nvierzehnte,14,\nvierz\
-ehnten,14,\nvierzehnter,14,\nfünfzehnte,15,\nfünfzehnten,15,\nfünfzehnter,15,\nsechzehnte,16,\nsechzehnten,16,\nsech\
-zehnter,16,\nsiebzehnte,17,\nsiebzehnten,17,\nsiebzehnter,17,\nachtzehnte,18,\nachtzehnten,18,\nachtzehnter,18,\nneunze\
-hnte,19,\nneunzehnten,19,\nneunzehnter,19,\nzwanzigste,20,\nzwanzigsten,20,\nzwanzigster,20,\neinundzwanzigste,21,\nein\
-undzwanzigsten,21,\neinundzwanzigster,21,\nein und zwanzigste,21,\nein und zwanzigsten,21,\nein und zwanzigster,21,\nzw\
-eiundzwanzigste,22,\nzweiundzwanzigsten,22,\nzweiundzwanzigster,22,\nzweyundzwanzigste,22,\nzweyundzwanzigsten,22,\nzwe\
-yundzwanzigster,22,\nzwei und zwanzigste,22,\nzwei und zwanzigsten,22,\nzwei und zwanzigster,22,\nzwey und zwanzigste,2\
-2,\nzwey und zwanzigsten,22,\nzwey und zwanzigster,22,\ndreiundzwanzigste,23,\ndreiundzwanzigsten,23,\ndreiundzwanzigst\
-er,23,\ndreyundzwanzigste,23,\ndreyundzwanzigsten,23,\ndreyundzwanzigster,23,\ndrei und zwanzigste,23,\ndrei und zwanzi\
-gsten,23,\ndrei und zwanzigster,23,\ndrey und zwanzigste,23,\ndrey und zwanzigsten,23,\ndrey und zwanzigster,23,\nvieru\
-ndzwanzigste,24,\nvierundzwanzigsten,24,\nvierundzwanzigster,24,\nvier und zwanzigste,24,\nvier und zwanzigsten,24,\nvi\
-er und zwanzigster,24,\nfünfundzwanzigste,25,\nfünfundzwanzigsten,25,\nfünfundzwanzigster,25,\nfünf und zwanzigste,\
-25,\nfünf und zwanzigsten,25,\nfünf und zwanzigster,25,\nsechsundzwanzigste,26,\nsechsundzwanzigsten,26,\nsechsundzwa\
-nzigster,26,\nsechs und zwanzigste,26,\nsechs und zwanzigsten,26,\nsechs und zwanzigster,26,\nsiebenundzwanzigste,27,\n\
-siebenundzwanzigsten,27,\nsiebenundzwanzigster,27,\nsieben und zwanzigste,27,\nsieben und zwanzigsten,27,\nsieben und z\
-wanzigster,27,\nachtundzwanzigste,28,\nachtundzwanzigsten,28,\nachtundzwanzigster,28,\nacht und zwanzigste,28,\nacht un\
-d zwanzigsten,28,\nacht und zwanzigster,28,\nneunundzwanzigste,29,\nneunundzwanzigsten,29,\nneunundzwanzigster,29,\nneu\
-n und zwanzigste,29,\nneun und zwanzigsten,29,\nneun und zwanzigster,29,\ndreißigste,30,\ndreißigsten,30,\ndreißigst\
-er,30,\ndreyßigste,30,\ndreyßigsten,30,\ndreyßigster,30,\neinunddreißigste,31,\neinunddreißigsten,31,\neinunddrei\
-ßigster,31,\neinunddreyßigste,31,\neinunddreyßigsten,31,\neinunddreyßigster,31,\nein und dreißigste,31,\nein und d\
-reißigsten,31,\nein und dreißigster,31,\nein und dreyßigste,31,\nein und dreyßigsten,31,\nein und dreyßigster,31,\
-\neinhundert,100,\neinhundert und,100,\nein hundert,100,\nein hundert und,100,\nhundert,100,\nhundert und,100,\nzweihun\
-dert,200,\nzweihundert und,200,\nzwei hundert,200,\nzwei hundert und,200,\nzweyhundert,200,\nzweyhundert und,200,\nzwe\
-y hundert,200,\nzwey hundert und,200,\ndreihundert,300,\ndreihundert und,300,\ndrei hundert,300,\ndrei hundert und,300,\
-\ndreyhundert,300,\ndreyhundert und,300,\ndrey hundert,300,\ndrey hundert und,300,\nvierhundert,400,\nvierhundert und,4\
-00,\nvier hundert,400,\nvier hundert und,400,\nfünfhundert,500,\nfünfhundert und,500,\nfünf hundert,500,\nfünf hund\
-ert und,500,\nsechshundert,600,\nsechshundert und,600,\nsechs hundert,600,\nsechs hundert und,600,\nsiebenhundert,700,\
-\nsiebenhundert und,700,\nsieben hundert,700,\nsieben hundert und,700,\nachthundert,800,\nachthundert und,800,\nacht hu\
-ndert,800,\nacht hundert und,800,\nneunhundert,900,\nneunhundert und,900,\nneun hundert,900,\nneun hundert und,900,\nel\
-fhundert,1100,\nelfhundert und,1100,\nelf hundert,1100,\nelf hundert und,1100,\nzwölfhundert,1200,\nzwölfhundert und,\
-1200,\nzwölf hundert,1200,\nzwölf hundert und,1200,\ndreizehnhundert,1300,\ndreizehnhundert und,1300,\ndreizehn hunde\
-rt,1300,\ndreizehn hundert und,1300,\ndreyzehnhundert,1300,\ndreyzehnhundert und,1300,\ndreyzehn hundert,1300,\ndreyzeh\
-n hundert und,1300,\nvierzehnhundert,1400,\nvierzehnhundert und,1400,\nvierzehn hundert,1400,\nvierzehn hundert und,140\
-0,\nfünfzehnhundert,1500,\nfünfzehnhundert und,1500,\nfünfzehn hundert,1500,\nfünfzehn hundert und,1500,\nsechzehnh\
-undert,1600,\nsechzehnhundert und,1600,\nsechzehn hundert,1600,\nsechzehn hundert und,1600,\nsiebzehnhundert,1700,\nsie\
-bzehnhundert und,1700,\nsiebzehn hundert,1700,\nsiebzehn hundert und,1700,\nachtzehnhundert,1800,\nachtzehnhundert und,\
-1800,\nachtzehn hundert,1800,\nachtzehn hundert und,1800,\nneunzehnhundert,1900,\nneunzehnhundert und,1900,\nneunzehn h\
-undert,1900,\nneunzehn hundert und,1900,\ntausend,1000,\ntausend und,1000,\neintausend,1000,\neintausend und,1000,\nei\
-n tausend,1000,\nein tausend und,1000,\nzweitausend,2000,\nzweitausend und,2000,\nzwei tausend,2000,\nzwei tausend und,\
-2000,\nMontag,weekday 1,\nDienstag,weekday 2,\nMittwoch,weekday 3,\nDonnerstag,weekday 4,\nFreitag,weekday 5,\nSamstag,\
-weekday 6,\nSonnabend,weekday 6,\nSonntag,weekday 0,\nMo,weekday 1,\nDi,weekday 2,gregorian julian coptic ethiopic egyp\
-tian armenian islamic hebrew french republican\nMi,weekday 3,gregorian julian coptic ethiopic egyptian armenian islami\
-c hebrew french republican\nDo,weekday 4,\nFr,weekday 5,\nSa,weekday 6,\nSo,weekday 0,\nMonday,weekday 1,\nTuesday,week\
-day 2,\nWednesday,weekday 3,\nThursday,weekday 4,\nFriday,weekday 5,\nSaturday,weekday 6,\nSunday,weekday 0,\nMon,weekd\
-ay 1,\nTue,weekday 2,\nTues,weekday 2,\nWed,weekday 3,\nThu,weekday 4,\nThur,weekday 4,\nThurs,weekday 4,\nFri,weekday \
-5,\nSat,weekday 6,\nSun,weekday 0,\nlundi,weekday 1,\nmardi,weekday 2,\nmercredi,weekday 3,\njeudi,weekday 4,\nvendredi\
-,weekday 5,\nsamedi,weekday 6,\ndimanche,weekday 0,\nlun,weekday 1,\nmer,weekday 3,\njeu,weekday 4,\nven,weekday 5,\nsa\
-m,weekday 6,\ndim,weekday 0,\nmaandag,weekday 1,\ndinsdag,weekday 2,\nwoensdag,weekday 3,\ndonderdag,weekday 4,\nvrijda\
-g,weekday 5,\nzaterdag,weekday 6,\nzondag,weekday 0,\nma,weekday 1,\nwo,weekday 3,\nvr,weekday 5,\nza,weekday 6,\nzo,we\
-ekday 0,\nlunedì,weekday 1,\nmartedì,weekday 2,\nmercoledì,weekday 3,\ngiovedì,weekday 4,\nvenerdì,weekday 5,\nsab\
-ato,weekday 6,\ndomenica,weekday 0,\nlunes,weekday 1,\nmartes,weekday 2,\nmiércoles,weekday 3,\njueves,weekday 4,\nvie\
-rnes,weekday 5,\nsábado,weekday 6,\ndomingo,weekday 0,\nponiedziałek,weekday 1,\nwtorek,weekday 2,\nśroda,weekday 3,\
-\nczwartek,weekday 4,\npiątek,weekday 5,\nsobota,weekday 6,\nniedziela,weekday 0,\npondělí,weekday 1,\núterý,weekd\
-ay 2,\nstředa,weekday 3,\nčtvrtek,weekday 4,\npátek,weekday 5,\nneděle,weekday 0,\ndies Lunae,weekday 1,\ndies Mart\
-is,weekday 2,\ndies Mercurii,weekday 3,\ndies Iovis,weekday 4,\ndies Jovis,weekday 4,\ndies Veneris,weekday 5,\ndies Sa\
-turni,weekday 6,\ndies Sabbati,weekday 6,\ndies Dominica,weekday 0,\nsøndag,weekday 0,\nmandag,weekday 1,\ntirsdag,wee\
-kday 2,\nonsdag,weekday 3,\ntorsdag,weekday 4,\nfredag,weekday 5,\nlørdag,weekday 6,\nsöndag,weekday 0,\nmåndag,week\
-day 1,\ntisdag,weekday 2,\nlördag,weekday 6,\nsunnuntai,weekday 0,\nmaanantai,weekday 1,\ntiistai,weekday 2,\nkeskivii\
-kko,weekday 3,\ntorstai,weekday 4,\nperjantai,weekday 5,\nlauantai,weekday 6,\nvasárnap,weekday 0,\nhétfő,weekday 1,\
-\nkedd,weekday 2,\nszerda,weekday 3,\ncsütörtök,weekday 4,\npéntek,weekday 5,\nszombat,weekday 6,\nsegunda-feira,we\
-ekday 1,\nterça-feira,weekday 2,\nquarta-feira,weekday 3,\nquinta-feira,weekday 4,\nsexta-feira,weekday 5,\nвоскр\
-есенье,weekday 0,\nпонедельник,weekday 1,\nвторник,weekday 2,\nсреда,weekday 3,\nчетв\
-ерг,weekday 4,\nпятница,weekday 5,\nсуббота,weekday 6,\nнеділя,weekday 0,\nпонеділок,we\
-ekday 1,\nвівторок,weekday 2,\nсереда,weekday 3,\nчетвер,weekday 4,\nпʼятниця,weekday 5,\n\
-субота,weekday 6,\nΚυριακή,weekday 0,\nΔευτέρα,weekday 1,\nΤρίτη,weekday 2,\nΤετάρτη,we\
-ekday 3,\nΠέμπτη,weekday 4,\nΠαρασκευή,weekday 5,\nΣάββατο,weekday 6,\nPazar,weekday 0,\nPazartes\
-i,weekday 1,\nSalı,weekday 2,\nÇarşamba,weekday 3,\nPerşembe,weekday 4,\nCuma,weekday 5,\nCumartesi,weekday 6,\nSon\
-ntags,weekday 0,\nSontag,weekday 0,\ndies dominicus,weekday 0,\ndie Dominica,weekday 0,\ndie Dominico,weekday 0,\ndomin\
-ico die,weekday 0,\nMontags,weekday 1,\nMondtag,weekday 1,\ndie Lunae,weekday 1,\ndie Lune,weekday 1,\nDienstags,weekda\
-y 2,\nDinstag,weekday 2,\nDinstags,weekday 2,\nErchtag,weekday 2,\nErtag,weekday 2,\nZinstag,weekday 2,\nZistag,weekda\
-y 2,\ndie Martis,weekday 2,\nMittwochs,weekday 3,\nMitwoch,weekday 3,\nMittichen,weekday 3,\ndie Mercurii,weekday 3,\nD\
-onnerstags,weekday 4,\nDornstag,weekday 4,\nPfinztag,weekday 4,\ndie Jovis,weekday 4,\ndie Iovis,weekday 4,\nFreitags,w\
-eekday 5,\nFreytag,weekday 5,\nFreytags,weekday 5,\ndie Veneris,weekday 5,\nSamstags,weekday 6,\nSonnabends,weekday 6,\
-\nSambstag,weekday 6,\ndie Sabbati,weekday 6,\ndie Saturni,weekday 6,\ndie Sabbato,weekday 6,\nSonnabent,weekday 6,\ndo\
-minica,weekday 0,\ndom,weekday 0,\nferia secunda,weekday 1,\nferia 2,weekday 1,\nferia tertia,weekday 2,\nferia tercia,\
-weekday 2,\nferia 3,weekday 2,\nferia quarta,weekday 3,\nferia 4,weekday 3,\nferia quinta,weekday 4,\nferia 5,weekday 4\
-,\nferia sexta,weekday 5,\nferia 6,weekday 5,\nsabbato,weekday 6,\nsabbatum,weekday 6,\nprimidi,decade 1,french republi\
-can\nduodi,decade 2,french republican\ntridi,decade 3,french republican\nquartidi,decade 4,french republican\nquintidi,\
-decade 5,french republican\nsextidi,decade 6,french republican\nseptidi,decade 7,french republican\noctidi,decade 8,fre\
-nch republican\nnonidi,decade 9,french republican\ndécadi,decade 10,french republican\ndecadi,decade 10,french republi\
-can\nday after,morrow,gregorian julian\nTag nach,morrow,gregorian julian\nTags nach,morrow,gregorian julian\njour aprè\
-s,morrow,gregorian julian\nlendemain de,morrow,gregorian julian\ndie post,morrow,gregorian julian\ndies post,morrow,gre\
-gorian julian\nday before,eve,gregorian julian\nTag vor,eve,gregorian julian\nTags vor,eve,gregorian julian\njour avant\
-,eve,gregorian julian\ndie ante,eve,gregorian julian\ndies ante,eve,gregorian julian\nin profesto,eve,gregorian julian\
-\nafter,after,gregorian julian coptic ethiopic egyptian armenian islamic hebrew french republican\nnach,after,gregoria\
-n julian coptic ethiopic egyptian armenian islamic hebrew french republican\npost,after,gregorian julian coptic ethiopi\
-c egyptian armenian islamic hebrew french republican\np,after,gregorian julian\naprès,after,gregorian julian coptic et\
-hiopic egyptian armenian islamic hebrew french republican\nbefore,before,gregorian julian coptic ethiopic egyptian arme\
-nian islamic hebrew french republican\nvor,before,gregorian julian coptic ethiopic egyptian armenian islamic hebrew fre\
-nch republican\nante,before,gregorian julian coptic ethiopic egyptian armenian islamic hebrew french republican\navant,\
-before,gregorian julian coptic ethiopic egyptian armenian islamic hebrew french republican\nbef,before,gregorian julia\
-n coptic ethiopic egyptian armenian islamic hebrew french republican\nvoor,before,gregorian julian coptic ethiopic egyp\
-tian armenian islamic hebrew french republican\nprima di,before,gregorian julian coptic ethiopic egyptian armenian isla\
-mic hebrew french republican\nantes de,before,gregorian julian coptic ethiopic egyptian armenian islamic hebrew french \
-republican\nprzed,before,gregorian julian coptic ethiopic egyptian armenian islamic hebrew french republican\npřed,bef\
-ore,gregorian julian coptic ethiopic egyptian armenian islamic hebrew french republican\nперед,before,gregorian ju\
-lian coptic ethiopic egyptian armenian islamic hebrew french republican\nраньше,before,gregorian julian coptic et\
-hiopic egyptian armenian islamic hebrew french republican\nπριν από,before,gregorian julian coptic ethiopic egyp\
-tian armenian islamic hebrew french republican\nπριν,before,gregorian julian coptic ethiopic egyptian armenian isla\
-mic hebrew french republican\nennen,before,gregorian julian coptic ethiopic egyptian armenian islamic hebrew french rep\
-ublican\nföre,before,gregorian julian coptic ethiopic egyptian armenian islamic hebrew french republican\nfør,before,\
-gregorian julian coptic ethiopic egyptian armenian islamic hebrew french republican\naft,after,gregorian julian coptic \
-ethiopic egyptian armenian islamic hebrew french republican\nna,after,gregorian julian coptic ethiopic egyptian armenia\
-n islamic hebrew french republican\ndopo,after,gregorian julian coptic ethiopic egyptian armenian islamic hebrew frenc\
-h republican\ndespués de,after,gregorian julian coptic ethiopic egyptian armenian islamic hebrew french republican\npo\
-,after,gregorian julian coptic ethiopic egyptian armenian islamic hebrew french republican\nпосле,after,gregorian \
-julian coptic ethiopic egyptian armenian islamic hebrew french republican\nпісля,after,gregorian julian coptic eth\
-iopic egyptian armenian islamic hebrew french republican\nμετά,after,gregorian julian coptic ethiopic egyptian arme\
-nian islamic hebrew french republican\nefter,after,gregorian julian coptic ethiopic egyptian armenian islamic hebrew fr\
-ench republican\netter,after,gregorian julian coptic ethiopic egyptian armenian islamic hebrew french republican\ndepoi\
-s de,after,gregorian julian coptic ethiopic egyptian armenian islamic hebrew french republican\nca,about,gregorian juli\
-an coptic ethiopic egyptian armenian islamic hebrew french republican\ncirca,about,gregorian julian coptic ethiopic egy\
-ptian armenian islamic hebrew french republican\num,about,gregorian julian coptic ethiopic egyptian armenian islamic he\
-brew french republican\ngegen,about,gregorian julian coptic ethiopic egyptian armenian islamic hebrew french republican\
-\netwa,about,gregorian julian coptic ethiopic egyptian armenian islamic hebrew french republican\nabout,about,gregoria\
-n julian coptic ethiopic egyptian armenian islamic hebrew french republican\nabt,about,gregorian julian coptic ethiopi\
-c egyptian armenian islamic hebrew french republican\nest,about,gregorian julian coptic ethiopic egyptian armenian isla\
-mic hebrew french republican\ncal,about,gregorian julian coptic ethiopic egyptian armenian islamic hebrew french republ\
-ican\nvers,about,gregorian julian coptic ethiopic egyptian armenian islamic hebrew french republican\nenviron,about,gre\
-gorian julian coptic ethiopic egyptian armenian islamic hebrew french republican\nomstreeks,about,gregorian julian copt\
-ic ethiopic egyptian armenian islamic hebrew french republican\nongeveer,about,gregorian julian coptic ethiopic egyptia\
-n armenian islamic hebrew french republican\nverso,about,gregorian julian coptic ethiopic egyptian armenian islamic heb\
-rew french republican\nhacia,about,gregorian julian coptic ethiopic egyptian armenian islamic hebrew french republican\
-\nokoło,about,gregorian julian coptic ethiopic egyptian armenian islamic hebrew french republican\nkolem,about,gregori\
-an julian coptic ethiopic egyptian armenian islamic hebrew french republican\nasi,about,gregorian julian coptic ethiopi\
-c egyptian armenian islamic hebrew french republican\ncirciter,about,gregorian julian coptic ethiopic egyptian armenia\
-n islamic hebrew french republican\nоколо,about,gregorian julian coptic ethiopic egyptian armenian islamic hebrew \
-french republican\nок,about,gregorian julian coptic ethiopic egyptian armenian islamic hebrew french republican\nпр\
-имерно,about,gregorian julian coptic ethiopic egyptian armenian islamic hebrew french republican\nблизько,\
-about,gregorian julian coptic ethiopic egyptian armenian islamic hebrew french republican\nбіля,about,gregorian jul\
-ian coptic ethiopic egyptian armenian islamic hebrew french republican\nokolo,about,gregorian julian coptic ethiopic eg\
-yptian armenian islamic hebrew french republican\ncerca de,about,gregorian julian coptic ethiopic egyptian armenian isl\
-amic hebrew french republican\npor volta de,about,gregorian julian coptic ethiopic egyptian armenian islamic hebrew fre\
-nch republican\nalrededor de,about,gregorian julian coptic ethiopic egyptian armenian islamic hebrew french republican\
-\nyaklaşık,about,gregorian julian coptic ethiopic egyptian armenian islamic hebrew french republican\nπερί,about,\
-gregorian julian coptic ethiopic egyptian armenian islamic hebrew french republican\nπερίπου,about,gregorian jul\
-ian coptic ethiopic egyptian armenian islamic hebrew french republican\nnoin,about,gregorian julian coptic ethiopic egy\
-ptian armenian islamic hebrew french republican\nomkring,about,gregorian julian coptic ethiopic egyptian armenian islam\
-ic hebrew french republican\nkörülbelül,about,gregorian julian coptic ethiopic egyptian armenian islamic hebrew fren\
-ch republican\nkb,about,gregorian julian coptic ethiopic egyptian armenian islamic hebrew french republican\nseit,from,\
-gregorian julian coptic ethiopic egyptian armenian islamic hebrew french republican\nab,from,gregorian julian coptic et\
-hiopic egyptian armenian islamic french republican\nfrom,from,gregorian julian coptic ethiopic egyptian armenian islami\
-c hebrew french republican\nsince,from,gregorian julian coptic ethiopic egyptian armenian islamic hebrew french republi\
-can\ndepuis,from,gregorian julian coptic ethiopic egyptian armenian islamic hebrew french republican\nà partir de,from\
-,gregorian julian coptic ethiopic egyptian armenian islamic hebrew french republican\nvanaf,from,gregorian julian copti\
-c ethiopic egyptian armenian islamic hebrew french republican\nsinds,from,gregorian julian coptic ethiopic egyptian arm\
-enian islamic hebrew french republican\ndal,from,gregorian julian coptic ethiopic egyptian armenian islamic hebrew fren\
-ch republican\ndesde,from,gregorian julian coptic ethiopic egyptian armenian islamic hebrew french republican\nod,from,\
-gregorian julian coptic ethiopic egyptian armenian islamic hebrew french republican\nnotBefore,from,gregorian julian co\
-ptic ethiopic egyptian armenian islamic hebrew french republican\nnicht vor,from,gregorian julian coptic ethiopic egypt\
-ian armenian islamic hebrew french republican\nnot before,from,gregorian julian coptic ethiopic egyptian armenian islam\
-ic hebrew french republican\nс,from,gregorian julian coptic ethiopic egyptian armenian islamic hebrew french republica\
-n\nз,from,gregorian julian coptic ethiopic egyptian armenian islamic hebrew french republican\nвід,from,gregorian j\
-ulian coptic ethiopic egyptian armenian islamic hebrew french republican\nαπό,from,gregorian julian coptic ethiopic \
-egyptian armenian islamic hebrew french republican\nfrån,from,gregorian julian coptic ethiopic egyptian armenian islam\
-ic hebrew french republican\na partir de,from,gregorian julian coptic ethiopic egyptian armenian islamic hebrew french \
-republican\nbis,to,gregorian julian coptic ethiopic egyptian armenian islamic hebrew french republican\nto,to,gregoria\
-n julian coptic ethiopic egyptian armenian islamic hebrew french republican\nuntil,to,gregorian julian coptic ethiopic \
-egyptian armenian islamic hebrew french republican\ntill,to,gregorian julian coptic ethiopic egyptian armenian islamic \
-hebrew french republican\njusqu'à,to,gregorian julian coptic ethiopic egyptian armenian islamic hebrew french republic\
-an\njusqu’à,to,gregorian julian coptic ethiopic egyptian armenian islamic hebrew french republican\nau,to,gregorian \
-julian coptic ethiopic egyptian armenian islamic hebrew french republican\nà,to,gregorian julian coptic ethiopic egypt\
-ian armenian islamic hebrew french republican\ntot,to,gregorian julian coptic ethiopic egyptian armenian islamic hebre\
-w french republican\ntot en met,to,gregorian julian coptic ethiopic egyptian armenian islamic hebrew french republican\
-\nfino a,to,gregorian julian coptic ethiopic egyptian armenian islamic hebrew french republican\nal,to,gregorian julia\
-n coptic ethiopic egyptian armenian islamic hebrew french republican\nhasta,to,gregorian julian coptic ethiopic egyptia\
-n armenian islamic hebrew french republican\nusque ad,to,gregorian julian coptic ethiopic egyptian armenian islamic heb\
-rew french republican\nnotAfter,to,gregorian julian coptic ethiopic egyptian armenian islamic hebrew french republican\
-\nnicht nach,to,gregorian julian coptic ethiopic egyptian armenian islamic hebrew french republican\nnot after,to,grego\
-rian julian coptic ethiopic egyptian armenian islamic hebrew french republican\nдо,to,gregorian julian coptic ethiopi\
-c egyptian armenian islamic hebrew french republican\nпо,to,gregorian julian coptic ethiopic egyptian armenian islami\
-c hebrew french republican\nέως,to,gregorian julian coptic ethiopic egyptian armenian islamic hebrew french republic\
-an\nμέχρι,to,gregorian julian coptic ethiopic egyptian armenian islamic hebrew french republican\naté,to,gregoria\
-n julian coptic ethiopic egyptian armenian islamic hebrew french republican\nzwischen,between,gregorian julian coptic e\
-thiopic egyptian armenian islamic hebrew french republican\nzw,between,gregorian julian coptic ethiopic egyptian armeni\
-an islamic hebrew french republican\nbetween,between,gregorian julian coptic ethiopic egyptian armenian islamic hebrew \
-french republican\nbet,between,gregorian julian coptic ethiopic egyptian armenian islamic hebrew french republican\nent\
-re,between,gregorian julian coptic ethiopic egyptian armenian islamic hebrew french republican\ntussen,between,gregoria\
-n julian coptic ethiopic egyptian armenian islamic hebrew french republican\ntra,between,gregorian julian coptic ethiop\
-ic egyptian armenian islamic hebrew french republican\nfra,between,gregorian julian coptic ethiopic egyptian armenian i\
-slamic hebrew french republican\nmiędzy,between,gregorian julian coptic ethiopic egyptian armenian islamic hebrew fren\
-ch republican\nmezi,between,gregorian julian coptic ethiopic egyptian armenian islamic hebrew french republican\ninter,\
-between,gregorian julian coptic ethiopic egyptian armenian islamic hebrew french republican\nмежду,between,gregori\
-an julian coptic ethiopic egyptian armenian islamic hebrew french republican\nміж,between,gregorian julian coptic et\
-hiopic egyptian armenian islamic hebrew french republican\nμεταξύ,between,gregorian julian coptic ethiopic egypti\
-an armenian islamic hebrew french republican\nmellan,between,gregorian julian coptic ethiopic egyptian armenian islami\
-c hebrew french republican\nmellem,between,gregorian julian coptic ethiopic egyptian armenian islamic hebrew french rep\
-ublican\nmellom,between,gregorian julian coptic ethiopic egyptian armenian islamic hebrew french republican\nund,and,gr\
-egorian julian coptic ethiopic egyptian armenian islamic hebrew french republican\nu,and,gregorian julian coptic ethiop\
-ic egyptian armenian islamic hebrew french republican\nand,and,gregorian julian coptic ethiopic egyptian armenian islam\
-ic hebrew french republican\net,and,gregorian julian coptic ethiopic egyptian armenian islamic hebrew french republican\
-\ned,and,gregorian julian coptic ethiopic egyptian armenian islamic hebrew french republican\ny,and,gregorian julian co\
-ptic ethiopic egyptian armenian islamic hebrew french republican\noraz,and,gregorian julian coptic ethiopic egyptian ar\
-menian islamic hebrew french republican\nи,and,gregorian julian coptic ethiopic egyptian armenian islamic hebrew frenc\
-h republican\nі,and,gregorian julian coptic ethiopic egyptian armenian islamic hebrew french republican\nта,and,greg\
-orian julian coptic ethiopic egyptian armenian islamic hebrew french republican\nκαι,and,gregorian julian coptic eth\
-iopic egyptian armenian islamic hebrew french republican\noch,and,gregorian julian coptic ethiopic egyptian armenian is\
-lamic hebrew french republican\nog,and,gregorian julian coptic ethiopic egyptian armenian islamic hebrew french republi\
-can\nja,and,gregorian julian coptic ethiopic egyptian armenian islamic hebrew french republican\nAdar,month 12-13,hebre\
-w\neve of,eve,gregorian julian\nvigilia,eve,gregorian julian\nin vigilia,eve,gregorian julian\nVigil,eve,gregorian juli\
-an\nVorabend,eve,gregorian julian\nprofesto,eve,gregorian julian\nveille de,eve,gregorian julian\noctava,octave,gregori\
-an julian\nin octava,octave,gregorian julian\nOktav,octave,gregorian julian\noctave of,octave,gregorian julian\nin cras\
-tino,morrow,gregorian julian\ncrastino,morrow,gregorian julian\nmorrow of,morrow,gregorian julian\nOstern,easter 0,greg\
-orian julian\nOstersonntag,easter 0,gregorian julian\nOstertag,easter 0,gregorian julian\nPascha,easter 0,gregorian jul\
-ian\nPaschae,easter 0,gregorian julian\nPasche,easter 0,gregorian julian\nResurrectionis Domini,easter 0,gregorian juli\
-an\nEaster,easter 0,gregorian julian\nEaster Day,easter 0,gregorian julian\nEaster Sunday,easter 0,gregorian julian\nP\
-âques,easter 0,gregorian julian\nOstermontag,easter 1,gregorian julian\nEaster Monday,easter 1,gregorian julian\nlund\
-i de Pâques,easter 1,gregorian julian\nOsterdienstag,easter 2,gregorian julian\nEaster Tuesday,easter 2,gregorian juli\
-an\nSeptuagesima,easter -63,gregorian julian\nSeptuagesimae,easter -63,gregorian julian\nSeptuagésime,easter -63,grego\
-rian julian\nCircumdederunt,easter -63,gregorian julian\nSexagesima,easter -56,gregorian julian\nSexagesimae,easter -56\
-,gregorian julian\nExsurge,easter -56,gregorian julian\nExurge,easter -56,gregorian julian\nQuinquagesima,easter -49,gr\
-egorian julian\nQuinquagesimae,easter -49,gregorian julian\nEstomihi,easter -49,gregorian julian\nEsto mihi,easter -49,\
-gregorian julian\nHerrenfastnacht,easter -49,gregorian julian\nFastnachtsdienstag,easter -47,gregorian julian\nShrove T\
-uesday,easter -47,gregorian julian\nMardi gras,easter -47,gregorian julian\nAschermittwoch,easter -46,gregorian julian\
-\ndies Cinerum,easter -46,gregorian julian\nCinerum,easter -46,gregorian julian\nAsh Wednesday,easter -46,gregorian jul\
-ian\nmercredi des Cendres,easter -46,gregorian julian\nInvocavit,easter -42,gregorian julian\nInvocabit,easter -42,greg\
-orian julian\nQuadragesima,easter -42,gregorian julian\nReminiscere,easter -35,gregorian julian\nOculi,easter -28,grego\
-rian julian\nLaetare,easter -21,gregorian julian\nLetare,easter -21,gregorian julian\nLätare,easter -21,gregorian juli\
-an\nJudica,easter -14,gregorian julian\nIudica,easter -14,gregorian julian\nPalmarum,easter -7,gregorian julian\nPalmso\
-nntag,easter -7,gregorian julian\nPalm Sunday,easter -7,gregorian julian\ndimanche des Rameaux,easter -7,gregorian juli\
-an\nRameaux,easter -7,gregorian julian\nGründonnerstag,easter -3,gregorian julian\nCoena Domini,easter -3,gregorian ju\
-lian\nCoenae Domini,easter -3,gregorian julian\nCene Domini,easter -3,gregorian julian\nMaundy Thursday,easter -3,grego\
-rian julian\nJeudi saint,easter -3,gregorian julian\nKarfreitag,easter -2,gregorian julian\nCharfreitag,easter -2,grego\
-rian julian\nParasceve,easter -2,gregorian julian\nGood Friday,easter -2,gregorian julian\nVendredi saint,easter -2,gre\
-gorian julian\nKarsamstag,easter -1,gregorian julian\nSabbatum sanctum,easter -1,gregorian julian\nQuasimodogeniti,east\
-er 7,gregorian julian\nQuasi modo geniti,easter 7,gregorian julian\nQuasimodo,easter 7,gregorian julian\nLow Sunday,eas\
-ter 7,gregorian julian\nMisericordias Domini,easter 14,gregorian julian\nMisericordia Domini,easter 14,gregorian julian\
-\nJubilate,easter 21,gregorian julian\nIubilate,easter 21,gregorian julian\nCantate,easter 28,gregorian julian\nKantate\
-,easter 28,gregorian julian\nRogate,easter 35,gregorian julian\nVocem jucunditatis,easter 35,gregorian julian\nRogatio\
-n Sunday,easter 35,gregorian julian\nHimmelfahrt,easter 39,gregorian julian\nChristi Himmelfahrt,easter 39,gregorian ju\
-lian\nAuffahrt,easter 39,gregorian julian\nAscensionis Domini,easter 39,gregorian julian\nAscensionis,easter 39,gregori\
-an julian\nAscension Day,easter 39,gregorian julian\n\
+уст,month 8,gregorian julian\nавг,month 8,gregorian julian\nавгуста,month 8,gregorian julian\nе янва\
+ря,month 1,gregorian julian\nе февраля,month 2,gregorian julian\nе марта,month 3,gregorian julian\nе \
+апреля,month 4,gregorian julian\nе мая,month 5,gregorian julian\nе июня,month 6,gregorian julian\nе и\
+юля,month 7,gregorian julian\nе августа,month 8,gregorian julian\nе сентября,month 9,gregorian juli\
+an\nе октября,month 10,gregorian julian\nе ноября,month 11,gregorian julian\nе декабря,month 12,\
+gregorian julian\nсентябрь,month 9,gregorian julian\nсент,month 9,gregorian julian\nоктябрь,month 10\
+,gregorian julian\nокт,month 10,gregorian julian\nноябрь,month 11,gregorian julian\nнояб,month 11,gregoria\
+n julian\nдекабрь,month 12,gregorian julian\nдек,month 12,gregorian julian\nсічень,month 1,gregorian ju\
+lian\nсіч,month 1,gregorian julian\nсічня,month 1,gregorian julian\nлютий,month 2,gregorian julian\nлют\
+,month 2,gregorian julian\nлютого,month 2,gregorian julian\nберезень,month 3,gregorian julian\nбер,mon\
+th 3,gregorian julian\nберезня,month 3,gregorian julian\nквітень,month 4,gregorian julian\nквіт,mont\
+h 4,gregorian julian\nквітня,month 4,gregorian julian\nтравень,month 5,gregorian julian\nтрав,month 5,\
+gregorian julian\nтравня,month 5,gregorian julian\nчервень,month 6,gregorian julian\nчерв,month 6,greg\
+orian julian\nчервня,month 6,gregorian julian\nлипень,month 7,gregorian julian\nлип,month 7,gregorian ju\
+lian\nлипня,month 7,gregorian julian\nсерпень,month 8,gregorian julian\nсерп,month 8,gregorian julian\n\
+серпня,month 8,gregorian julian\nвересень,month 9,gregorian julian\nвер,month 9,gregorian julian\nве\
+ресня,month 9,gregorian julian\nжовтень,month 10,gregorian julian\nжовт,month 10,gregorian julian\nжо\
+втня,month 10,gregorian julian\nлистопад,month 11,gregorian julian\nлист,month 11,gregorian julian\nл\
+истопада,month 11,gregorian julian\nгрудень,month 12,gregorian julian\nгруд,month 12,gregorian julia\
+n\nгрудня,month 12,gregorian julian\nΙανουαρίου,month 1,gregorian julian\nΙαν,month 1,gregorian juli\
+an\nΦεβρουαρίου,month 2,gregorian julian\nΦεβ,month 2,gregorian julian\nΜαρτίου,month 3,gregorian \
+julian\nΜαρ,month 3,gregorian julian\nΑπριλίου,month 4,gregorian julian\nΑπρ,month 4,gregorian julian\nΜ\
+αΐου,month 5,gregorian julian\nΜαΐ,month 5,gregorian julian\nΙουνίου,month 6,gregorian julian\nΙουν,m\
+onth 6,gregorian julian\nΙουλίου,month 7,gregorian julian\nΙουλ,month 7,gregorian julian\nΑυγούστου\
+,month 8,gregorian julian\nΑυγ,month 8,gregorian julian\nΣεπτεμβρίου,month 9,gregorian julian\nΣεπ,mon\
+th 9,gregorian julian\nΟκτωβρίου,month 10,gregorian julian\nΟκτ,month 10,gregorian julian\nΝοεμβρίο\
+υ,month 11,gregorian julian\nΝοε,month 11,gregorian julian\nΔεκεμβρίου,month 12,gregorian julian\nΔεκ,\
+month 12,gregorian julian\nOcak,month 1,gregorian julian\nOca,month 1,gregorian julian\nŞubat,month 2,gregorian julian\
+\nŞub,month 2,gregorian julian\nNisan,month 4,gregorian julian\nNis,month 4,gregorian julian\nMayıs,month 5,gregoria\
+n julian\nHaziran,month 6,gregorian julian\nHaz,month 6,gregorian julian\nTemmuz,month 7,gregorian julian\nTem,month 7,\
+gregorian julian\nAğustos,month 8,gregorian julian\nAğu,month 8,gregorian julian\nEylül,month 9,gregorian julian\nEy\
+l,month 9,gregorian julian\nEkim,month 10,gregorian julian\nEki,month 10,gregorian julian\nKasım,month 11,gregorian ju\
+lian\nKas,month 11,gregorian julian\nAralık,month 12,gregorian julian\nAra,month 12,gregorian julian\nΙανουάρι\
+ος,month 1,gregorian julian\nΦεβρουάριος,month 2,gregorian julian\nΜάρτιος,month 3,gregorian julian\
+\nΑπρίλιος,month 4,gregorian julian\nΜάιος,month 5,gregorian julian\nΙούνιος,month 6,gregorian juli\
+an\nΙούλιος,month 7,gregorian julian\nΑύγουστος,month 8,gregorian julian\nΣεπτέμβριος,month \
+9,gregorian julian\nΟκτώβριος,month 10,gregorian julian\nΝοέμβριος,month 11,gregorian julian\nΔεκ\
+έμβριος,month 12,gregorian julian\nvendémiaire,month 1,french republican\nvendemiaire,month 1,french republican\
+\nvend,month 1,french republican\nvendém,month 1,french republican\nWeinlesemonat,month 1,french republican\nVendemiä\
+r,month 1,french republican\nVendémiär,month 1,french republican\nbrumaire,month 2,french republican\nbrum,month 2,fr\
+ench republican\nNebelmonat,month 2,french republican\nBrumär,month 2,french republican\nfrimaire,month 3,french repub\
+lican\nfrim,month 3,french republican\nReifmonat,month 3,french republican\nFrimär,month 3,french republican\nnivôse,\
+month 4,french republican\nnivose,month 4,french republican\nniv,month 4,french republican\nSchneemonat,month 4,french \
+republican\npluviôse,month 5,french republican\npluviose,month 5,french republican\npluv,month 5,french republican\nRe\
+genmonat,month 5,french republican\nventôse,month 6,french republican\nventose,month 6,french republican\nvent,month 6\
+,french republican\nWindmonat,month 6,french republican\ngerminal,month 7,french republican\ngerm,month 7,french republ\
+ican\nKeimmonat,month 7,french republican\nfloréal,month 8,french republican\nfloreal,month 8,french republican\nflor,\
+month 8,french republican\nBlütenmonat,month 8,french republican\nprairial,month 9,french republican\nprair,month 9,fr\
+ench republican\nWiesenmonat,month 9,french republican\nmessidor,month 10,french republican\nmess,month 10,french repub\
+lican\nErntemonat,month 10,french republican\nthermidor,month 11,french republican\ntherm,month 11,french republican\nf\
+ervidor,month 11,french republican\nHitzemonat,month 11,french republican\nfructidor,month 12,french republican\nfruct,\
+month 12,french republican\nFruchtmonat,month 12,french republican\njours complémentaires,month 13,french republican\n\
+jour complémentaire,month 13,french republican\ncomplémentaires,month 13,french republican\ncomplémentaire,month 13,\
+french republican\njours complementaires,month 13,french republican\njour complementaire,month 13,french republican\nco\
+mplementaires,month 13,french republican\ncomplementaire,month 13,french republican\nsansculottides,month 13,french rep\
+ublican\nsans-culottides,month 13,french republican\nsansculottide,month 13,french republican\nErgänzungstag,month 13,\
+french republican\nErgänzungstage,month 13,french republican\nNIVO,month 4,french republican\nPRAI,month 9,french repu\
+blican\nTHER,month 11,french republican\nFRUC,month 12,french republican\nCOMP,month 13,french republican\nmois de vend\
+émiaire,month 1,french republican\nmois de brumaire,month 2,french republican\nmois de frimaire,month 3,french republi\
+can\nmois de nivôse,month 4,french republican\nmois de pluviôse,month 5,french republican\nmois de ventôse,month 6,f\
+rench republican\nmois de germinal,month 7,french republican\nmois de floréal,month 8,french republican\nmois de prair\
+ial,month 9,french republican\nmois de messidor,month 10,french republican\nmois de thermidor,month 11,french republica\
+n\nmois de fructidor,month 12,french republican\nNisan,month 1,hebrew\nNissan,month 1,hebrew\nNisson,month 1,hebrew\nIj\
+ar,month 2,hebrew\nIjjar,month 2,hebrew\nIyar,month 2,hebrew\nIyyar,month 2,hebrew\nIar,month 2,hebrew\nJjar,month 2,he\
+brew\nSiwan,month 3,hebrew\nSivan,month 3,hebrew\nSiwon,month 3,hebrew\nSywan,month 3,hebrew\nTammus,month 4,hebrew\nTa\
+mus,month 4,hebrew\nTammuz,month 4,hebrew\nTamuz,month 4,hebrew\nThammuz,month 4,hebrew\nThamus,month 4,hebrew\nAw,mont\
+h 5,hebrew\nAb,month 5,hebrew\nAv,month 5,hebrew\nMenachem Aw,month 5,hebrew\nMenachem Ab,month 5,hebrew\nMenachem Av,m\
+onth 5,hebrew\nElul,month 6,hebrew\nEllul,month 6,hebrew\nTischri,month 7,hebrew\nTischrei,month 7,hebrew\nThischri,mon\
+th 7,hebrew\nTishri,month 7,hebrew\nTishrei,month 7,hebrew\nTiszri,month 7,hebrew\nTyszri,month 7,hebrew\nCheschwan,mon\
+th 8,hebrew\nMarcheschwan,month 8,hebrew\nHeshvan,month 8,hebrew\nCheshvan,month 8,hebrew\nMarcheshvan,month 8,hebrew\n\
+Marheshvan,month 8,hebrew\nCheszwan,month 8,hebrew\nMarcheszwan,month 8,hebrew\nKislew,month 9,hebrew\nKislev,month 9,h\
+ebrew\nKislow,month 9,hebrew\nTewet,month 10,hebrew\nTebet,month 10,hebrew\nTebeth,month 10,hebrew\nTevet,month 10,hebr\
+ew\nTeweth,month 10,hebrew\nTeves,month 10,hebrew\nSchwat,month 11,hebrew\nSchewat,month 11,hebrew\nSchebat,month 11,he\
+brew\nSchevat,month 11,hebrew\nShvat,month 11,hebrew\nShevat,month 11,hebrew\nShebat,month 11,hebrew\nSzwat,month 11,he\
+brew\nSzewat,month 11,hebrew\nAdar I,month 12,hebrew\nAdar 1,month 12,hebrew\nAdar Rischon,month 12,hebrew\nAdar Rishon\
+,month 12,hebrew\nAdar Riszon,month 12,hebrew\nI Adar,month 12,hebrew\n1 Adar,month 12,hebrew\nAdar II,month 13,hebrew\
+\nAdar 2,month 13,hebrew\nAdar Scheni,month 13,hebrew\nAdar Sheni,month 13,hebrew\nAdar Szeni,month 13,hebrew\nWeadar,m\
+onth 13,hebrew\nVeadar,month 13,hebrew\nII Adar,month 13,hebrew\n2 Adar,month 13,hebrew\nTSH,month 7,hebrew\nCSH,month \
+8,hebrew\nKSL,month 9,hebrew\nTVT,month 10,hebrew\nSHV,month 11,hebrew\nADR,month 12,hebrew\nADS,month 13,hebrew\nNSN,m\
+onth 1,hebrew\nIYR,month 2,hebrew\nSVN,month 3,hebrew\nTMZ,month 4,hebrew\nAAV,month 5,hebrew\nELL,month 6,hebrew\nMuha\
+rram,month 1,islamic\nMoharram,month 1,islamic\nMuḥarram,month 1,islamic\nMuharrem,month 1,islamic\nSafar,month 2,isl\
+amic\nṢafar,month 2,islamic\nSafer,month 2,islamic\nSefer,month 2,islamic\nRabi I,month 3,islamic\nRabi al-awwal,mont\
+h 3,islamic\nRabīʿ al-awwal,month 3,islamic\nRabi al-auwal,month 3,islamic\nRebi I,month 3,islamic\nRebi ül-evvel,mo\
+nth 3,islamic\nRebiülevvel,month 3,islamic\nRebiyülevvel,month 3,islamic\nRebiul-evvel,month 3,islamic\nRabiʻ I,mont\
+h 3,islamic\nRabi II,month 4,islamic\nRabi ath-thani,month 4,islamic\nRabi al-thani,month 4,islamic\nRabi al-akhir,mont\
+h 4,islamic\nRabīʿ ath-thānī,month 4,islamic\nRebi II,month 4,islamic\nRebi ül-ahir,month 4,islamic\nRebiülahir,m\
+onth 4,islamic\nRebiülâhir,month 4,islamic\nRebiyülahir,month 4,islamic\nRabiʻ II,month 4,islamic\nJumada I,month 5\
+,islamic\nJumada al-ula,month 5,islamic\nDschumada I,month 5,islamic\nDschumada al-ula,month 5,islamic\nǦumādā al-ū\
+lā,month 5,islamic\nCemazi I,month 5,islamic\nCemaziyelevvel,month 5,islamic\nCemâziyelevvel,month 5,islamic\nJumada \
+II,month 6,islamic\nJumada al-akhira,month 6,islamic\nJumada al-thani,month 6,islamic\nDschumada II,month 6,islamic\nDs\
+chumada th-thaniya,month 6,islamic\nǦumādā al-āḫira,month 6,islamic\nCemazi II,month 6,islamic\nCemaziyelahir,mon\
+th 6,islamic\nCemâziyelâhir,month 6,islamic\nRajab,month 7,islamic\nRadschab,month 7,islamic\nRaǧab,month 7,islamic\
+\nRecep,month 7,islamic\nReceb,month 7,islamic\nShaban,month 8,islamic\nSha'ban,month 8,islamic\nSchaban,month 8,islami\
+c\nScha'ban,month 8,islamic\nŠaʿbān,month 8,islamic\nŞaban,month 8,islamic\nŞaʿbân,month 8,islamic\nShaʻban,mon\
+th 8,islamic\nRamadan,month 9,islamic\nRamaḍān,month 9,islamic\nRamazan,month 9,islamic\nShawwal,month 10,islamic\nS\
+chawwal,month 10,islamic\nŠawwāl,month 10,islamic\nŞevval,month 10,islamic\nDhu al-Qada,month 11,islamic\nDhu al-Qa'\
+da,month 11,islamic\nDhu l-Qada,month 11,islamic\nDhul-Qada,month 11,islamic\nDhu l-qaʿda,month 11,islamic\nDhū l-qa\
+ʿda,month 11,islamic\nDhu l-Qa'da,month 11,islamic\nZilkade,month 11,islamic\nZi'l-ka'de,month 11,islamic\nDhuʻl-Qiʻ\
+dah,month 11,islamic\nDhu al-Hijja,month 12,islamic\nDhu l-Hijja,month 12,islamic\nDhul-Hijja,month 12,islamic\nDhu l-h\
+iddscha,month 12,islamic\nDhū l-ḥiǧǧa,month 12,islamic\nZilhicce,month 12,islamic\nZi'l-hicce,month 12,islamic\nDh\
+uʻl-Hijjah,month 12,islamic\nMoharrem,month 1,islamic\nMucharrem,month 1,islamic\nSsafer,month 2,islamic\nSsafar,mont\
+h 2,islamic\nSaphar,month 2,islamic\nRebiul-ewwel,month 3,islamic\nRebi ül-ewwel,month 3,islamic\nRebi ul-ewwel,month \
+3,islamic\nRebi el-ewwel,month 3,islamic\nRebi el-awwel,month 3,islamic\nRebiulewwel,month 3,islamic\nRebiülewwel,mont\
+h 3,islamic\nRabi el-auwal,month 3,islamic\nRabi el-awwal,month 3,islamic\nRebi el-auwel,month 3,islamic\nRebiul-achir,\
+month 4,islamic\nRebi ül-achir,month 4,islamic\nRebi ul-achir,month 4,islamic\nRebi el-achir,month 4,islamic\nRebiulac\
+hir,month 4,islamic\nRebiülachir,month 4,islamic\nRabi el-achir,month 4,islamic\nRabi al-achir,month 4,islamic\nRebi e\
+l-accher,month 4,islamic\nDschemasi ül-ewwel,month 5,islamic\nDschemasiul-ewwel,month 5,islamic\nDschemasiulewwel,mont\
+h 5,islamic\nDschemadi el-ewwel,month 5,islamic\nDschumada el-ula,month 5,islamic\nDschumadi I,month 5,islamic\nDschema\
+di I,month 5,islamic\nDschemasi I,month 5,islamic\nDschumadi el-ewwel,month 5,islamic\nDschemadi ül-ewwel,month 5,isla\
+mic\nDschemasi ül-achir,month 6,islamic\nDschemasiul-achir,month 6,islamic\nDschemasiulachir,month 6,islamic\nDschemad\
+i el-achir,month 6,islamic\nDschumada el-achira,month 6,islamic\nDschumadi II,month 6,islamic\nDschemadi II,month 6,isl\
+amic\nDschemasi II,month 6,islamic\nDschumadi el-achir,month 6,islamic\nDschemadi ül-achir,month 6,islamic\nRedscheb,m\
+onth 7,islamic\nRedschep,month 7,islamic\nRedjeb,month 7,islamic\nRadscheb,month 7,islamic\nSchaaban,month 8,islamic\nS\
+cha'abân,month 8,islamic\nSchabân,month 8,islamic\nSchâban,month 8,islamic\nRamasan,month 9,islamic\nRamazân,month \
+9,islamic\nRamadân,month 9,islamic\nSchewwal,month 10,islamic\nSchewal,month 10,islamic\nSchauwal,month 10,islamic\nSc\
+hawal,month 10,islamic\nSilkade,month 11,islamic\nSilkide,month 11,islamic\nSulkade,month 11,islamic\nDulkade,month 11,\
+islamic\nDsulkade,month 11,islamic\nDhulkade,month 11,islamic\nDsu'l-kade,month 11,islamic\nDhu'l-Kade,month 11,islamic\
+\nDhu l-Kade,month 11,islamic\nSilkaade,month 11,islamic\nZilkide,month 11,islamic\nSilhidsche,month 12,islamic\nSilhid\
+je,month 12,islamic\nSilhiddsche,month 12,islamic\nSulhidsche,month 12,islamic\nDulhidsche,month 12,islamic\nDsulhidsch\
+e,month 12,islamic\nDhulhidsche,month 12,islamic\nDhulhiddsche,month 12,islamic\nDsu'l-hidsche,month 12,islamic\nDhu'l-\
+Hidscha,month 12,islamic\nDhu l-Hidscha,month 12,islamic\nDhul-Hidscha,month 12,islamic\nThout,month 1,coptic\nThot,mon\
+th 1,coptic\nThoth,month 1,coptic\nTut,month 1,coptic\nTout,month 1,coptic\nPaopi,month 2,coptic\nPhaophi,month 2,copti\
+c\nBabah,month 2,coptic\nBaba,month 2,coptic\nHathor,month 3,coptic\nAthyr,month 3,coptic\nHatur,month 3,coptic\nHator,\
+month 3,coptic\nKoiak,month 4,coptic\nChoiak,month 4,coptic\nKiyahk,month 4,coptic\nKiahk,month 4,coptic\nTobi,month 5,\
+coptic\nTybi,month 5,coptic\nTubah,month 5,coptic\nToba,month 5,coptic\nMeshir,month 6,coptic\nMechir,month 6,coptic\nA\
+mshir,month 6,coptic\nAmschir,month 6,coptic\nMeschir,month 6,coptic\nParemhat,month 7,coptic\nPhamenoth,month 7,coptic\
+\nBaramhat,month 7,coptic\nParmouti,month 8,coptic\nPharmuthi,month 8,coptic\nBaramudah,month 8,coptic\nBaramuda,month \
+8,coptic\nBaramouda,month 8,coptic\nParemoude,month 8,coptic\nPashons,month 9,coptic\nPachon,month 9,coptic\nBashans,mo\
+nth 9,coptic\nBaschans,month 9,coptic\nPaschons,month 9,coptic\nPaoni,month 10,coptic\nPayni,month 10,coptic\nBaunah,mo\
+nth 10,coptic\nBauna,month 10,coptic\nPaona,month 10,coptic\nEpip,month 11,coptic\nEpiphi,month 11,coptic\nAbib,month 1\
+1,coptic\nEpep,month 11,coptic\nMesori,month 12,coptic\nMesore,month 12,coptic\nMisra,month 12,coptic\nMesra,month 12,c\
+optic\nNasie,month 13,coptic\nEpagomenen,month 13,coptic\nPi Kogi Enavot,month 13,coptic\nNasi,month 13,coptic\nMaskara\
+m,month 1,ethiopic\nMeskerem,month 1,ethiopic\nMäskäräm,month 1,ethiopic\nTeqemt,month 2,ethiopic\nTikimt,month 2,et\
+hiopic\nTiqimt,month 2,ethiopic\nṬəqəmt,month 2,ethiopic\nTekemt,month 2,ethiopic\nHedar,month 3,ethiopic\nHidar,mo\
+nth 3,ethiopic\nḪədar,month 3,ethiopic\nTahsas,month 4,ethiopic\nTachsas,month 4,ethiopic\nTaḫśaś,month 4,ethiop\
+ic\nTer,month 5,ethiopic\nTir,month 5,ethiopic\nṬərr,month 5,ethiopic\nYakatit,month 6,ethiopic\nYekatit,month 6,eth\
+iopic\nYäkatit,month 6,ethiopic\nMagabit,month 7,ethiopic\nMegabit,month 7,ethiopic\nMäggabit,month 7,ethiopic\nMäga\
+bit,month 7,ethiopic\nMiyazya,month 8,ethiopic\nMiazia,month 8,ethiopic\nMiyazia,month 8,ethiopic\nGenbot,month 9,ethio\
+pic\nGinbot,month 9,ethiopic\nGənbot,month 9,ethiopic\nSane,month 10,ethiopic\nSene,month 10,ethiopic\nSäne,month 10,\
+ethiopic\nHamle,month 11,ethiopic\nHamlé,month 11,ethiopic\nḤamle,month 11,ethiopic\nNahase,month 12,ethiopic\nNehas\
+e,month 12,ethiopic\nNähase,month 12,ethiopic\nNehasse,month 12,ethiopic\nPagumen,month 13,ethiopic\nPagume,month 13,e\
+thiopic\nPagwemen,month 13,ethiopic\nṖagʷəmen,month 13,ethiopic\nṖagumen,month 13,ethiopic\nKalendas,K,roman\nKal\
+endis,K,roman\nKalendae,K,roman\nKalendarum,K,roman\nKal,K,roman\nKl,K,roman\nK,K,roman\nCalendas,K,roman\nCalendis,K,r\
+oman\nCalendae,K,roman\nCal,K,roman\nNonas,N,roman\nNonis,N,roman\nNonae,N,roman\nNonarum,N,roman\nNon,N,roman\nN,N,rom\
+an\nIdus,I,roman\nIdibus,I,roman\nIduum,I,roman\nId,I,roman\nEid,I,roman\npridie,2,roman\nprid,2,roman\npr,2,roman\nter\
+tio,3,roman\nquarto,4,roman\nquinto,5,roman\nsexto,6,roman\nseptimo,7,roman\noctavo,8,roman\nnono,9,roman\ndecimo,10,ro\
+man\nundecimo,11,roman\nduodecimo,12,roman\ntertio decimo,13,roman\nquarto decimo,14,roman\nquinto decimo,15,roman\nsex\
+to decimo,16,roman\nseptimo decimo,17,roman\nduodevicesimo,18,roman\nundevicesimo,19,roman\ndecimo tertio,13,roman\ndec\
+imo quarto,14,roman\ndecimo quinto,15,roman\ndecimo sexto,16,roman\ndecimo septimo,17,roman\nIIII,4,french republican\n\
+VIIII,9,french republican\nXIIII,14,french republican\n2d,2,\n3d,3,\n22d,22,\n23d,23,\n1 ten,1,\nd 1,1,\nd 1 ten,1,\n2 \
+ten,2,\nd 2,2,\nd 2 ten,2,\n3 ten,3,\nd 3,3,\nd 3 ten,3,\n4 ten,4,\nd 4,4,\nd 4 ten,4,\n5 ten,5,\nd 5,5,\nd 5 ten,5,\n\
+6 ten,6,\nd 6,6,\nd 6 ten,6,\n7 ten,7,\nd 7,7,\nd 7 ten,7,\n8 ten,8,\nd 8,8,\nd 8 ten,8,\n9 ten,9,\nd 9,9,\nd 9 ten,9,\
+\n10 ten,10,\nd 10,10,\nd 10 ten,10,\n11 ten,11,\nd 11,11,\nd 11 ten,11,\n12 ten,12,\nd 12,12,\nd 12 ten,12,\n13 ten,13\
+,\nd 13,13,\nd 13 ten,13,\n14 ten,14,\nd 14,14,\nd 14 ten,14,\n15 ten,15,\nd 15,15,\nd 15 ten,15,\n16 ten,16,\nd 16,16,\
+\nd 16 ten,16,\n17 ten,17,\nd 17,17,\nd 17 ten,17,\n18 ten,18,\nd 18,18,\nd 18 ten,18,\n19 ten,19,\nd 19,19,\nd 19 ten,\
+19,\n20 ten,20,\nd 20,20,\nd 20 ten,20,\n21 ten,21,\nd 21,21,\nd 21 ten,21,\n22 ten,22,\nd 22,22,\nd 22 ten,22,\n23 ten\
+,23,\nd 23,23,\nd 23 ten,23,\n24 ten,24,\nd 24,24,\nd 24 ten,24,\n25 ten,25,\nd 25,25,\nd 25 ten,25,\n26 ten,26,\nd 26,\
+26,\nd 26 ten,26,\n27 ten,27,\nd 27,27,\nd 27 ten,27,\n28 ten,28,\nd 28,28,\nd 28 ten,28,\n29 ten,29,\nd 29,29,\nd 29 t\
+en,29,\n30 ten,30,\nd 30,30,\nd 30 ten,30,\n31 ten,31,\nd 31,31,\nd 31 ten,31,\ntwo,2,\nthree,3,\nfour,4,\nfive,5,\nsix\
+,6,\nseven,7,\neight,8,\nnine,9,\nten,10,\neleven,11,\ntwelve,12,\nthirteen,13,\nfourteen,14,\nfifteen,15,\nsixteen,16,\
+\nseventeen,17,\neighteen,18,\nnineteen,19,\ntwenty,20,\ntwenty-one,21,\ntwenty-two,22,\ntwenty-three,23,\ntwenty-four,\
+24,\ntwenty-five,25,\ntwenty-six,26,\ntwenty-seven,27,\ntwenty-eight,28,\ntwenty-nine,29,\nthirty,30,\nthirty-one,31,\n\
+thirty-two,32,\nthirty-three,33,\nthirty-four,34,\nthirty-five,35,\nthirty-six,36,\nthirty-seven,37,\nthirty-eight,38,\
+\nthirty-nine,39,\nforty,40,\nforty-one,41,\nforty-two,42,\nforty-three,43,\nforty-four,44,\nforty-five,45,\nforty-six,\
+46,\nforty-seven,47,\nforty-eight,48,\nforty-nine,49,\nfifty,50,\nfifty-one,51,\nfifty-two,52,\nfifty-three,53,\nfifty-\
+four,54,\nfifty-five,55,\nfifty-six,56,\nfifty-seven,57,\nfifty-eight,58,\nfifty-nine,59,\nsixty,60,\nsixty-one,61,\nsi\
+xty-two,62,\nsixty-three,63,\nsixty-four,64,\nsixty-five,65,\nsixty-six,66,\nsixty-seven,67,\nsixty-eight,68,\nsixty-ni\
+ne,69,\nseventy,70,\nseventy-one,71,\nseventy-two,72,\nseventy-three,73,\nseventy-four,74,\nseventy-five,75,\nseventy-s\
+ix,76,\nseventy-seven,77,\nseventy-eight,78,\nseventy-nine,79,\neighty,80,\neighty-one,81,\neighty-two,82,\neighty-thre\
+e,83,\neighty-four,84,\neighty-five,85,\neighty-six,86,\neighty-seven,87,\neighty-eight,88,\neighty-nine,89,\nninety,90\
+,\nninety-one,91,\nninety-two,92,\nninety-three,93,\nninety-four,94,\nninety-five,95,\nninety-six,96,\nninety-seven,97,\
+\nninety-eight,98,\nninety-nine,99,\nfirst,1,\nsecond,2,\nthird,3,\nfourth,4,\nfifth,5,\nsixth,6,\nseventh,7,\neighth,8\
+,\nninth,9,\ntenth,10,\neleventh,11,\ntwelfth,12,\nthirteenth,13,\nfourteenth,14,\nfifteenth,15,\nsixteenth,16,\nsevent\
+eenth,17,\neighteenth,18,\nnineteenth,19,\ntwentieth,20,\ntwenty-first,21,\ntwenty-second,22,\ntwenty-third,23,\ntwenty\
+-fourth,24,\ntwenty-fifth,25,\ntwenty-sixth,26,\ntwenty-seventh,27,\ntwenty-eighth,28,\ntwenty-ninth,29,\nthirtieth,30,\
+\nthirty-first,31,\none hundred,100,\none hundred and,100,\none hundred one,101,\none hundred and one,101,\na hundred,1\
+00,\na hundred and,100,\na hundred one,101,\na hundred and one,101,\ntwo hundred,200,\ntwo hundred and,200,\ntwo hundre\
+d one,201,\ntwo hundred and one,201,\nthree hundred,300,\nthree hundred and,300,\nthree hundred one,301,\nthree hundre\
+d and one,301,\nfour hundred,400,\nfour hundred and,400,\nfour hundred one,401,\nfour hundred and one,401,\nfive hundre\
+d,500,\nfive hundred and,500,\nfive hundred one,501,\nfive hundred and one,501,\nsix hundred,600,\nsix hundred and,600,\
+\nsix hundred one,601,\nsix hundred and one,601,\nseven hundred,700,\nseven hundred and,700,\nseven hundred one,701,\ns\
+even hundred and one,701,\neight hundred,800,\neight hundred and,800,\neight hundred one,801,\neight hundred and one,80\
+1,\nnine hundred,900,\nnine hundred and,900,\nnine hundred one,901,\nnine hundred and one,901,\neleven hundred,1100,\ne\
+leven hundred and,1100,\neleven hundred one,1101,\neleven hundred and one,1101,\ntwelve hundred,1200,\ntwelve hundred a\
+nd,1200,\ntwelve hundred one,1201,\ntwelve hundred and one,1201,\nthirteen hundred,1300,\nthirteen hundred and,1300,\nt\
+hirteen hundred one,1301,\nthirteen hundred and one,1301,\nfourteen hundred,1400,\nfourteen hundred and,1400,\nfourtee\
+n hundred one,1401,\nfourteen hundred and one,1401,\nfifteen hundred,1500,\nfifteen hundred and,1500,\nfifteen hundred \
+one,1501,\nfifteen hundred and one,1501,\nsixteen hundred,1600,\nsixteen hundred and,1600,\nsixteen hundred one,1601,\n\
+sixteen hundred and one,1601,\nseventeen hundred,1700,\nseventeen hundred and,1700,\nseventeen hundred one,1701,\nseven\
+teen hundred and one,1701,\neighteen hundred,1800,\neighteen hundred and,1800,\neighteen hundred one,1801,\neighteen hu\
+ndred and one,1801,\nnineteen hundred,1900,\nnineteen hundred and,1900,\nnineteen hundred one,1901,\nnineteen hundred a\
+nd one,1901,\none thousand,1000,\none thousand and,1000,\none thousand and one,1001,\na thousand,1000,\na thousand and,\
+1000,\na thousand and one,1001,\ntwo thousand,2000,\ntwo thousand and,2000,\ntwo thousand and one,2001,\ndeux,2,\ntrois\
+,3,\nquatre,4,\ncinq,5,\nsept,7,coptic ethiopic egyptian armenian islamic hebrew french republican\nle sept,7,gregoria\
+n julian\nhuit,8,\nneuf,9,\ndix,10,\nonze,11,\ndouze,12,\ntreize,13,\nquatorze,14,\nquinze,15,\nseize,16,\ndix-sept,17,\
+\ndix-huit,18,\ndix-neuf,19,\nvingt,20,\nvingt et un,21,\nvingt-un,21,\nvingt-deux,22,\nvingt-trois,23,\nvingt-quatre,2\
+4,\nvingt-cinq,25,\nvingt-six,26,\nvingt-sept,27,\nvingt-huit,28,\nvingt-neuf,29,\ntrente,30,\ntrente et un,31,\ntrente\
+-un,31,\ntrente-deux,32,\ntrente-trois,33,\ntrente-quatre,34,\ntrente-cinq,35,\ntrente-six,36,\ntrente-sept,37,\ntrente\
+-huit,38,\ntrente-neuf,39,\nquarante,40,\nquarante et un,41,\nquarante-un,41,\nquarante-deux,42,\nquarante-trois,43,\nq\
+uarante-quatre,44,\nquarante-cinq,45,\nquarante-six,46,\nquarante-sept,47,\nquarante-huit,48,\nquarante-neuf,49,\ncinqu\
+ante,50,\ncinquante et un,51,\ncinquante-un,51,\ncinquante-deux,52,\ncinquante-trois,53,\ncinquante-quatre,54,\ncinquan\
+te-cinq,55,\ncinquante-six,56,\ncinquante-sept,57,\ncinquante-huit,58,\ncinquante-neuf,59,\nsoixante,60,\nsoixante et u\
+n,61,\nsoixante-un,61,\nsoixante-deux,62,\nsoixante-trois,63,\nsoixante-quatre,64,\nsoixante-cinq,65,\nsoixante-six,66,\
+\nsoixante-sept,67,\nsoixante-huit,68,\nsoixante-neuf,69,\nsoixante-dix,70,\nseptante,70,\nsoixante et onze,71,\nsoixan\
+te-onze,71,\nseptante et un,71,\nseptante-un,71,\nsoixante-douze,72,\nseptante-deux,72,\nsoixante-treize,73,\nseptante-\
+trois,73,\nsoixante-quatorze,74,\nseptante-quatre,74,\nsoixante-quinze,75,\nseptante-cinq,75,\nsoixante-seize,76,\nsept\
+ante-six,76,\nsoixante-dix-sept,77,\nseptante-sept,77,\nsoixante-dix-huit,78,\nseptante-huit,78,\nsoixante-dix-neuf,79,\
+\nseptante-neuf,79,\nquatre-vingts,80,\nquatre-vingt,80,\noctante,80,\nhuitante,80,\nquatre-vingt-un,81,\noctante-un,81\
+,\nhuitante-un,81,\nquatre-vingt-deux,82,\noctante-deux,82,\nhuitante-deux,82,\nquatre-vingt-trois,83,\noctante-trois,8\
+3,\nhuitante-trois,83,\nquatre-vingt-quatre,84,\noctante-quatre,84,\nhuitante-quatre,84,\nquatre-vingt-cinq,85,\noctant\
+e-cinq,85,\nhuitante-cinq,85,\nquatre-vingt-six,86,\noctante-six,86,\nhuitante-six,86,\nquatre-vingt-sept,87,\noctante-\
+sept,87,\nhuitante-sept,87,\nquatre-vingt-huit,88,\noctante-huit,88,\nhuitante-huit,88,\nquatre-vingt-neuf,89,\noctante\
+-neuf,89,\nhuitante-neuf,89,\nquatre-vingt-dix,90,\nnonante,90,\nquatre-vingt-onze,91,\nnonante et un,91,\nnonante-un,9\
+1,\nquatre-vingt-douze,92,\nnonante-deux,92,\nquatre-vingt-treize,93,\nnonante-trois,93,\nquatre-vingt-quatorze,94,\nno\
+nante-quatre,94,\nquatre-vingt-quinze,95,\nnonante-cinq,95,\nquatre-vingt-seize,96,\nnonante-six,96,\nquatre-vingt-dix-\
+sept,97,\nnonante-sept,97,\nquatre-vingt-dix-huit,98,\nnonante-huit,98,\nquatre-vingt-dix-neuf,99,\nnonante-neuf,99,\na\
+n un,1,french republican\npremier,1,\ndeuxième,2,\ndeuxieme,2,\ndeuxiesme,2,\ntroisième,3,\ntroisieme,3,\ntroisiesme,\
+3,\nquatrième,4,\nquatrieme,4,\nquatriesme,4,\ncinquième,5,\ncinquieme,5,\ncinquiesme,5,\nsixième,6,\nsixieme,6,\nsi\
+xiesme,6,\nseptième,7,\nseptieme,7,\nseptiesme,7,\nhuitième,8,\nhuitieme,8,\nhuitiesme,8,\nneuvième,9,\nneuvieme,9,\
+\nneuviesme,9,\ndixième,10,\ndixieme,10,\ndixiesme,10,\nonzième,11,\nonzieme,11,\nonziesme,11,\ndouzième,12,\ndouzie\
+me,12,\ndouziesme,12,\ntreizième,13,\ntreizieme,13,\ntreiziesme,13,\nquatorzième,14,\nquatorzieme,14,\nquatorziesme,1\
+4,\nquinzième,15,\nquinzieme,15,\nquinziesme,15,\nseizième,16,\nseizieme,16,\nseiziesme,16,\ndix-septième,17,\ndix-s\
+eptieme,17,\ndix-septiesme,17,\ndix-huitième,18,\ndix-huitieme,18,\ndix-huitiesme,18,\ndix-neuvième,19,\ndix-neuvieme\
+,19,\ndix-neuviesme,19,\nvingtième,20,\nvingtieme,20,\nvingtiesme,20,\nvingt et unième,21,\nvingt et unieme,21,\nving\
+t et uniesme,21,\nvingt-unième,21,\nvingt-unieme,21,\nvingt-uniesme,21,\nvingt-deuxième,22,\nvingt-deuxieme,22,\nving\
+t-deuxiesme,22,\nvingt-troisième,23,\nvingt-troisieme,23,\nvingt-troisiesme,23,\nvingt-quatrième,24,\nvingt-quatrieme\
+,24,\nvingt-quatriesme,24,\nvingt-cinquième,25,\nvingt-cinquieme,25,\nvingt-cinquiesme,25,\nvingt-sixième,26,\nvingt-\
+sixieme,26,\nvingt-sixiesme,26,\nvingt-septième,27,\nvingt-septieme,27,\nvingt-septiesme,27,\nvingt-huitième,28,\nvin\
+gt-huitieme,28,\nvingt-huitiesme,28,\nvingt-neuvième,29,\nvingt-neuvieme,29,\nvingt-neuviesme,29,\ntrentième,30,\ntre\
+ntieme,30,\ntrentiesme,30,\ntrente et unième,31,\ntrente et unieme,31,\ntrente et uniesme,31,\ntrente-unième,31,\ntre\
+nte-unieme,31,\ntrente-uniesme,31,\ncent,100,\ncent un,101,\ncent sept,107,\ndeux cent,200,\ndeux cent un,201,\ndeux ce\
+nt sept,207,\ndeux cents,200,\ndeux cents un,201,\ndeux cents sept,207,\ntrois cent,300,\ntrois cent un,301,\ntrois cen\
+t sept,307,\ntrois cents,300,\ntrois cents un,301,\ntrois cents sept,307,\nquatre cent,400,\nquatre cent un,401,\nquatr\
+e cent sept,407,\nquatre cents,400,\nquatre cents un,401,\nquatre cents sept,407,\ncinq cent,500,\ncinq cent un,501,\nc\
+inq cent sept,507,\ncinq cents,500,\ncinq cents un,501,\ncinq cents sept,507,\nsix cent,600,\nsix cent un,601,\nsix cen\
+t sept,607,\nsix cents,600,\nsix cents un,601,\nsix cents sept,607,\nsept cent,700,\nsept cent un,701,\nsept cent sept,\
+707,\nsept cents,700,\nsept cents un,701,\nsept cents sept,707,\nhuit cent,800,\nhuit cent un,801,\nhuit cent sept,807,\
+\nhuit cents,800,\nhuit cents un,801,\nhuit cents sept,807,\nneuf cent,900,\nneuf cent un,901,\nneuf cent sept,907,\nne\
+uf cents,900,\nneuf cents un,901,\nneuf cents sept,907,\nonze cent,1100,\nonze cent un,1101,\nonze cent sept,1107,\nonz\
+e cents,1100,\nonze cents un,1101,\nonze cents sept,1107,\ndouze cent,1200,\ndouze cent un,1201,\ndouze cent sept,1207,\
+\ndouze cents,1200,\ndouze cents un,1201,\ndouze cents sept,1207,\ntreize cent,1300,\ntreize cent un,1301,\ntreize cen\
+t sept,1307,\ntreize cents,1300,\ntreize cents un,1301,\ntreize cents sept,1307,\nquatorze cent,1400,\nquatorze cent un\
+,1401,\nquatorze cent sept,1407,\nquatorze cents,1400,\nquatorze cents un,1401,\nquatorze cents sept,1407,\nquinze cent\
+,1500,\nquinze cent un,1501,\nquinze cent sept,1507,\nquinze cents,1500,\nquinze cents un,1501,\nquinze cents sept,1507\
+,\nseize cent,1600,\nseize cent un,1601,\nseize cent sept,1607,\nseize cents,1600,\nseize cents un,1601,\nseize cents s\
+ept,1607,\ndix-sept cent,1700,\ndix-sept cent un,1701,\ndix-sept cent sept,1707,\ndix-sept cents,1700,\ndix-sept cents \
+un,1701,\ndix-sept cents sept,1707,\ndix-huit cent,1800,\ndix-huit cent un,1801,\ndix-huit cent sept,1807,\ndix-huit ce\
+nts,1800,\ndix-huit cents un,1801,\ndix-huit cents sept,1807,\ndix-neuf cent,1900,\ndix-neuf cent un,1901,\ndix-neuf ce\
+nt sept,1907,\ndix-neuf cents,1900,\ndix-neuf cents un,1901,\ndix-neuf cents sept,1907,\nmil,1000,\nmil un,1001,\nmille\
+,1000,\nmille un,1001,\ndeux mil,2000,\ndeux mille,2000,\ndeux mil un,2001,\ndeux mille un,2001,\neins,1,\nzwei,2,\nzwe\
+y,2,\ndrei,3,\ndrey,3,\nvier,4,\nfünf,5,\nsechs,6,\nsieben,7,\nacht,8,\nneun,9,\nzehn,10,\nelf,11,\nzwölf,12,\ndreize\
+hn,13,\ndreyzehn,13,\nvierzehn,14,\nfünfzehn,15,\nsechzehn,16,\nsiebzehn,17,\nachtzehn,18,\nneunzehn,19,\nzwanzig,20,\
+\neinundzwanzig,21,\nein und zwanzig,21,\nzweiundzwanzig,22,\nzweyundzwanzig,22,\nzwei und zwanzig,22,\nzwey und zwanzi\
+g,22,\ndreiundzwanzig,23,\ndreyundzwanzig,23,\ndrei und zwanzig,23,\ndrey und zwanzig,23,\nvierundzwanzig,24,\nvier un\
+d zwanzig,24,\nfünfundzwanzig,25,\nfünf und zwanzig,25,\nsechsundzwanzig,26,\nsechs und zwanzig,26,\nsiebenundzwanzig\
+,27,\nsieben und zwanzig,27,\nachtundzwanzig,28,\nacht und zwanzig,28,\nneunundzwanzig,29,\nneun und zwanzig,29,\ndrei\
+ßig,30,\ndreyßig,30,\neinunddreißig,31,\neinunddreyßig,31,\nein und dreißig,31,\nein und dreyßig,31,\nzweiunddrei\
+ßig,32,\nzweyunddreißig,32,\nzweiunddreyßig,32,\nzweyunddreyßig,32,\nzwei und dreißig,32,\nzwey und dreißig,32,\n\
+zwei und dreyßig,32,\nzwey und dreyßig,32,\ndreiunddreißig,33,\ndreyunddreyßig,33,\ndrei und dreißig,33,\ndrey un\
+d dreyßig,33,\nvierunddreißig,34,\nvierunddreyßig,34,\nvier und dreißig,34,\nvier und dreyßig,34,\nfünfunddreißi\
+g,35,\nfünfunddreyßig,35,\nfünf und dreißig,35,\nfünf und dreyßig,35,\nsechsunddreißig,36,\nsechsunddreyßig,36,\
+\nsechs und dreißig,36,\nsechs und dreyßig,36,\nsiebenunddreißig,37,\nsiebenunddreyßig,37,\nsieben und dreißig,37,\
+\nsieben und dreyßig,37,\nachtunddreißig,38,\nachtunddreyßig,38,\nacht und dreißig,38,\nacht und dreyßig,38,\nneun\
+unddreißig,39,\nneununddreyßig,39,\nneun und dreißig,39,\nneun und dreyßig,39,\nvierzig,40,\neinundvierzig,41,\nei\
+n und vierzig,41,\nzweiundvierzig,42,\nzweyundvierzig,42,\nzwei und vierzig,42,\nzwey und vierzig,42,\ndreiundvierzig,4\
+3,\ndreyundvierzig,43,\ndrei und vierzig,43,\ndrey und vierzig,43,\nvierundvierzig,44,\nvier und vierzig,44,\nfünfundv\
+ierzig,45,\nfünf und vierzig,45,\nsechsundvierzig,46,\nsechs und vierzig,46,\nsiebenundvierzig,47,\nsieben und vierzig\
+,47,\nachtundvierzig,48,\nacht und vierzig,48,\nneunundvierzig,49,\nneun und vierzig,49,\nfünfzig,50,\neinundfünfzig,\
+51,\nein und fünfzig,51,\nzweiundfünfzig,52,\nzweyundfünfzig,52,\nzwei und fünfzig,52,\nzwey und fünfzig,52,\ndrei\
+undfünfzig,53,\ndreyundfünfzig,53,\ndrei und fünfzig,53,\ndrey und fünfzig,53,\nvierundfünfzig,54,\nvier und fünf\
+zig,54,\nfünfundfünfzig,55,\nfünf und fünfzig,55,\nsechsundfünfzig,56,\nsechs und fünfzig,56,\nsiebenundfünfzig,\
+57,\nsieben und fünfzig,57,\nachtundfünfzig,58,\nacht und fünfzig,58,\nneunundfünfzig,59,\nneun und fünfzig,59,\ns\
+echzig,60,\neinundsechzig,61,\nein und sechzig,61,\nzweiundsechzig,62,\nzweyundsechzig,62,\nzwei und sechzig,62,\nzwey \
+und sechzig,62,\ndreiundsechzig,63,\ndreyundsechzig,63,\ndrei und sechzig,63,\ndrey und sechzig,63,\nvierundsechzig,64,\
+\nvier und sechzig,64,\nfünfundsechzig,65,\nfünf und sechzig,65,\nsechsundsechzig,66,\nsechs und sechzig,66,\nsiebenu\
+ndsechzig,67,\nsieben und sechzig,67,\nachtundsechzig,68,\nacht und sechzig,68,\nneunundsechzig,69,\nneun und sechzig,6\
+9,\nsiebzig,70,\neinundsiebzig,71,\nein und siebzig,71,\nzweiundsiebzig,72,\nzweyundsiebzig,72,\nzwei und siebzig,72,\n\
+zwey und siebzig,72,\ndreiundsiebzig,73,\ndreyundsiebzig,73,\ndrei und siebzig,73,\ndrey und siebzig,73,\nvierundsiebzi\
+g,74,\nvier und siebzig,74,\nfünfundsiebzig,75,\nfünf und siebzig,75,\nsechsundsiebzig,76,\nsechs und siebzig,76,\nsi\
+ebenundsiebzig,77,\nsieben und siebzig,77,\nachtundsiebzig,78,\nacht und siebzig,78,\nneunundsiebzig,79,\nneun und sieb\
+zig,79,\nachtzig,80,\neinundachtzig,81,\nein und achtzig,81,\nzweiundachtzig,82,\nzweyundachtzig,82,\nzwei und achtzig,\
+82,\nzwey und achtzig,82,\ndreiundachtzig,83,\ndreyundachtzig,83,\ndrei und achtzig,83,\ndrey und achtzig,83,\nvierunda\
+chtzig,84,\nvier und achtzig,84,\nfünfundachtzig,85,\nfünf und achtzig,85,\nsechsundachtzig,86,\nsechs und achtzig,86\
+,\nsiebenundachtzig,87,\nsieben und achtzig,87,\nachtundachtzig,88,\nacht und achtzig,88,\nneunundachtzig,89,\nneun un\
+d achtzig,89,\nneunzig,90,\neinundneunzig,91,\nein und neunzig,91,\nzweiundneunzig,92,\nzweyundneunzig,92,\nzwei und ne\
+unzig,92,\nzwey und neunzig,92,\ndreiundneunzig,93,\ndreyundneunzig,93,\ndrei und neunzig,93,\ndrey und neunzig,93,\nvi\
+erundneunzig,94,\nvier und neunzig,94,\nfünfundneunzig,95,\nfünf und neunzig,95,\nsechsundneunzig,96,\nsechs und neun\
+zig,96,\nsiebenundneunzig,97,\nsieben und neunzig,97,\nachtundneunzig,98,\nacht und neunzig,98,\nneunundneunzig,99,\nne\
+un und neunzig,99,\nzwo,2,\neilf,11,\nerste,1,\nersten,1,\nerster,1,\nzweite,2,\nzweiten,2,\nzweiter,2,\nzweyte,2,\nzwe\
+yten,2,\nzweyter,2,\nzwote,2,\nzwoten,2,\nzwoter,2,\ndritte,3,\ndritten,3,\ndritter,3,\nvierte,4,\nvierten,4,\nvierter,\
+4,\nfünfte,5,\nfünften,5,\nfünfter,5,\nsechste,6,\nsechsten,6,\nsechster,6,\nsiebente,7,\nsiebenten,7,\nsiebenter,7,\
+\nsiebte,7,\nsiebten,7,\nsiebter,7,\nachte,8,\nachten,8,\nachter,8,\nneunte,9,\nneunten,9,\nneunter,9,\nzehnte,10,\nzeh\
+nten,10,\nzehnter,10,\nelfte,11,\nelften,11,\nelfter,11,\neilfte,11,\neilften,11,\neilfter,11,\nzwölfte,12,\nzwölften\
+,12,\nzwölfter,12,\ndreizehnte,13,\ndreizehnten,13,\ndreizehnter,13,\ndreyzehnte,13,\ndreyzehnten,13,\ndreyzehnter,13,\
+\nvierzehnte,14,\nvierzehnten,14,\nvierzehnter,14,\nfünfzehnte,15,\nfünfzehnten,15,\nfünfzehnter,15,\nsechzehnte,16,\
+\nsechzehnten,16,\nsechzehnter,16,\nsiebzehnte,17,\nsiebzehnten,17,\nsiebzehnter,17,\nachtzehnte,18,\nachtzehnten,18,\n\
+achtzehnter,18,\nneunzehnte,19,\nneunzehnten,19,\nneunzehnter,19,\nzwanzigste,20,\nzwanzigsten,20,\nzwanzigster,20,\nei\
+nundzwanzigste,21,\neinundzwanzigsten,21,\neinundzwanzigster,21,\nein und zwanzigste,21,\nein und zwanzigsten,21,\nein \
+und zwanzigster,21,\nzweiundzwanzigste,22,\nzweiundzwanzigsten,22,\nzweiundzwanzigster,22,\nzweyundzwanzigste,22,\nzwey\
+undzwanzigsten,22,\nzweyundzwanzigster,22,\nzwei und zwanzigste,22,\nzwei und zwanzigsten,22,\nzwei und zwanzigster,22,\
+\nzwey und zwanzigste,22,\nzwey und zwanzigsten,22,\nzwey und zwanzigster,22,\ndreiundzwanzigste,23,\ndreiundzwanzigste\
+n,23,\ndreiundzwanzigster,23,\ndreyundzwanzigste,23,\ndreyundzwanzigsten,23,\ndreyundzwanzigster,23,\ndrei und zwanzigs\
+te,23,\ndrei und zwanzigsten,23,\ndrei und zwanzigster,23,\ndrey und zwanzigste,23,\ndrey und zwanzigsten,23,\ndrey un\
+d zwanzigster,23,\nvierundzwanzigste,24,\nvierundzwanzigsten,24,\nvierundzwanzigster,24,\nvier und zwanzigste,24,\nvie\
+r und zwanzigsten,24,\nvier und zwanzigster,24,\nfünfundzwanzigste,25,\nfünfundzwanzigsten,25,\nfünfundzwanzigster,2\
+5,\nfünf und zwanzigste,25,\nfünf und zwanzigsten,25,\nfünf und zwanzigster,25,\nsechsundzwanzigste,26,\nsechsundzwa\
+nzigsten,26,\nsechsundzwanzigster,26,\nsechs und zwanzigste,26,\nsechs und zwanzigsten,26,\nsechs und zwanzigster,26,\n\
+siebenundzwanzigste,27,\nsiebenundzwanzigsten,27,\nsiebenundzwanzigster,27,\nsieben und zwanzigste,27,\nsieben und zwan\
+zigsten,27,\nsieben und zwanzigster,27,\nachtundzwanzigste,28,\nachtundzwanzigsten,28,\nachtundzwanzigster,28,\nacht un\
+d zwanzigste,28,\nacht und zwanzigsten,28,\nacht und zwanzigster,28,\nneunundzwanzigste,29,\nneunundzwanzigsten,29,\nne\
+unundzwanzigster,29,\nneun und zwanzigste,29,\nneun und zwanzigsten,29,\nneun und zwanzigster,29,\ndreißigste,30,\ndre\
+ißigsten,30,\ndreißigster,30,\ndreyßigste,30,\ndreyßigsten,30,\ndreyßigster,30,\neinunddreißigste,31,\neinunddrei\
+ßigsten,31,\neinunddreißigster,31,\neinunddreyßigste,31,\neinunddreyßigsten,31,\neinunddreyßigster,31,\nein und dr\
+eißigste,31,\nein und dreißigsten,31,\nein und dreißigster,31,\nein und dreyßigste,31,\nein und dreyßigsten,31,\ne\
+in und dreyßigster,31,\neinhundert,100,\neinhundert und,100,\nein hundert,100,\nein hundert und,100,\nhundert,100,\nhu\
+ndert und,100,\nzweihundert,200,\nzweihundert und,200,\nzwei hundert,200,\nzwei hundert und,200,\nzweyhundert,200,\nzwe\
+yhundert und,200,\nzwey hundert,200,\nzwey hundert und,200,\ndreihundert,300,\ndreihundert und,300,\ndrei hundert,300,\
+\ndrei hundert und,300,\ndreyhundert,300,\ndreyhundert und,300,\ndrey hundert,300,\ndrey hundert und,300,\nvierhundert,\
+400,\nvierhundert und,400,\nvier hundert,400,\nvier hundert und,400,\nfünfhundert,500,\nfünfhundert und,500,\nfünf h\
+undert,500,\nfünf hundert und,500,\nsechshundert,600,\nsechshundert und,600,\nsechs hundert,600,\nsechs hundert und,60\
+0,\nsiebenhundert,700,\nsiebenhundert und,700,\nsieben hundert,700,\nsieben hundert und,700,\nachthundert,800,\nachthun\
+dert und,800,\nacht hundert,800,\nacht hundert und,800,\nneunhundert,900,\nneunhundert und,900,\nneun hundert,900,\nneu\
+n hundert und,900,\nelfhundert,1100,\nelfhundert und,1100,\nelf hundert,1100,\nelf hundert und,1100,\nzwölfhundert,120\
+0,\nzwölfhundert und,1200,\nzwölf hundert,1200,\nzwölf hundert und,1200,\ndreizehnhundert,1300,\ndreizehnhundert und\
+,1300,\ndreizehn hundert,1300,\ndreizehn hundert und,1300,\ndreyzehnhundert,1300,\ndreyzehnhundert und,1300,\ndreyzehn \
+hundert,1300,\ndreyzehn hundert und,1300,\nvierzehnhundert,1400,\nvierzehnhundert und,1400,\nvierzehn hundert,1400,\nvi\
+erzehn hundert und,1400,\nfünfzehnhundert,1500,\nfünfzehnhundert und,1500,\nfünfzehn hundert,1500,\nfünfzehn hunder\
+t und,1500,\nsechzehnhundert,1600,\nsechzehnhundert und,1600,\nsechzehn hundert,1600,\nsechzehn hundert und,1600,\nsieb\
+zehnhundert,1700,\nsiebzehnhundert und,1700,\nsiebzehn hundert,1700,\nsiebzehn hundert und,1700,\nachtzehnhundert,1800,\
+\nachtzehnhundert und,1800,\nachtzehn hundert,1800,\nachtzehn hundert und,1800,\nneunzehnhundert,1900,\nneunzehnhunder\
+t und,1900,\nneunzehn hundert,1900,\nneunzehn hundert und,1900,\ntausend,1000,\ntausend und,1000,\neintausend,1000,\nei\
+ntausend und,1000,\nein tausend,1000,\nein tausend und,1000,\nzweitausend,2000,\nzweitausend und,2000,\nzwei tausend,20\
+00,\nzwei tausend und,2000,\nMontag,weekday 1,\nDienstag,weekday 2,\nMittwoch,weekday 3,\nDonnerstag,weekday 4,\nFreita\
+g,weekday 5,\nSamstag,weekday 6,\nSonnabend,weekday 6,\nSonntag,weekday 0,\nMo,weekday 1,\nDi,weekday 2,gregorian julia\
+n coptic ethiopic egyptian armenian islamic hebrew french republican\nMi,weekday 3,gregorian julian coptic ethiopic egy\
+ptian armenian islamic hebrew french republican\nDo,weekday 4,\nFr,weekday 5,\nSa,weekday 6,\nSo,weekday 0,\nMonday,wee\
+kday 1,\nTuesday,weekday 2,\nWednesday,weekday 3,\nThursday,weekday 4,\nFriday,weekday 5,\nSaturday,weekday 6,\nSunday,\
+weekday 0,\nMon,weekday 1,\nTue,weekday 2,\nTues,weekday 2,\nWed,weekday 3,\nThu,weekday 4,\nThur,weekday 4,\nThurs,wee\
+kday 4,\nFri,weekday 5,\nSat,weekday 6,\nSun,weekday 0,\nlundi,weekday 1,\nmardi,weekday 2,\nmercredi,weekday 3,\njeudi\
+,weekday 4,\nvendredi,weekday 5,\nsamedi,weekday 6,\ndimanche,weekday 0,\nlun,weekday 1,\nmer,weekday 3,\njeu,weekday 4\
+,\nven,weekday 5,\nsam,weekday 6,\ndim,weekday 0,\nmaandag,weekday 1,\ndinsdag,weekday 2,\nwoensdag,weekday 3,\ndonderd\
+ag,weekday 4,\nvrijdag,weekday 5,\nzaterdag,weekday 6,\nzondag,weekday 0,\nma,weekday 1,\nwo,weekday 3,\nvr,weekday 5,\
+\nza,weekday 6,\nzo,weekday 0,\nlunedì,weekday 1,\nmartedì,weekday 2,\nmercoledì,weekday 3,\ngiovedì,weekday 4,\nve\
+nerdì,weekday 5,\nsabato,weekday 6,\ndomenica,weekday 0,\nlunes,weekday 1,\nmartes,weekday 2,\nmiércoles,weekday 3,\n\
+jueves,weekday 4,\nviernes,weekday 5,\nsábado,weekday 6,\ndomingo,weekday 0,\nponiedziałek,weekday 1,\nwtorek,weekda\
+y 2,\nśroda,weekday 3,\nczwartek,weekday 4,\npiątek,weekday 5,\nsobota,weekday 6,\nniedziela,weekday 0,\npondělí,we\
+ekday 1,\núterý,weekday 2,\nstředa,weekday 3,\nčtvrtek,weekday 4,\npátek,weekday 5,\nneděle,weekday 0,\ndies Luna\
+e,weekday 1,\ndies Martis,weekday 2,\ndies Mercurii,weekday 3,\ndies Iovis,weekday 4,\ndies Jovis,weekday 4,\ndies Vene\
+ris,weekday 5,\ndies Saturni,weekday 6,\ndies Sabbati,weekday 6,\ndies Dominica,weekday 0,\nsøndag,weekday 0,\nmandag,\
+weekday 1,\ntirsdag,weekday 2,\nonsdag,weekday 3,\ntorsdag,weekday 4,\nfredag,weekday 5,\nlørdag,weekday 6,\nsöndag,w\
+eekday 0,\nmåndag,weekday 1,\ntisdag,weekday 2,\nlördag,weekday 6,\nsunnuntai,weekday 0,\nmaanantai,weekday 1,\ntiist\
+ai,weekday 2,\nkeskiviikko,weekday 3,\ntorstai,weekday 4,\nperjantai,weekday 5,\nlauantai,weekday 6,\nvasárnap,weekda\
+y 0,\nhétfő,weekday 1,\nkedd,weekday 2,\nszerda,weekday 3,\ncsütörtök,weekday 4,\npéntek,weekday 5,\nszombat,week\
+day 6,\nsegunda-feira,weekday 1,\nterça-feira,weekday 2,\nquarta-feira,weekday 3,\nquinta-feira,weekday 4,\nsexta-feir\
+a,weekday 5,\nвоскресенье,weekday 0,\nпонедельник,weekday 1,\nвторник,weekday 2,\nсред\
+а,weekday 3,\nчетверг,weekday 4,\nпятница,weekday 5,\nсуббота,weekday 6,\nнеділя,weekday 0,\
+\nпонеділок,weekday 1,\nвівторок,weekday 2,\nсереда,weekday 3,\nчетвер,weekday 4,\nпʼя\
+тниця,weekday 5,\nсубота,weekday 6,\nΚυριακή,weekday 0,\nΔευτέρα,weekday 1,\nΤρίτη,weekda\
+y 2,\nΤετάρτη,weekday 3,\nΠέμπτη,weekday 4,\nΠαρασκευή,weekday 5,\nΣάββατο,weekday 6,\nPaz\
+ar,weekday 0,\nPazartesi,weekday 1,\nSalı,weekday 2,\nÇarşamba,weekday 3,\nPerşembe,weekday 4,\nCuma,weekday 5,\nCu\
+martesi,weekday 6,\nSonntags,weekday 0,\nSontag,weekday 0,\ndies dominicus,weekday 0,\ndie Dominica,weekday 0,\ndie Dom\
+inico,weekday 0,\ndominico die,weekday 0,\nMontags,weekday 1,\nMondtag,weekday 1,\ndie Lunae,weekday 1,\ndie Lune,weekd\
+ay 1,\nDienstags,weekday 2,\nDinstag,weekday 2,\nDinstags,weekday 2,\nErchtag,weekday 2,\nErtag,weekday 2,\nZinstag,wee\
+kday 2,\nZistag,weekday 2,\ndie Martis,weekday 2,\nMittwochs,weekday 3,\nMitwoch,weekday 3,\nMittichen,weekday 3,\ndie \
+Mercurii,weekday 3,\nDonnerstags,weekday 4,\nDornstag,weekday 4,\nPfinztag,weekday 4,\ndie Jovis,weekday 4,\ndie Iovis,\
+weekday 4,\nFreitags,weekday 5,\nFreytag,weekday 5,\nFreytags,weekday 5,\ndie Veneris,weekday 5,\nSamstags,weekday 6,\n\
+Sonnabends,weekday 6,\nSambstag,weekday 6,\ndie Sabbati,weekday 6,\ndie Saturni,weekday 6,\ndie Sabbato,weekday 6,\nSon\
+nabent,weekday 6,\ndominica,weekday 0,\ndom,weekday 0,\nferia secunda,weekday 1,\nferia 2,weekday 1,\nferia tertia,week\
+day 2,\nferia tercia,weekday 2,\nferia 3,weekday 2,\nferia quarta,weekday 3,\nferia 4,weekday 3,\nferia quinta,weekday \
+4,\nferia 5,weekday 4,\nferia sexta,weekday 5,\nferia 6,weekday 5,\nsabbato,weekday 6,\nsabbatum,weekday 6,\nprimidi,de\
+cade 1,french republican\nduodi,decade 2,french republican\ntridi,decade 3,french republican\nquartidi,decade 4,french \
+republican\nquintidi,decade 5,french republican\nsextidi,decade 6,french republican\nseptidi,decade 7,french republican\
+\noctidi,decade 8,french republican\nnonidi,decade 9,french republican\ndécadi,decade 10,french republican\ndecadi,dec\
+ade 10,french republican\nday after,morrow,gregorian julian\nTag nach,morrow,gregorian julian\nTags nach,morrow,gregori\
+an julian\njour après,morrow,gregorian julian\nlendemain de,morrow,gregorian julian\ndie post,morrow,gregorian julian\
+\ndies post,morrow,gregorian julian\nday before,eve,gregorian julian\nTag vor,eve,gregorian julian\nTags vor,eve,gregor\
+ian julian\njour avant,eve,gregorian julian\ndie ante,eve,gregorian julian\ndies ante,eve,gregorian julian\nin profesto\
+,eve,gregorian julian\nafter,after,gregorian julian coptic ethiopic egyptian armenian islamic hebrew french republican\
+\nnach,after,gregorian julian coptic ethiopic egyptian armenian islamic hebrew french republican\npost,after,gregorian \
+julian coptic ethiopic egyptian armenian islamic hebrew french republican\np,after,gregorian julian\naprès,after,grego\
+rian julian coptic ethiopic egyptian armenian islamic hebrew french republican\nbefore,before,gregorian julian coptic e\
+thiopic egyptian armenian islamic hebrew french republican\nvor,before,gregorian julian coptic ethiopic egyptian armeni\
+an islamic hebrew french republican\nante,before,gregorian julian coptic ethiopic egyptian armenian islamic hebrew fren\
+ch republican\navant,before,gregorian julian coptic ethiopic egyptian armenian islamic hebrew french republican\nbef,be\
+fore,gregorian julian coptic ethiopic egyptian armenian islamic hebrew french republican\nvoor,before,gregorian julian \
+coptic ethiopic egyptian armenian islamic hebrew french republican\nprima di,before,gregorian julian coptic ethiopic eg\
+yptian armenian islamic hebrew french republican\nantes de,before,gregorian julian coptic ethiopic egyptian armenian is\
+lamic hebrew french republican\nprzed,before,gregorian julian coptic ethiopic egyptian armenian islamic hebrew french r\
+epublican\npřed,before,gregorian julian coptic ethiopic egyptian armenian islamic hebrew french republican\nперед\
+,before,gregorian julian coptic ethiopic egyptian armenian islamic hebrew french republican\nраньше,before,gregor\
+ian julian coptic ethiopic egyptian armenian islamic hebrew french republican\nπριν από,before,gregorian julian \
+coptic ethiopic egyptian armenian islamic hebrew french republican\nπριν,before,gregorian julian coptic ethiopic eg\
+yptian armenian islamic hebrew french republican\nennen,before,gregorian julian coptic ethiopic egyptian armenian islam\
+ic hebrew french republican\nföre,before,gregorian julian coptic ethiopic egyptian armenian islamic hebrew french repu\
+blican\nfør,before,gregorian julian coptic ethiopic egyptian armenian islamic hebrew french republican\naft,after,greg\
+orian julian coptic ethiopic egyptian armenian islamic hebrew french republican\nna,after,gregorian julian coptic ethio\
+pic egyptian armenian islamic hebrew french republican\ndopo,after,gregorian julian coptic ethiopic egyptian armenian i\
+slamic hebrew french republican\ndespués de,after,gregorian julian coptic ethiopic egyptian armenian islamic hebrew fr\
+ench republican\npo,after,gregorian julian coptic ethiopic egyptian armenian islamic hebrew french republican\nпосл\
+е,after,gregorian julian coptic ethiopic egyptian armenian islamic hebrew french republican\nпісля,after,gregoria\
+n julian coptic ethiopic egyptian armenian islamic hebrew french republican\nμετά,after,gregorian julian coptic eth\
+iopic egyptian armenian islamic hebrew french republican\nefter,after,gregorian julian coptic ethiopic egyptian armenia\
+n islamic hebrew french republican\netter,after,gregorian julian coptic ethiopic egyptian armenian islamic hebrew frenc\
+h republican\ndepois de,after,gregorian julian coptic ethiopic egyptian armenian islamic hebrew french republican\nca,a\
+bout,gregorian julian coptic ethiopic egyptian armenian islamic hebrew french republican\ncirca,about,gregorian julian \
+coptic ethiopic egyptian armenian islamic hebrew french republican\num,about,gregorian julian coptic ethiopic egyptian \
+armenian islamic hebrew french republican\ngegen,about,gregorian julian coptic ethiopic egyptian armenian islamic hebre\
+w french republican\netwa,about,gregorian julian coptic ethiopic egyptian armenian islamic hebrew french republican\nab\
+out,about,gregorian julian coptic ethiopic egyptian armenian islamic hebrew french republican\nabt,about,gregorian juli\
+an coptic ethiopic egyptian armenian islamic hebrew french republican\nest,about,gregorian julian coptic ethiopic egypt\
+ian armenian islamic hebrew french republican\ncal,about,gregorian julian coptic ethiopic egyptian armenian islamic heb\
+rew french republican\nvers,about,gregorian julian coptic ethiopic egyptian armenian islamic hebrew french republican\n\
+environ,about,gregorian julian coptic ethiopic egyptian armenian islamic hebrew french republican\nomstreeks,about,greg\
+orian julian coptic ethiopic egyptian armenian islamic hebrew french republican\nongeveer,about,gregorian julian copti\
+c ethiopic egyptian armenian islamic hebrew french republican\nverso,about,gregorian julian coptic ethiopic egyptian ar\
+menian islamic hebrew french republican\nhacia,about,gregorian julian coptic ethiopic egyptian armenian islamic hebrew \
+french republican\nokoło,about,gregorian julian coptic ethiopic egyptian armenian islamic hebrew french republican\nko\
+lem,about,gregorian julian coptic ethiopic egyptian armenian islamic hebrew french republican\nasi,about,gregorian juli\
+an coptic ethiopic egyptian armenian islamic hebrew french republican\ncirciter,about,gregorian julian coptic ethiopic \
+egyptian armenian islamic hebrew french republican\nоколо,about,gregorian julian coptic ethiopic egyptian armenia\
+n islamic hebrew french republican\nок,about,gregorian julian coptic ethiopic egyptian armenian islamic hebrew frenc\
+h republican\nпримерно,about,gregorian julian coptic ethiopic egyptian armenian islamic hebrew french republica\
+n\nблизько,about,gregorian julian coptic ethiopic egyptian armenian islamic hebrew french republican\nбіля,a\
+bout,gregorian julian coptic ethiopic egyptian armenian islamic hebrew french republican\nokolo,about,gregorian julian \
+coptic ethiopic egyptian armenian islamic hebrew french republican\ncerca de,about,gregorian julian coptic ethiopic egy\
+ptian armenian islamic hebrew french republican\npor volta de,about,gregorian julian coptic ethiopic egyptian armenian \
+islamic hebrew french republican\nalrededor de,about,gregorian julian coptic ethiopic egyptian armenian islamic hebrew \
+french republican\nyaklaşık,about,gregorian julian coptic ethiopic egyptian armenian islamic hebrew french republican\
+\nπερί,about,gregorian julian coptic ethiopic egyptian armenian islamic hebrew french republican\nπερίπου,ab\
+out,gregorian julian coptic ethiopic egyptian armenian islamic hebrew french republican\nnoin,about,gregorian julian co\
+ptic ethiopic egyptian armenian islamic hebrew french republican\nomkring,about,gregorian julian coptic ethiopic egypti\
+an armenian islamic hebrew french republican\nkörülbelül,about,gregorian julian coptic ethiopic egyptian armenian is\
+lamic hebrew french republican\nkb,about,gregorian julian coptic ethiopic egyptian armenian islamic hebrew french repub\
+lican\nseit,from,gregorian julian coptic ethiopic egyptian armenian islamic hebrew french republican\nab,from,gregoria\
+n julian coptic ethiopic egyptian armenian islamic french republican\nfrom,from,gregorian julian coptic ethiopic egypti\
+an armenian islamic hebrew french republican\nsince,from,gregorian julian coptic ethiopic egyptian armenian islamic heb\
+rew french republican\ndepuis,from,gregorian julian coptic ethiopic egyptian armenian islamic hebrew french republican\
+\nà partir de,from,gregorian julian coptic ethiopic egyptian armenian islamic hebrew french republican\nvanaf,from,gre\
+gorian julian coptic ethiopic egyptian armenian islamic hebrew french republican\nsinds,from,gregorian julian coptic et\
+hiopic egyptian armenian islamic hebrew french republican\ndal,from,gregorian julian coptic ethiopic egyptian armenian \
+islamic hebrew french republican\ndesde,from,gregorian julian coptic ethiopic egyptian armenian islamic hebrew french r\
+epublican\nod,from,gregorian julian coptic ethiopic egyptian armenian islamic hebrew french republican\nnotBefore,from,\
+gregorian julian coptic ethiopic egyptian armenian islamic hebrew french republican\nnicht vor,from,gregorian julian co\
+ptic ethiopic egyptian armenian islamic hebrew french republican\nnot before,from,gregorian julian coptic ethiopic egyp\
+tian armenian islamic hebrew french republican\nс,from,gregorian julian coptic ethiopic egyptian armenian islamic hebr\
+ew french republican\nз,from,gregorian julian coptic ethiopic egyptian armenian islamic hebrew french republican\nві\
+д,from,gregorian julian coptic ethiopic egyptian armenian islamic hebrew french republican\nαπό,from,gregorian juli\
+an coptic ethiopic egyptian armenian islamic hebrew french republican\nfrån,from,gregorian julian coptic ethiopic egyp\
+tian armenian islamic hebrew french republican\na partir de,from,gregorian julian coptic ethiopic egyptian armenian isl\
+amic hebrew french republican\nbis,to,gregorian julian coptic ethiopic egyptian armenian islamic hebrew french republic\
+an\nto,to,gregorian julian coptic ethiopic egyptian armenian islamic hebrew french republican\nuntil,to,gregorian julia\
+n coptic ethiopic egyptian armenian islamic hebrew french republican\ntill,to,gregorian julian coptic ethiopic egyptia\
+n armenian islamic hebrew french republican\njusqu'à,to,gregorian julian coptic ethiopic egyptian armenian islamic heb\
+rew french republican\njusqu’à,to,gregorian julian coptic ethiopic egyptian armenian islamic hebrew french republica\
+n\nau,to,gregorian julian coptic ethiopic egyptian armenian islamic hebrew french republican\nà,to,gregorian julian co\
+ptic ethiopic egyptian armenian islamic hebrew french republican\ntot,to,gregorian julian coptic ethiopic egyptian arme\
+nian islamic hebrew french republican\ntot en met,to,gregorian julian coptic ethiopic egyptian armenian islamic hebrew \
+french republican\nfino a,to,gregorian julian coptic ethiopic egyptian armenian islamic hebrew french republican\nal,to\
+,gregorian julian coptic ethiopic egyptian armenian islamic hebrew french republican\nhasta,to,gregorian julian coptic \
+ethiopic egyptian armenian islamic hebrew french republican\nusque ad,to,gregorian julian coptic ethiopic egyptian arme\
+nian islamic hebrew french republican\nnotAfter,to,gregorian julian coptic ethiopic egyptian armenian islamic hebrew fr\
+ench republican\nnicht nach,to,gregorian julian coptic ethiopic egyptian armenian islamic hebrew french republican\nno\
+t after,to,gregorian julian coptic ethiopic egyptian armenian islamic hebrew french republican\nдо,to,gregorian julia\
+n coptic ethiopic egyptian armenian islamic hebrew french republican\nпо,to,gregorian julian coptic ethiopic egyptia\
+n armenian islamic hebrew french republican\nέως,to,gregorian julian coptic ethiopic egyptian armenian islamic hebre\
+w french republican\nμέχρι,to,gregorian julian coptic ethiopic egyptian armenian islamic hebrew french republican\
+\naté,to,gregorian julian coptic ethiopic egyptian armenian islamic hebrew french republican\nzwischen,between,gregori\
+an julian coptic ethiopic egyptian armenian islamic hebrew french republican\nzw,between,gregorian julian coptic ethiop\
+ic egyptian armenian islamic hebrew french republican\nbetween,between,gregorian julian coptic ethiopic egyptian armeni\
+an islamic hebrew french republican\nbet,between,gregorian julian coptic ethiopic egyptian armenian islamic hebrew fren\
+ch republican\nentre,between,gregorian julian coptic ethiopic egyptian armenian islamic hebrew french republican\ntusse\
+n,between,gregorian julian coptic ethiopic egyptian armenian islamic hebrew french republican\ntra,between,gregorian ju\
+lian coptic ethiopic egyptian armenian islamic hebrew french republican\nfra,between,gregorian julian coptic ethiopic e\
+gyptian armenian islamic hebrew french republican\nmiędzy,between,gregorian julian coptic ethiopic egyptian armenian i\
+slamic hebrew french republican\nmezi,between,gregorian julian coptic ethiopic egyptian armenian islamic hebrew french \
+republican\ninter,between,gregorian julian coptic ethiopic egyptian armenian islamic hebrew french republican\nмежд\
+у,between,gregorian julian coptic ethiopic egyptian armenian islamic hebrew french republican\nміж,between,gregoria\
+n julian coptic ethiopic egyptian armenian islamic hebrew french republican\nμεταξύ,between,gregorian julian copt\
+ic ethiopic egyptian armenian islamic hebrew french republican\nmellan,between,gregorian julian coptic ethiopic egyptia\
+n armenian islamic hebrew french republican\nmellem,between,gregorian julian coptic ethiopic egyptian armenian islamic \
+hebrew french republican\nmellom,between,gregorian julian coptic ethiopic egyptian armenian islamic hebrew french repub\
+lican\nund,and,gregorian julian coptic ethiopic egyptian armenian islamic hebrew french republican\nu,and,gregorian jul\
+ian coptic ethiopic egyptian armenian islamic hebrew french republican\nand,and,gregorian julian coptic ethiopic egypti\
+an armenian islamic hebrew french republican\net,and,gregorian julian coptic ethiopic egyptian armenian islamic hebrew \
+french republican\ned,and,gregorian julian coptic ethiopic egyptian armenian islamic hebrew french republican\ny,and,gr\
+egorian julian coptic ethiopic egyptian armenian islamic hebrew french republican\noraz,and,gregorian julian coptic eth\
+iopic egyptian armenian islamic hebrew french republican\nи,and,gregorian julian coptic ethiopic egyptian armenian isl\
+amic hebrew french republican\nі,and,gregorian julian coptic ethiopic egyptian armenian islamic hebrew french republic\
+an\nта,and,gregorian julian coptic ethiopic egyptian armenian islamic hebrew french republican\nκαι,and,gregorian \
+julian coptic ethiopic egyptian armenian islamic hebrew french republican\noch,and,gregorian julian coptic ethiopic egy\
+ptian armenian islamic hebrew french republican\nog,and,gregorian julian coptic ethiopic egyptian armenian islamic hebr\
+ew french republican\nja,and,gregorian julian coptic ethiopic egyptian armenian islamic hebrew french republican\nAdar,\
+month 12-13,hebrew\neve of,eve,gregorian julian\nvigilia,eve,gregorian julian\nin vigilia,eve,gregorian julian\nVigil,e\
+ve,gregorian julian\nVorabend,eve,gregorian julian\nprofesto,eve,gregorian julian\nveille de,eve,gregorian julian\nocta\
+va,octave,gregorian julian\nin octava,octave,gregorian julian\nOktav,octave,gregorian julian\noctave of,octave,gregoria\
+n julian\nin crastino,morrow,gregorian julian\ncrastino,morrow,gregorian julian\nmorrow of,morrow,gregorian julian\nOst\
+ern,easter 0,gregorian julian\nOstersonntag,easter 0,gregorian julian\nOstertag,easter 0,gregorian julian\nPascha,easte\
+r 0,gregorian julian\nPaschae,easter 0,gregorian julian\nPasche,easter 0,gregorian julian\nResurrectionis Domini,easte\
+r 0,gregorian julian\nEaster,easter 0,gregorian julian\nEaster Day,easter 0,gregorian julian\nEaster Sunday,easter 0,gr\
+egorian julian\nPâques,easter 0,gregorian julian\nOstermontag,easter 1,gregorian julian\nEaster Monday,easter 1,gregor\
+ian julian\nlundi de Pâques,easter 1,gregorian julian\nOsterdienstag,easter 2,gregorian julian\nEaster Tuesday,easter \
+2,gregorian julian\nSeptuagesima,easter -63,gregorian julian\nSeptuagesimae,easter -63,gregorian julian\nSeptuagésime,\
+easter -63,gregorian julian\nCircumdederunt,easter -63,gregorian julian\nSexagesima,easter -56,gregorian julian\nSexage\
+simae,easter -56,gregorian julian\nExsurge,easter -56,gregorian julian\nExurge,easter -56,gregorian julian\nQuinquagesi\
+ma,easter -49,gregorian julian\nQuinquagesimae,easter -49,gregorian julian\nEstomihi,easter -49,gregorian julian\nEsto \
+mihi,easter -49,gregorian julian\nHerrenfastnacht,easter -49,gregorian julian\nFastnachtsdienstag,easter -47,gregorian \
+julian\nShrove Tuesday,easter -47,gregorian julian\nMardi gras,easter -47,gregorian julian\nAschermittwoch,easter -46,g\
+regorian julian\ndies Cinerum,easter -46,gregorian julian\nCinerum,easter -46,gregorian julian\nAsh Wednesday,easter -4\
+6,gregorian julian\nmercredi des Cendres,easter -46,gregorian julian\nInvocavit,easter -42,gregorian julian\nInvocabit,\
+easter -42,gregorian julian\nQuadragesima,easter -42,gregorian julian\nReminiscere,easter -35,gregorian julian\nOculi,e\
+aster -28,gregorian julian\nLaetare,easter -21,gregorian julian\nLetare,easter -21,gregorian julian\nLätare,easter -21\
+,gregorian julian\nJudica,easter -14,gregorian julian\nIudica,easter -14,gregorian julian\nPalmarum,easter -7,gregoria\
+n julian\nPalmsonntag,easter -7,gregorian julian\nPalm Sunday,easter -7,gregorian julian\ndimanche des Rameaux,easter -\
+7,gregorian julian\nRameaux,easter -7,gregorian julian\nGründonnerstag,easter -3,gregorian julian\nCoena Domini,easte\
+r -3,gregorian julian\nCoenae Domini,easter -3,gregorian julian\nCene Domini,easter -3,gregorian julian\nMaundy Thursda\
+y,easter -3,gregorian julian\nJeudi saint,easter -3,gregorian julian\nKarfreitag,easter -2,gregorian julian\nCharfreita\
+g,easter -2,gregorian julian\nParasceve,easter -2,gregorian julian\nGood Friday,easter -2,gregorian julian\nVendredi sa\
+int,easter -2,gregorian julian\nKarsamstag,easter -1,gregorian julian\nSabbatum sanctum,easter -1,gregorian julian\nQua\
+simodogeniti,easter 7,gregorian julian\nQuasi modo geniti,easter 7,gregorian julian\nQuasimodo,easter 7,gregorian julia\
+n\nLow Sunday,easter 7,gregorian julian\nMisericordias Domini,easter 14,gregorian julian\nMisericordia Domini,easter 14\
+,gregorian julian\nJubilate,easter 21,gregorian julian\nIubilate,easter 21,gregorian julian\nCantate,easter 28,gregoria\
+n julian\nKantate,easter 28,gregorian julian\nRogate,easter 35,gregorian julian\nVocem jucunditatis,easter 35,gregoria\
+n julian\nRogation Sunday,easter 35,gregorian julian\nHimmelfahrt,easter 39,gregorian julian\n\
 ";

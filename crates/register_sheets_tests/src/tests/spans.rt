@@ -13,8 +13,8 @@ const ENDS: Case = Case {
     spans: Spans::Ends,
     reading: DAY_FIRST,
     sheet: "D;C\n12. Mai 1806;gregorian\nMai 1806;gregorian\nca. 1750;gregorian\nvor 12.5.1806;gregorian\n\
-        nach 1800;gregorian\nzw. 1750 u. 1755;gregorian\n[ca. 1750?];gregorian\n31.4.1801 bis 5.5.1801;gregorian\n1755-1750;gregorian\n\
-        ;gregorian\nMai 1806;mondisch\n",
+        nach 1800;gregorian\nzw. 1750 u. 1755;gregorian\n[ca. 1750?];gregorian\n31.4.1801 bis 5.5.1801;gregorian\n\
+        1755-1750;gregorian\n;gregorian\nMai 1806;mondisch\n",
     wanted: "D;C;first rd;first gregorian;last rd;last gregorian;mark;refusal\n\
         12. Mai 1806;gregorian;659394;1806-05-12;659394;1806-05-12;;\n\
         Mai 1806;gregorian;659383;1806-05-01;659413;1806-05-31;;\n\

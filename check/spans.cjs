@@ -16,6 +16,8 @@ const REPUBLICAN = ["french", "republican"];
 const BLANK = " \\t\\r\\n\\u00a0\\u202f", DASH = "\\-\\u2010-\\u2014\\u2212", SIGN = `.,/${DASH}`;
 const pattern = (text, flags = "s") => new RegExp(text, flags);
 const MARK = pattern("^(.*?)(?:[(]([?~%])[)]|([?~%]))$"), OPEN_END = pattern(`[/${DASH}][${BLANK}]*$`), OPEN_FRONT = pattern(`^[${BLANK}]*[/${DASH}]`);
+// Three digits and a question mark right behind them, which may stand for a fourth.
+const MISSING_DIGIT = /(?:^|[^0-9])[0-9]{3}[?]$/;
 const MINUS = pattern(`(^|[${BLANK}${SIGN}])[${DASH}][0-9]`), ONLY_SLASH = pattern("^([^/]*)/([^/]*)$");
 const ONLY_DASH = pattern(`^([^${DASH}]*)[${DASH}]([^${DASH}]*)$`), WIDE_DASH = pattern(`(^|[${BLANK}])[${DASH}]`, "gs");
 const signsBetween = text => (text.replace(/^[^0-9]*|[^0-9]*$/g, "").match(pattern(`[${SIGN}]`, "g")) || [])
@@ -273,7 +275,8 @@ function plainSpanOf(text, calendar, choice, names) {
     const date = written(text, calendar, choice, names).text;
     return { first: date, last: date, marks: "" };
   }
-  const bare = bareOf(text), found = MARK.exec(bare), isMarked = found !== null && !OPEN_END.test(found[1]);
+  const bare = bareOf(text), found = MARK.exec(bare);
+  const isMarked = found !== null && !OPEN_END.test(found[1]) && !MISSING_DIGIT.test(bare);
   const kept = withoutTime(isMarked ? found[1] : bare, calendar, choice, names), sign = isMarked ? found[2] ?? found[3] : "";
   const by = { order: choice.order, calendar };
   const dual = dualSides(kept, names, by), date = written(kept, calendar, choice, names);

@@ -1,6 +1,7 @@
 -- Signs at the ends of a text, and a text cut at its only dash or slash.
 use Rattle.std.specs.Prelude.{ℕ, ◌+◌, ◌-◌, Bool, false, not, ◌&&◌, ◌||◌, ◌==◌, if◌then◌else◌, List, [], ◌∷◌, ◌++◌}
 use Rattle.std.specs.Prelude.{length, nat_le, nat_lt, take, get_or, Option, Some, None}
+use Rattle.std.specs.Char.{is_ascii_digit}
 use Rattle.written_dates.specs.declared.tokens.Kind.{Kind}
 use Rattle.written_dates.specs.declared.tokens.Kind.TheVariants.{Blank}
 use Rattle.written_dates.specs.Fields.{is_blank, spelling, without_blanks}
@@ -71,11 +72,24 @@ ends_in_parentheses text =
 abbrev pub end_sign : List ℕ → ℕ × ℕ
 end_sign text = if ends_in_parentheses text then (get_or text (length text - 2) 0, 3) else (last_byte text, 1)
 
--- a text without such a sign at its end, and whether it says `uncertain` and `about`; where a dash or a slash stands
--- before the sign, it says neither
+-- a digit stands before so many last bytes of a text
+abbrev pub has_digit_before : ℕ → List ℕ → Bool
+has_digit_before n text = nat_lt n (length text) && is_ascii_digit (get_or text (length text - 1 - n) 0)
+
+-- three digits end a text, and no fourth stands before them: a question mark right behind them may stand for one
+abbrev pub ends_with_three_digits : List ℕ → Bool
+ends_with_three_digits text =
+    has_digit_before 0 text && has_digit_before 1 text && has_digit_before 2 text && not (has_digit_before 3 text)
+
+-- what stands before a sign leaves it: a dash or a slash ends it, or three digits, where the sign is a question mark (63)
+abbrev pub leaves_sign : ℕ → ℕ → List ℕ → Bool
+leaves_sign c size text =
+    ends_open false (tokens 0 text) || ((c == 63) && (size == 1) && ends_with_three_digits text)
+
+-- a text without such a sign at its end, and whether it says `uncertain` and `about`; where it is left, it says neither
 abbrev pub without_sign : List ℕ → ℕ → ℕ → List ℕ × Bool × Bool
 without_sign text c size =
-    if (is_uncertain_sign c || is_about_sign c) && not (ends_open false (tokens 0 (take (length text - size) text)))
+    if (is_uncertain_sign c || is_about_sign c) && not (leaves_sign c size (take (length text - size) text))
     then (take (length text - size) text, is_uncertain_sign c, is_about_sign c)
     else (text, false, false)
 

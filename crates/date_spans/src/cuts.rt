@@ -11,7 +11,8 @@ ghost use Rattle.date_spans.specs.Cuts.{begins_open as begins_open_spec, ends_op
 ghost use Rattle.date_spans.specs.Cuts.{bytes_before, bytes_behind, count_cuts as count_spec, cuts as cuts_spec};
 ghost use Rattle.date_spans.specs.Cuts.{has_slash as slash_spec, is_about_sign as about_spec, last_byte as last_spec};
 ghost use Rattle.date_spans.specs.Cuts.{end_sign as end_spec, is_uncertain_sign as uncertain_spec, sides as sides_spec};
-ghost use Rattle.date_spans.specs.Cuts.{unmarked as unmarked_spec};
+ghost use Rattle.date_spans.specs.Cuts.{ends_with_three_digits as three_digits_spec, has_digit_before as digit_before_spec};
+ghost use Rattle.date_spans.specs.Cuts.{leaves_sign as leaves_spec, unmarked as unmarked_spec};
 
 use written_dates::{Kind, Token, bare, is_bar, is_blank, is_dash, next_token, without_blanks};
 
@@ -179,6 +180,30 @@ fn end_sign(text: &[u8]) -> (u8, usize)
     (last, 1)
 }
 
+/// Whether a digit stands before so many last bytes of a text.
+fn has_digit_before(behind: usize, text: &[u8]) -> bool
+    ensures { result ≡ digit_before_spec behind text.now }
+{
+    behind < text.len() && text[text.len() - 1 - behind].is_ascii_digit()
+}
+
+/// Whether three digits end a text, and no fourth stands before them.
+fn ends_with_three_digits(text: &[u8]) -> bool
+    ensures { result ≡ three_digits_spec text.now }
+{
+    has_digit_before(0, text)
+        && has_digit_before(1, text)
+        && has_digit_before(2, text)
+        && !has_digit_before(3, text)
+}
+
+/// Whether what stands before a sign leaves it: a question mark right behind three digits may stand for a fourth.
+fn leaves_sign(sign: u8, size: usize, text: &[u8]) -> bool
+    ensures { result ≡ leaves_spec sign size text.now }
+{
+    ends_open(text) || (sign == b'?' && size == 1 && ends_with_three_digits(text))
+}
+
 /// A text without blanks at its ends and a sign behind it that says `uncertain` or `about`, also one in parentheses; and
 /// whether it says so.
 #[tactic(auto, unfolding(crate::specs::Cuts::unmarked))]
@@ -193,7 +218,7 @@ pub fn unmarked(text: &[u8]) -> (&[u8], bool, bool)
         return (text, false, false);
     }
     let kept = &text[..text.len() - size];
-    if ends_open(kept) {
+    if leaves_sign(sign, size, kept) {
         return (text, false, false);
     }
     (kept, uncertain, about)

@@ -256,12 +256,15 @@ unfolding folded
 folded-plain word e = rw e refl
 
 -- ---- words of ASCII
+pub key-ascii : (word : List ℕ) → IsAscii word → canonical_key (chars word) ≡ str_to_ascii_lowercase word
+key-ascii word ascii =
+    let all = All-chars word ascii in
+    canonical_key-ascii (chars word) all ∙ default_case_fold-ascii (chars word) all
+    ∙ ap str_to_ascii_lowercase (chars-IsAscii word ascii)
+
 pub folded-ascii : (word : List ℕ) → IsAscii word → folded word ≡ str_to_ascii_lowercase word
 folded-ascii word ascii =
-    let cs : chars word ≡ word = chars-IsAscii word ascii in
-    let all = All-chars word ascii in
-    let key : canonical_key (chars word) ≡ str_to_ascii_lowercase word
-    = canonical_key-ascii (chars word) all ∙ default_case_fold-ascii (chars word) all ∙ ap str_to_ascii_lowercase cs in
+    let key = key-ascii word ascii in
     let told : (x : Bool) → is_folded word ≡ x → folded word ≡ str_to_ascii_lowercase word
     = λ x. elim x as (λ x. is_folded word ≡ x → folded word ≡ str_to_ascii_lowercase word) [
       | true ↦ λ e. folded-read word e ∙ key
@@ -280,12 +283,23 @@ is_folded-ascii word ascii =
     let cs : chars word ≡ word = chars-IsAscii word ascii in
     let all = All-chars word ascii in
     let first : nfd (chars word) ≡ word = normalize-ascii Nfd (chars word) all ∙ cs in
-    let key : canonical_key (chars word) ≡ str_to_ascii_lowercase word
-    = canonical_key-ascii (chars word) all ∙ default_case_fold-ascii (chars word) all ∙ ap str_to_ascii_lowercase cs in
+    let key = key-ascii word ascii in
     let second : length (canonical_key (chars word)) ≡ length word = ap length key ∙ length-map word to_ascii_lowercase in
     let utf8 : is_utf8 word ≡ true = is_utf8-from_IsUtf8 word (IsUtf8-from_ascii word ascii) in
     ascii_by (is_utf8 word) (is_short (nfd (chars word))) (is_short (canonical_key (chars word))) (is_short word)
     utf8 (ap is_short first) (ap (λ n. nat_le n 64) second)
+
+pub short-ascii : (word : List ℕ) → IsAscii word → (length word ≤ 64) → is_folded word ≡ true
+short-ascii word ascii few = is_folded-ascii word ascii ∙ few_is (length word) few
+  where
+    few_is : (n : ℕ) → n ≤ 64 → nat_le n 64 ≡ true
+    few_is n few = grind (arith, nat_tests)
+
+pub long-ascii : (word : List ℕ) → IsAscii word → 64 < length word → is_folded word ≡ false
+long-ascii word ascii many = is_folded-ascii word ascii ∙ many_is (length word) many
+  where
+    many_is : (n : ℕ) → 64 < n → nat_le n 64 ≡ false
+    many_is n many = grind (arith, nat_tests)
 
 pub same_word-Decides : (a b : List ℕ) → Decides (same_word a b) ((is_folded a ≡ is_folded b) × (folded a ≡ folded b))
 unfolding same_word

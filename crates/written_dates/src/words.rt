@@ -2,7 +2,7 @@
 
 ghost use Rattle.std.specs.Prelude.{◌≡◌, ℕ, List, ◌+◌, ◌<◌, ◌≤◌, ◌∷◌, ◌++◌, []};
 ghost use Rattle.std.specs.Prelude.{true, false, chars, drop, flat_map, length, take};
-ghost use Rattle.std.specs.Prelude.{IfSome, IfNone};
+ghost use Rattle.std.specs.Prelude.{IfSome, IfNone, IsAscii};
 ghost use Rattle.caseless.specs.Caseless.{canonical_key, default_case_fold};
 ghost use Rattle.ucd_case.specs.CaseFolding.{full_fold};
 ghost use Rattle.unicode_normalization.specs.Decompose.{decompose_canonical};
@@ -104,11 +104,38 @@ fn refolded(text: &[char]) -> Option<ArrayVec<char, ROOM>>
     Some(out)
 }
 
-/// A word as it is compared, where it is folded.
+/// Puts a character at the end of others, and says whether there was room.
+fn push_last(out: &mut ArrayVec<char, ROOM>, c: char) -> bool
+    ensures room { result ≡ true → out.new.items ≡ out.old.items ++ c ∷ [] }
+    ensures short { result ≡ true → length out.old.items < 64 }
+    ensures full { result ≡ false → 64 ≤ length out.old.items }
+{
+    out.try_push(c).is_ok()
+}
+
+/// A word of ASCII as it is compared: with A to Z as small letters; nothing where that is too long.
+fn folded_ascii(word: &[u8]) -> Option<ArrayVec<char, ROOM>>
+    requires { IsAscii word.now }
+    ensures some { IfSome result (λ out. (is_folded word.now ≡ true) × (out.items ≡ canonical_key (chars word.now))) }
+    ensures none { IfNone result (is_folded word.now ≡ false) }
+{
+    let mut out = ArrayVec::new();
+    'bytes: for byte in word {
+        if !push_last(&mut out, byte.to_ascii_lowercase() as char) {
+            return None;
+        }
+    }
+    Some(out)
+}
+
+/// A word as it is compared, where it is folded. Most are of ASCII, for which no table is asked.
 pub(crate) fn folded_word(word: &[u8]) -> Option<ArrayVec<char, ROOM>>
     ensures some { IfSome result (λ out. (is_folded word.now ≡ true) × (out.items ≡ canonical_key (chars word.now))) }
     ensures none { IfNone result (is_folded word.now ≡ false) }
 {
+    if word.is_ascii() {
+        return folded_ascii(word);
+    }
     let Ok(text) = from_utf8(word) else {
         return None;
     };

@@ -5,5 +5,7 @@ pub mod ExtentLemmas
 pub mod EndLemmas
 pub mod CutLemmas
 pub mod BracketLemmas
+pub mod BareLemmas
+pub mod BareTimeLemmas
 pub mod SaidLemmas
 pub mod SpanLemmas

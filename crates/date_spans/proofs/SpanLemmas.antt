@@ -24,6 +24,8 @@ use Rattle.date_spans.specs.Spans.{IsCivilSpan, IsInferred, IsPlainSpan, IsSpan,
 use Rattle.date_spans.specs.Spans.{is_date, is_dual, is_known, is_read, kept_of, marks, said, stands, unsaid}
 use Rattle.date_spans.specs.Brackets.{without_brackets}
 use Rattle.date_spans.specs.declared.sayings.Kind.TheVariants as kinds
+use Rattle.date_spans.proofs.BareLemmas.{no_brackets}
+use Rattle.date_spans.proofs.BareTimeLemmas.{no_brackets_before}
 use Rattle.date_spans.proofs.BracketLemmas.{left_bare, unbracketed}
 
 date_of : (d s r : Bool) → d ≡ false → (s || r) ≡ true → (not d && (s || r)) ≡ true
@@ -103,16 +105,17 @@ standing_date choice calendar names text h =
 
 pub dates_stay : DatesAreTheirOwnSpans
 dates_stay choice calendar names text first last found civil span h =
-    of_date choice calendar names text (unmarked text).0 first last found civil span h.bare
-    (dated_whole choice calendar names (unmarked text).0 (read_dated choice calendar names (unmarked text).0 h.reads))
+    let dated = read_dated choice calendar names (unmarked text).0 h.reads in
+    of_date choice calendar names text (unmarked text).0 first last found civil span
+    (no_brackets choice calendar names text dated) (dated_whole choice calendar names (unmarked text).0 dated)
     (read_date choice calendar names text h)
 
 pub register_dates_stay : RegisterDatesAreTheirOwnSpans
 register_dates_stay choice calendar names text first last found civil span h =
-    of_date choice calendar names text (unmarked text).0 first last found civil span h.bare
-    (dated_whole choice calendar names (unmarked text).0
-    (stands_dated choice calendar names (unmarked text).0
-    (some_is (unless_turned choice.order (three_runs (tokens 0 (unmarked text).0))) h.runs h.stands)))
+    let dated = stands_dated choice calendar names (unmarked text).0
+    (some_is (unless_turned choice.order (three_runs (tokens 0 (unmarked text).0))) h.runs h.stands) in
+    of_date choice calendar names text (unmarked text).0 first last found civil span
+    (no_brackets choice calendar names text dated) (dated_whole choice calendar names (unmarked text).0 dated)
     (standing_date choice calendar names text h)
 
 known_by : (a b c : Bool) → (b || c) ≡ true → ((a || b) || c) ≡ true
@@ -128,7 +131,8 @@ known_dated choice calendar names text h =
 
 pub times_change_no_span : TimesChangeNoSpan
 times_change_no_span choice calendar names text before first last found civil span h =
-    of_date choice calendar names text before first last found civil span h.bare
+    of_date choice calendar names text before first last found civil span
+    (no_brackets_before choice calendar names text before h.time h.dated)
     (dated_before choice calendar names (unmarked text).0 before h.midnight h.time h.plain h.undated h.dated)
     (date_of (is_dual choice calendar names before) false (is_known choice calendar names before) h.single
     (known_dated choice calendar names before h.dated))

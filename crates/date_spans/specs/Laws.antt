@@ -1,5 +1,5 @@
 -- What the first and the last date of a month and of a year have between them: all of its days, and no others.
-use Rattle.std.specs.Prelude.{◌≡◌, ◌↔◌, ◌≤◌, ℕ, ℤ, pos, ◌≤ℤ◌, true, false, List, Some, None}
+use Rattle.std.specs.Prelude.{◌≡◌, ◌↔◌, ◌≤◌, ℕ, ℤ, pos, ◌≤ℤ◌, true, false, List, Some}
 use Rattle.day_numbers.specs.Rules.{Rules, IsDateOf, day_number_of, days_of_month}
 use Rattle.day_numbers.specs.declared.ymd.Ymd.{Ymd}
 use Rattle.date_texts.specs.Calendars.{IsDateBy, day_number_by, reckoning}
@@ -103,15 +103,13 @@ SaidYearIsExact choice calendar said =
 abbrev pub SaidIsForwards : Choice → Calendar → Extent → Type 0
 SaidIsForwards choice calendar said = (n k : ℤ) → HasEnds choice calendar said n k → n ≤ℤ k
 
--- a text without brackets and a sign at its end that is read as a date today, and has no dual year
+-- but for a sign at its end, a text is read as a date today, and it has no dual year
 pub record IsReadToday (choice : Choice) (calendar : Calendar) (names : List Name) (text : List ℕ) : Type 0 where
-  pub bare : without_brackets text ≡ None
   pub reads : is_found (answer choice calendar names (unmarked text).0) ≡ true
   pub single : is_dual choice calendar names (unmarked text).0 ≡ false
 
 -- or stands as registers have it
 pub record StandsToday (choice : Choice) (calendar : Calendar) (names : List Name) (text : List ℕ) : Type 0 where
-  pub bare : without_brackets text ≡ None
   pub runs : List ℕ × List ℕ × List ℕ
   pub stands : unless_turned choice.order (three_runs (tokens 0 (unmarked text).0)) ≡ Some runs
   pub single : is_dual choice calendar names (unmarked text).0 ≡ false
@@ -134,9 +132,8 @@ RegisterDatesAreTheirOwnSpans =
     → form calendar ≡ Civil → IsSpan choice (Some calendar) names text first last found
     → StandsToday choice calendar names text → AreWrittenToday choice calendar names text first last
 
--- a text without brackets and a sign at its end is a date before a time of day, and none with it; days begin at midnight
+-- but for a sign at its end, a text is a date before a time of day, and none with it; days begin at midnight
 pub record HasTime (choice : Choice) (calendar : Calendar) (names : List Name) (text before : List ℕ) : Type 0 where
-  pub bare : without_brackets text ≡ None
   pub midnight : begins_at_midnight calendar ≡ true
   pub time : timeless (unmarked text).0 ≡ Some before
   pub plain : has_minus (tokens 0 (unmarked text).0) ≡ false

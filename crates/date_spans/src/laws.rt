@@ -49,7 +49,7 @@ pub fn said_spans_are_exact(choice: &Choice, calendar: Calendar, said: Number, m
 }
 
 /// What is read as a date today, or stands as registers have it, is its own first and last day, as it is written today,
-/// where it has no dual year and no brackets; and a time of day behind it changes nothing, nor do brackets but for the mark.
+/// where it has no dual year; and a time of day behind it changes nothing, nor do brackets but for the mark.
 pub fn dates_are_their_own_spans()
     ensures read { DatesAreTheirOwnSpans }
     ensures stands { RegisterDatesAreTheirOwnSpans }

@@ -9,3 +9,4 @@ pub mod BareLemmas
 pub mod BareTimeLemmas
 pub mod SaidLemmas
 pub mod SpanLemmas
+pub mod OneSpanLemmas

@@ -1,5 +1,5 @@
 -- What the first and the last date of a month and of a year have between them: all of its days, and no others.
-use Rattle.std.specs.Prelude.{◌≡◌, ◌↔◌, ◌≤◌, ℕ, ℤ, pos, ◌≤ℤ◌, true, false, List, Some}
+use Rattle.std.specs.Prelude.{◌≡◌, ◌↔◌, ◌≤◌, ℕ, ℤ, pos, ◌≤ℤ◌, true, false, List, Option, Some}
 use Rattle.day_numbers.specs.Rules.{Rules, IsDateOf, day_number_of, days_of_month}
 use Rattle.day_numbers.specs.declared.ymd.Ymd.{Ymd}
 use Rattle.date_texts.specs.Calendars.{IsDateBy, day_number_by, reckoning}
@@ -156,3 +156,10 @@ BracketsKeepSpans =
     → form calendar ≡ Civil → without_brackets text ≡ Some bare → IsSpan choice (Some calendar) names text first last found
     → is_read found.kind ≡ true
     → (plain : Marks) × IsSpan choice (Some calendar) names bare first last plain × (found ≡ inferred plain)
+
+-- a text has one first day and one last, and says one thing of them
+abbrev pub SpansAreOne : Type 0
+SpansAreOne =
+    (choice : Choice) (calendar : Option Calendar) (names : List Name) (text first last begin end : List ℕ)
+    (found marked : Marks) → IsSpan choice calendar names text first last found
+    → IsSpan choice calendar names text begin end marked → (first ≡ begin) × (last ≡ end) × (found ≡ marked)

@@ -5,12 +5,13 @@ ghost use Rattle.day_numbers.specs.Rules.{Rules};
 ghost use Rattle.date_texts.specs.Calendars.{by_rules, reckoning};
 ghost use Rattle.date_spans.specs.Laws.{LastDayIsGreatest, MonthIsExact, MonthIsForwards, YearIsExact, YearIsForwards};
 ghost use Rattle.date_spans.specs.Laws.{BracketsKeepSpans, DatesAreTheirOwnSpans, RegisterDatesAreTheirOwnSpans, TimesChangeNoSpan};
-ghost use Rattle.date_spans.specs.Laws.{SaidIsForwards, SaidMonthIsExact, SaidYearIsExact};
+ghost use Rattle.date_spans.specs.Laws.{SaidIsForwards, SaidMonthIsExact, SaidYearIsExact, SpansAreOne};
 
 use crate::ends::year_of;
 use crate::extents::Extent;
 use crate::months::months_of;
 use date_texts::Calendar;
+use date_texts::laws::one_cell;
 use written_dates::{Choice, Number};
 
 /// The first and the last day of a month have all of its days between them, and no others; the last one is the greatest
@@ -56,3 +57,11 @@ pub fn dates_are_their_own_spans()
     ensures times { TimesChangeNoSpan }
     ensures brackets { BracketsKeepSpans }
 {}
+
+/// A text has one first day and one last, and says one thing of them.
+#[tactic(auto, using(crate::proofs::OneSpanLemmas::spans_are_one))]
+pub fn texts_have_one_span()
+    ensures one { SpansAreOne }
+{
+    one_cell();
+}

@@ -24,7 +24,7 @@ use Rattle.written_dates.proofs.FieldLemmas.{spelled}
 use Rattle.written_dates.proofs.KindLemmas.{picked}
 use Rattle.written_dates.proofs.TokenLemmas.{same_kind}
 use Rattle.date_spans.specs.Brackets.{is_bracket, without_brackets}
-use Rattle.date_spans.specs.Cuts.{end_sign, ends_in_parentheses, ends_open, is_about_sign, is_uncertain_sign}
+use Rattle.date_spans.specs.Cuts.{end_sign, ends_in_parentheses, is_about_sign, is_uncertain_sign, leaves_sign}
 use Rattle.date_spans.specs.Cuts.{last_byte, unmarked, unmarked_by}
 use Rattle.date_spans.proofs.BracketLemmas.{unbracketed}
 
@@ -254,10 +254,10 @@ unsigned_by text false x y size h k = k
 unsigned : (text : List ℕ) → IsBare (unmarked_by text).0 → IsBare text
 unsigned text h =
     unsigned_by text (is_end_sign (end_sign text).0
-    && not (ends_open false (tokens 0 (take (length text - (end_sign text).1) text)))) _ _ (end_sign text).1
+    && not (leaves_sign (end_sign text).0 (end_sign text).1 (take (length text - (end_sign text).1) text))) _ _ (end_sign text).1
     (λ e. sign_by text (ends_in_parentheses text) refl
     (and_parts (is_end_sign (end_sign text).0)
-    (not (ends_open false (tokens 0 (take (length text - (end_sign text).1) text)))) e).0) h
+    (not (leaves_sign (end_sign text).0 (end_sign text).1 (take (length text - (end_sign text).1) text))) e).0) h
 
 pub unmarked_is_bare : (text : List ℕ) → IsBare (unmarked text).0 → IsBare text
 unfolding unmarked

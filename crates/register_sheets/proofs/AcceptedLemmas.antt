@@ -26,10 +26,11 @@ use Rattle.written_dates.specs.declared.fields.CalendarMeaning.TheVariants.{One}
 use Rattle.written_dates.specs.declared.fields.CalendarNames.{CalendarNames}
 use Rattle.written_dates.specs.declared.meanings.Name.{Name}
 use Rattle.written_dates.specs.declared.written.Choice.{Choice}
-use Rattle.register_sheets.specs.Choices.{asked_targets, calendar_called, calendar_text, is_name, meaning_for, meaning_in}
-use Rattle.register_sheets.specs.Choices.{meant_in, or_meant}
+use Rattle.register_sheets.specs.Choices.{asked_targets, calendar_called, calendar_for, calendar_text, date_text, is_name, meaning_for}
+use Rattle.register_sheets.specs.Choices.{meaning_in, meant_in, or_meant, own_in}
 use Rattle.register_sheets.specs.DateEnds.{DatedEnd}
 use Rattle.register_sheets.specs.DateStops.{IsStopBy, IsStopIn}
+use Rattle.register_sheets.specs.OwnCalendars.{OwnDate, or_calendar, or_meaning}
 use Rattle.register_sheets.specs.DateViews.{HasDate, end_entry}
 use Rattle.register_sheets.specs.declared.choices.CalendarField.{CalendarField}
 use Rattle.register_sheets.specs.declared.choices.CalendarField.TheVariants as calendar
@@ -107,6 +108,11 @@ so_named names (calendar.Column column) fields =
     (meant_in names column.otherwise (get_or fields column.place []))
     (calendar_called (get_or fields column.place [])) refl
 
+own_named : (text : List ℕ) (meant : Option CalendarMeaning) (own : Option OwnDate) → IsSoNamed text meant
+    → IsSoNamed (or_calendar text own) (or_meaning meant own)
+own_named text meant None named = named
+own_named text meant (Some own) named = named_itself own.1
+
 -- a date that its row has accepted stays no text that says none
 no_stop : (reading : Choice) (c : Calendar) (names : List Name) (field text : List ℕ) → is_utf8 text ≡ true
     → (date : Date) → IsDateText c text date → IsStopIn reading c names field text None
@@ -123,7 +129,7 @@ for_meaning : (one : OneCalendar) (choice : SheetChoice) (column : DateColumn) (
 for_meaning one choice column fields None calendar text c date named utf8 says some = absurd (cc)
 for_meaning one choice column fields (Some meaning) calendar text c date named utf8 says some =
     let same : c ≡ calendar_of meaning = one calendar c (calendar_of meaning) says.named named in
-    no_stop choice.reading (calendar_of meaning) choice.names.now.listed.now (get_or fields column.date []) text utf8 date
+    no_stop choice.reading (calendar_of meaning) choice.names.now.listed.now (date_text choice column fields) text utf8 date
     (subst (λ (x : Calendar). IsDateText x text date) same says.dated)
 
 and_third : (a b c d : Bool) → (((a && b) && c) && d) ≡ true → c ≡ true
@@ -135,7 +141,7 @@ and_third false b false d e = absurd (cc)
 -- the date of a record whose first row was accepted
 pub accepted_date : (one : OneCalendar) (choice : SheetChoice) (column : DateColumn) (number : ℕ) (fields : Fields)
     (id calendar : List ℕ) (meant : Option CalendarMeaning) (end : DatedEnd)
-    → calendar ≡ calendar_text choice.calendars.now column.calendar fields → meant ≡ meaning_for choice column fields
+    → calendar ≡ calendar_for choice column fields → meant ≡ meaning_for choice column fields
     → IsRowOf (asked_targets choice.columns.now) (end_entry number id calendar end) end.row → HasDate end
     → IsSome (option_map calendar_of meant)
     → IsStopBy choice column fields end.text (option_map calendar_of meant) None
@@ -143,8 +149,10 @@ accepted_date one choice column number fields id calendar meant end is_calendar 
     let t : Texts = record { id = id; calendar = calendar; date = end.text; note = [] } in
     let named : IsSoNamed calendar meant
     = subst (λ (text : List ℕ). IsSoNamed text meant) (sym is_calendar)
-    (subst (λ (m : Option CalendarMeaning). IsSoNamed (calendar_text choice.calendars.now column.calendar fields) m)
-    (sym is_meant) (so_named choice.calendars.now column.calendar fields)) in
+    (subst (λ (m : Option CalendarMeaning). IsSoNamed (calendar_for choice column fields) m) (sym is_meant)
+    (own_named (calendar_text choice.calendars.now column.calendar fields)
+    (meaning_in choice.calendars.now column.calendar fields) (own_in choice column fields)
+    (so_named choice.calendars.now column.calendar fields))) in
     let (utf8, said) = body_ok (are_short t) (are_utf8 t) t end.row.outcome
     (rw (has.calendar, has.short) at row.outcome) has.accepted in
     let (c, date, says) = said in

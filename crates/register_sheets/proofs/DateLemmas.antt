@@ -13,7 +13,7 @@ use Rattle.register_records.specs.Outcomes.{IsRowOf}
 use Rattle.written_dates.specs.Fields.{calendar_of}
 use Rattle.written_dates.specs.declared.fields.CalendarMeaning.{CalendarMeaning}
 use Rattle.register_sheets.specs.CalendarChanges.{EndText}
-use Rattle.register_sheets.specs.Choices.{asked_targets, calendar_text, called_for, id_text, meaning_for}
+use Rattle.register_sheets.specs.Choices.{asked_targets, calendar_for, called_for, date_text, id_text, meaning_for}
 use Rattle.register_sheets.specs.DateEnds.{AreEndsIn, Dated, DatedEnd, IsEdtfIf, IsEdtfOf, as_text}
 use Rattle.register_sheets.specs.DateEnds.{is_failed, is_open, sense_of, telling}
 use Rattle.register_sheets.specs.DateCounts.{is_one_day}
@@ -64,9 +64,9 @@ entry_as choice number id other calendar named end same i n e h =
 -- the calendar and both ends, then the rows, then the stop, and then the text of EDTF
 pub date_is_read : (choice : SheetChoice) (column : DateColumn) (number : ℕ) (fields : Fields) (id : List ℕ)
     (meant : Option CalendarMeaning) (stop : Option DateStop) (mid rows new : ColumnDates)
-    → mid.calendar.items ≡ calendar_text choice.calendars.now column.calendar fields
+    → mid.calendar.items ≡ calendar_for choice column fields
     → meant ≡ meaning_for choice column fields → id ≡ id_text choice.id number fields
-    → AreEndsIn meant choice.spans choice.reading choice.names.now.listed.now (get_or fields column.date [])
+    → AreEndsIn meant choice.spans choice.reading choice.names.now.listed.now (date_text choice column fields)
     (as_text (dated_seen mid).first) (as_text (dated_seen mid).last) mid.marks
     → HasRows choice number id mid rows
     → IsStopBy choice column fields (dated_seen rows).first.text (option_map calendar_of meant) stop
@@ -76,7 +76,7 @@ pub date_is_read : (choice : SheetChoice) (column : DateColumn) (number : ℕ) (
     → IsDateRead choice number fields column (date_seen new)
 date_is_read choice column number fields id meant stop mid rows new named is_meant is_id ends h stops stopped calendar first
     last marks edtf =
-    let field = get_or fields column.date [] in
+    let field = date_text choice column fields in
     let names = choice.names.now.listed.now in
     let meaning = meaning_for choice column fields in
     let first_text : as_text (dated_seen mid).first ≡ as_text (dated_seen new).first

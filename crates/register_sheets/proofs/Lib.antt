@@ -13,6 +13,7 @@ pub mod SendingLemmas
 pub mod NameLemmas
 pub mod CountLemmas
 pub mod RowLemmas
+pub mod OwnCalendarLemmas
 pub mod DateLemmas
 pub mod AcceptedLemmas
 pub mod WidthLemmas

@@ -17,6 +17,7 @@ use Rattle.written_dates.specs.declared.fields.CalendarMeaning.{CalendarMeaning}
 use Rattle.written_dates.specs.declared.fields.CalendarMeaning.TheVariants.{One}
 use Rattle.written_dates.specs.declared.fields.CalendarNames.{CalendarNames}
 use Rattle.register_sheets.specs.CalendarChanges.{EndText, end_calendar, row_calendar, row_text}
+use Rattle.register_sheets.specs.OwnCalendars.{OwnDate, has_styles, or_calendar, or_date, or_meaning, own_date}
 use Rattle.register_sheets.specs.declared.choices.AskedColumn.{AskedColumn}
 use Rattle.register_sheets.specs.declared.choices.AskedColumn.TheVariants.{Cells, Church, DayNumber, Weekday}
 use Rattle.register_sheets.specs.declared.choices.CalendarField.{CalendarField}
@@ -90,7 +91,7 @@ abbrev pub meant_in : CalendarNames → Option CalendarMeaning → List ℕ → 
 meant_in names otherwise field =
     or_meant (calendar_meant (entries names) field) (if_empty otherwise (without_blanks field))
 
--- the calendar of a record as its register has it: one for all, or by a field
+-- the calendar of a record: one for all, or by a field
 abbrev pub calendar_text : CalendarNames → CalendarField → Fields → List ℕ
 calendar_text names (calendar.All meaning) fields = calendar_name (calendar_of meaning)
 calendar_text names (calendar.Column column) fields =
@@ -113,8 +114,27 @@ meaning_in names (calendar.Column column) fields =
     or_meant (meant_in names column.otherwise (get_or fields column.place []))
     (one_called (get_or fields column.place []))
 
+-- what a field of a date says that names its calendar itself, where this is meant for its record
+abbrev pub own_by : SheetChoice → Option CalendarMeaning → List ℕ → Option OwnDate
+own_by choice meaning field =
+    if has_styles meaning then own_date choice.calendars.now choice.names.now.listed.now field else None
+
+abbrev pub own_in : SheetChoice → DateColumn → Fields → Option OwnDate
+own_in choice column fields =
+    own_by choice (meaning_in choice.calendars.now column.calendar fields) (get_or fields column.date [])
+
+-- the text of a record's date, its calendar as the register has it, and what is meant for it: as the date says itself, or
+-- else as its record does
+abbrev pub date_text : SheetChoice → DateColumn → Fields → List ℕ
+date_text choice column fields = or_date (get_or fields column.date []) (own_in choice column fields)
+
+abbrev pub calendar_for : SheetChoice → DateColumn → Fields → List ℕ
+calendar_for choice column fields =
+    or_calendar (calendar_text choice.calendars.now column.calendar fields) (own_in choice column fields)
+
 abbrev pub meaning_for : SheetChoice → DateColumn → Fields → Option CalendarMeaning
-meaning_for choice column fields = meaning_in choice.calendars.now column.calendar fields
+meaning_for choice column fields =
+    or_meaning (meaning_in choice.calendars.now column.calendar fields) (own_in choice column fields)
 
 -- the calendar of a record's date, where one is meant
 abbrev pub called_for : SheetChoice → DateColumn → Fields → Option Calendar
@@ -124,14 +144,14 @@ called_for choice column fields = option_map calendar_of (meaning_for choice col
 abbrev pub register_record : SheetChoice → DateColumn → ℕ → Fields → EndText → Fields
 register_record choice column number fields end =
     id_text choice.id number fields
-    ∷ end_calendar end.calendar (calendar_text choice.calendars.now column.calendar fields) ∷ end.text ∷ []
+    ∷ end_calendar end.calendar (calendar_for choice column fields) ∷ end.text ∷ []
 
 -- the entry whose row this end has
 abbrev pub row_entry : SheetChoice → DateColumn → ℕ → Fields → EndText → Numbered
 row_entry choice column number fields end = record {
   number = number;
   body = body_of Plain (id_text choice.id number fields
-      ∷ row_calendar end.calendar (calendar_text choice.calendars.now column.calendar fields)
+      ∷ row_calendar end.calendar (calendar_for choice column fields)
       ∷ row_text end.calendar end.text ∷ []);
 }
 

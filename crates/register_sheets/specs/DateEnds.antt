@@ -19,7 +19,7 @@ use Rattle.date_texts.specs.declared.calendar.Calendar.TheVariants.{Gregorian, J
 use Rattle.written_dates.specs.declared.fields.CalendarMeaning.{CalendarMeaning}
 use Rattle.written_dates.specs.declared.fields.CalendarMeaning.TheVariants.{One, Both, Changed}
 use Rattle.register_sheets.specs.CalendarChanges.{EndText, IsAtChange}
-use Rattle.register_sheets.specs.Choices.{asked_targets, meaning_for, row_entry}
+use Rattle.register_sheets.specs.Choices.{asked_targets, date_text, meaning_for, row_entry}
 use Rattle.register_sheets.specs.declared.calendar_changes.EndCalendar.{EndCalendar}
 use Rattle.register_sheets.specs.declared.calendar_changes.EndCalendar.TheVariants.{OfRecord, OldStyle, Neither}
 use Rattle.register_sheets.specs.declared.choices.DateColumn.{DateColumn}
@@ -83,7 +83,7 @@ AreEndsIn (Some (Changed from)) kind reading names field first last found =
 abbrev pub AreEnds : SheetChoice → DateColumn → Fields → EndText → EndText → Marks → Type 0
 AreEnds choice column fields first last found =
     AreEndsIn (meaning_for choice column fields) choice.spans choice.reading choice.names.now.listed.now
-    (get_or fields column.date []) first last found
+    (date_text choice column fields) first last found
 
 -- one of them
 abbrev pub one_end : End → EndText → EndText → EndText

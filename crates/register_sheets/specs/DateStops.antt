@@ -19,7 +19,7 @@ use Rattle.written_dates.specs.declared.stops.Stop.TheVariants as stops
 use Rattle.written_dates.specs.declared.written.Choice.{Choice}
 use Rattle.date_spans.specs.declared.spans.Marks.{Marks}
 use Rattle.register_sheets.specs.CalendarChanges.{EndText}
-use Rattle.register_sheets.specs.Choices.{called_for}
+use Rattle.register_sheets.specs.Choices.{called_for, date_text}
 use Rattle.register_sheets.specs.DateEnds.{AreEnds}
 use Rattle.register_sheets.specs.declared.choices.CalendarField.{CalendarField}
 use Rattle.register_sheets.specs.declared.choices.CalendarField.TheVariants as calendar
@@ -119,10 +119,10 @@ unless_empty (byte ∷ text) stop = Some stop
 -- field stops nothing
 abbrev pub IsStopBy : SheetChoice → DateColumn → Fields → List ℕ → Option Calendar → Option DateStop → Type 0
 IsStopBy choice column fields date None found =
-    found ≡ unless_empty (without_blanks (get_or fields column.date []))
+    found ≡ unless_empty (without_blanks (date_text choice column fields))
     (calendar_stop (without_blanks (calendar_field column.calendar fields)))
 IsStopBy choice column fields date (Some calendar) found =
-    IsStopIn choice.reading calendar choice.names.now.listed.now (get_or fields column.date []) date found
+    IsStopIn choice.reading calendar choice.names.now.listed.now (date_text choice column fields) date found
 
 -- a date of a sheet: its column and its record
 abbrev pub SheetDate : Type 0

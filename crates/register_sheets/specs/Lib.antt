@@ -4,6 +4,8 @@ pub mod LineViews
 pub mod NameMeanings
 pub mod NameLists
 pub mod CalendarChanges
+pub mod OwnCalendars
+pub mod OwnViews
 pub mod Choices
 pub mod ChurchNames
 pub mod ChoiceViews

@@ -6,7 +6,7 @@ use Rattle.std.specs.List.{AllZip}
 use Rattle.csv.specs.Records.{fields_of}
 use Rattle.register_records.specs.Entries.{Fields}
 use Rattle.register_records.specs.Views.{row_seen}
-use Rattle.register_sheets.specs.Choices.{calendar_text, called_for}
+use Rattle.register_sheets.specs.Choices.{calendar_for, called_for}
 use Rattle.register_sheets.specs.DateEnds.{Dated, DatedEnd, IsDated}
 use Rattle.register_sheets.specs.DateStops.{DateStop, IsStopBy}
 use Rattle.register_sheets.specs.declared.choices.DateColumn.{DateColumn}
@@ -34,7 +34,7 @@ pub record RecordRead : Type 0 where
 -- this is what is to be read for a date
 pub record IsDateRead (choice : SheetChoice) (number : ℕ) (fields : Fields) (column : DateColumn) (date : DateRead)
     : Type 0 where
-  pub calendar : date.calendar ≡ calendar_text choice.calendars.now column.calendar fields
+  pub calendar : date.calendar ≡ calendar_for choice column fields
   pub stop : IsStopBy choice column fields date.dated.first.text (called_for choice column fields) date.stop
   pub dated : IsDated choice number fields column date.dated
 

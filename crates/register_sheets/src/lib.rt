@@ -21,6 +21,7 @@ mod name_lists;
 mod name_meanings;
 mod new_headings;
 mod no_outputs;
+mod own_calendars;
 mod own_fields;
 mod reading;
 mod reasons;

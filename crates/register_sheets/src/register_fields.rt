@@ -3,17 +3,28 @@
 ghost use Rattle.std.specs.Prelude.{◌≡◌, ℕ, option_map};
 ghost use Rattle.csv.specs.Records.{fields_of};
 ghost use Rattle.written_dates.specs.Fields.{calendar_of as meant_of, without_blanks as without_spec};
-ghost use Rattle.register_sheets.specs.Choices.{calendar_called as called_spec, calendar_text, id_text};
+ghost use Rattle.register_sheets.specs.Choices.{calendar_called as called_spec, calendar_for, calendar_text, date_text};
+ghost use Rattle.register_sheets.specs.Choices.{id_text, meaning_for, own_by as own_spec};
 ghost use Rattle.register_sheets.specs.Choices.{if_empty as empty_spec, meaning_in, meant_in as in_spec};
 ghost use Rattle.register_sheets.specs.Choices.{one_called as one_spec};
+ghost use Rattle.register_sheets.specs.OwnViews.{own_seen};
 ghost use Rattle.std.specs.Fmt.{decimal};
 
-use crate::choices::{CalendarField, IdField};
+use crate::choices::{CalendarField, DateColumn, IdField, SheetChoice};
+use crate::own_calendars::{OwnDate, has_styles, own_date};
 use crate::reading::field_at;
 use csv::ByteRecord;
 use date_texts::{Calendar, calendar_named};
 use std::str;
 use written_dates::{CalendarMeaning, CalendarNames, without_blanks};
+
+/// The date of a record: its calendar as the register has it, what is meant for it, and its text.
+#[derive(Clone, Copy)]
+pub(crate) struct SaidDate<'a> {
+    pub calendar: &'a [u8],
+    pub meant: Option<CalendarMeaning>,
+    pub text: &'a [u8],
+}
 
 /// The calendar that a text of a register names.
 pub(crate) fn calendar_called(text: &[u8]) -> Option<Calendar>
@@ -59,8 +70,8 @@ fn one_called(field: &[u8]) -> Option<CalendarMeaning>
     }
 }
 
-/// The calendar of a record as its register has it, and what is meant for its date.
-pub(crate) fn calendar_of<'a>(
+/// The calendar of a record, and what is meant for its dates.
+fn calendar_of<'a>(
     names: &CalendarNames,
     place: CalendarField,
     record: &'a ByteRecord,
@@ -77,6 +88,47 @@ pub(crate) fn calendar_of<'a>(
                 None => (field, one_called(field)),
             }
         }
+    }
+}
+
+/// What a field says whose text names its calendar itself, where this is meant for its record.
+fn own_by<'a>(
+    choice: &SheetChoice,
+    meaning: Option<CalendarMeaning>,
+    field: &'a [u8],
+) -> Option<OwnDate<'a>>
+    ensures { option_map own_seen result ≡ own_spec choice.now meaning field.now }
+{
+    if has_styles(meaning) {
+        own_date(choice.calendars, choice.names, field)
+    } else {
+        None
+    }
+}
+
+/// The date of a record in a column.
+pub(crate) fn date_said<'a>(
+    choice: &SheetChoice,
+    column: &DateColumn,
+    record: &'a ByteRecord,
+) -> SaidDate<'a>
+    ensures calendar { result.calendar.now ≡ calendar_for choice.now column.now (fields_of record.now) }
+    ensures meant { result.meant ≡ meaning_for choice.now column.now (fields_of record.now) }
+    ensures text { result.text.now ≡ date_text choice.now column.now (fields_of record.now) }
+{
+    let (calendar, meant) = calendar_of(choice.calendars, column.calendar, record);
+    let text = field_at(record, column.date as usize);
+    match own_by(choice, meant, text) {
+        Some(own) => SaidDate {
+            calendar: own.calendar.name().as_bytes(),
+            meant: Some(CalendarMeaning::One(own.calendar)),
+            text: own.date,
+        },
+        None => SaidDate {
+            calendar,
+            meant,
+            text,
+        },
     }
 }
 

@@ -6,7 +6,7 @@ ghost use Rattle.register_records.specs.Entries.{record_limit};
 ghost use Rattle.register_records.specs.Outcomes.{IsRowOf};
 ghost use Rattle.register_records.specs.Seen.{outcome_seen};
 ghost use Rattle.register_records.specs.Views.{row_seen};
-ghost use Rattle.register_sheets.specs.Choices.{asked_targets};
+ghost use Rattle.register_sheets.specs.Choices.{asked_targets, date_text};
 ghost use Rattle.register_sheets.specs.DateCounts.{is_one_day as one_day_spec};
 ghost use Rattle.register_sheets.specs.DateEnds.{AreAtChange, AreEndsBy, AreEndsIn, AreOfRecord, IsEdtfOf, as_text};
 ghost use Rattle.register_sheets.specs.DateEnds.{asks_edtf as asks_spec, has_edtf as has_spec, is_failed, is_open, one_end};
@@ -21,9 +21,8 @@ ghost use Rattle.register_sheets.specs.UnknownViews.{if_stop};
 use crate::calendar_changes::{EndCalendar, MAX_DATE, at_change};
 use crate::choices::{DateColumn, End, SheetChoice, SheetSetup, Spans};
 use crate::end_texts::{DAY_MARKS, EndTexts, write_ends};
-use crate::reading::field_at;
 use crate::reasons::Reason;
-use crate::register_fields::{calendar_of, called_by, id_of};
+use crate::register_fields::{called_by, date_said, id_of};
 use crate::stops::{DateStop, NameStop, stop_by};
 use csv::ByteRecord;
 use date_spans::{Kind, Marks, write_in_both};
@@ -242,22 +241,24 @@ fn sense_of(marks: Marks) -> Sense
     }
 }
 
-/// What stops the date of a record in a column, by the end that is written for it: nothing where its row was accepted.
+/// What stops the date of a record in a column, by its text and the end that is written for it: nothing where its row was accepted.
 fn stop_beside<'a>(
     choice: &SheetChoice,
     column: &DateColumn,
     called: Option<Calendar>,
     record: &'a ByteRecord,
+    text: &'a [u8],
     end: &ReadEnd,
 ) -> Option<DateStop<'a>>
-    requires { HasDate (end_seen end.now) → IsSome called
+    requires text { text.now ≡ date_text choice.now column.now (fields_of record.now) }
+    requires stop { HasDate (end_seen end.now) → IsSome called
         → IsStopBy choice.now column.now (fields_of record.now) end.now.text.items called None }
     ensures { IsStopBy choice.now column.now (fields_of record.now) end.now.text.items called (if_stop result) }
 {
     if end.has_date() && called.is_some() {
         None
     } else {
-        stop_by(choice, column, called, record, end.text.as_slice())
+        stop_by(choice, column, called, record, text, end.text.as_slice())
     }
 }
 
@@ -460,15 +461,14 @@ impl ColumnDates {
             (IsDateRead setup.now.choice number (fields_of fields.now) column.now (date_seen self.new)) }
     {
         let choice = &setup.choice;
-        let (calendar, meant) = calendar_of(choice.calendars, column.calendar, fields);
-        copy_text(&mut self.calendar, calendar)?;
-        let field = field_at(fields, column.date as usize);
-        self.put_ends(choice, meant, field)?;
+        let said = date_said(choice, column, fields);
+        copy_text(&mut self.calendar, said.calendar)?;
+        self.put_ends(choice, said.meant, said.text)?;
         let mut buffer = Buffer::new();
         let id = id_of(choice.id, buffer.format(number).as_bytes(), fields);
         self.convert(setup, number, id);
         one_calendar();
-        let stop = stop_beside(choice, column, called_by(meant), fields, &self.first);
+        let stop = stop_beside(choice, column, called_by(said.meant), fields, said.text, &self.first);
         self.stop.renew(stop)?;
         self.put_edtf(choice.spans)
     }

@@ -3,6 +3,7 @@
 ghost use Rattle.std.specs.Prelude.{◌≡◌, ◌≢◌, ◌↔◌, [], true};
 ghost use Rattle.csv.specs.Records.{fields_of};
 ghost use Rattle.written_dates.specs.Fields.{without_blanks as without_spec};
+ghost use Rattle.register_sheets.specs.Choices.{date_text};
 ghost use Rattle.register_sheets.specs.DateStops.{IsNoDate, IsStopBy, IsStopIn, StaysWritten, calendar_field};
 ghost use Rattle.register_sheets.specs.DateStops.{calendar_stop as calendar_spec, text_stop as text_spec};
 ghost use Rattle.register_sheets.specs.DateStops.{has_year_last as last_spec, in_order, is_read, text_reason as reason_spec};
@@ -170,21 +171,22 @@ fn calendar_stop(column: CalendarField, record: &ByteRecord) -> DateStop<'_>
     })
 }
 
-/// What stops the date of a record in a column: its calendar is the one called, and this is written for it, or for its
-/// first day.
+/// What stops the date of a record in a column: this is its text, its calendar is the one called, and this is written for
+/// it, or for its first day.
 pub(crate) fn stop_by<'a>(
     choice: &SheetChoice,
     column: &DateColumn,
     called: Option<Calendar>,
     record: &'a ByteRecord,
+    text: &'a [u8],
     date: &[u8],
 ) -> Option<DateStop<'a>>
+    requires { text.now ≡ date_text choice.now column.now (fields_of record.now) }
     ensures { IsStopBy choice.now column.now (fields_of record.now) date.now called (if_stop result) }
 {
-    let field = field_at(record, column.date as usize);
     match called {
-        Some(calendar) => stop_in(field, date, calendar, choice.names, &choice.reading),
-        None if without_blanks(field).is_empty() => None,
+        Some(calendar) => stop_in(text, date, calendar, choice.names, &choice.reading),
+        None if without_blanks(text).is_empty() => None,
         None => Some(calendar_stop(column.calendar, record)),
     }
 }

@@ -3,7 +3,7 @@ use Rattle.std.specs.Prelude.{IsSome, None}
 use Rattle.std.proofs.lemmas.Result.{on_ok_weaker}
 use Rattle.csv.specs.Records.{fields_of}
 use Rattle.date_texts.specs.declared.calendar.Calendar.{Calendar}
-use Rattle.register_sheets.specs.Choices.{calendar_text, id_text}
+use Rattle.register_sheets.specs.Choices.{calendar_for, id_text}
 use Rattle.register_sheets.specs.DateEnds.{AreEndsIn, as_text}
 use Rattle.register_sheets.specs.DateStops.{IsStopBy}
 use Rattle.register_sheets.specs.SheetRecords.{dated_seen, stop_read}
@@ -12,19 +12,19 @@ use Rattle.register_sheets.proofs.AcceptedLemmas.{accepted_date}
 use Rattle.register_sheets.proofs.DateLemmas.{date_is_read}
 use Rattle.register_sheets.proofs.sheet_records.ColumnDates.renew.Goals as goal
 
-pub stop_beside-stop-requires : goal.stop_beside-stop-requires
-stop_beside-stop-requires c has some =
+pub stop_beside-stop-requires-clause-stop : goal.stop_beside-stop-requires
+stop_beside-stop-requires-clause-stop c has some =
     let choice = c.args.setup.now.choice in
     let column = c.args.column.now in
     let fields = fields_of c.args.fields.now in
-    let meant = c.calendar_of-meant.result.1 in
+    let meant = c.date_said-said.result.meant in
     let rows = c.convert.ensures.rows in
     let end = (dated_seen c.convert.new.self).first in
-    let named : c.put_ends.new.self.calendar.items ≡ calendar_text choice.calendars.now column.calendar fields
+    let named : c.put_ends.new.self.calendar.items ≡ calendar_for choice column fields
     = search rules in
     subst (λ (called : Option Calendar). IsStopBy choice column fields end.text called None) (sym c.called_by.ensures)
     (accepted_date c.one_calendar.ensures choice column c.args.number fields c.id_of-id.result.now
-    c.put_ends.new.self.calendar.items meant end named c.calendar_of-meant.ensures.meant rows.first has
+    c.put_ends.new.self.calendar.items meant end named c.date_said-said.ensures.meant rows.first has
     (rw c.called_by.ensures at some))
 
 pub returns : goal.returns
@@ -32,20 +32,20 @@ returns c =
     let choice = c.args.setup.now.choice in
     let column = c.args.column.now in
     let fields = fields_of c.args.fields.now in
-    let meant = c.calendar_of-meant.result.1 in
+    let meant = c.date_said-said.result.meant in
     let put = c.put_ends.new.self in
     let rows = c.convert.new.self in
     let id : c.id_of-id.result.now ≡ id_text choice.id c.args.number fields = search rules in
-    let named : put.calendar.items ≡ calendar_text choice.calendars.now column.calendar fields = search rules in
+    let named : put.calendar.items ≡ calendar_for choice column fields = search rules in
     let ends = subst (λ (field : List ℕ). AreEndsIn meant choice.spans choice.reading choice.names.now.listed.now field
-    (as_text (dated_seen put).first) (as_text (dated_seen put).last) put.marks) c.field_at-field.ensures
+    (as_text (dated_seen put).first) (as_text (dated_seen put).last) put.marks) c.date_said-said.ensures.text
     c.in_ok-put_ends.ensures.ends in
     let stops = subst (λ (called : Option Calendar). IsStopBy choice column fields (dated_seen rows).first.text called
     (if_stop c.stop_beside-stop.result)) c.called_by.ensures c.stop_beside-stop.ensures in
     let last = c.put_edtf.ensures in
     on_ok_weaker c.put_edtf.result
     (λ edtf. date_is_read choice column c.args.number fields c.id_of-id.result.now meant
-    (if_stop c.stop_beside-stop.result) put rows c.put_edtf.new.self named c.calendar_of-meant.ensures.meant id ends
+    (if_stop c.stop_beside-stop.result) put rows c.put_edtf.new.self named c.date_said-said.ensures.meant id ends
     c.convert.ensures.rows stops (ap stop_read last.stop ∙ c.in_ok-renew.ensures) last.calendar last.first last.last
     last.marks edtf)
     last.edtf

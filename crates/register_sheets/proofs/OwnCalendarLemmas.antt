@@ -1,0 +1,29 @@
+-- The first end of a text that names a style.
+use Rattle.std.proofs.Common.{◌≡◌, ◌≤◌, ◌<◌, ◌-◌, ◌∙◌, ℕ, List, [], ◌∷◌, None, Option, Some, ap, arith, drop, length}
+use Rattle.std.proofs.Common.{refl, sym, take}
+use Rattle.std.proofs.Math.Seq.{take-length}
+use Rattle.date_texts.specs.declared.calendar.Calendar.{Calendar}
+use Rattle.written_dates.specs.declared.fields.CalendarNames.{CalendarNames}
+use Rattle.written_dates.specs.declared.meanings.Name.{Name}
+use Rattle.register_sheets.specs.OwnCalendars.{first_style, style_named}
+
+pub found_here : (calendars : CalendarNames) (names : List Name) (text : List ℕ) (style : Calendar) → 1 ≤ length text
+    → style_named calendars names text ≡ Some style → first_style calendars names text ≡ Some (length text, style)
+unfolding first_style
+found_here calendars names [] style some is = absurd (omega arith)
+found_here calendars names (byte ∷ text) style some is = rw is refl
+
+pub found_behind : (calendars : CalendarNames) (names : List Name) (text : List ℕ) → 1 ≤ length text
+    → style_named calendars names text ≡ None
+    → first_style calendars names text ≡ first_style calendars names (take (length text - 1) (drop 1 text))
+unfolding first_style
+found_behind calendars names [] some is = absurd (omega arith)
+found_behind calendars names (byte ∷ text) some is =
+    let same : length (byte ∷ text) - 1 ≡ length text = omega arith in
+    rw is (ap (first_style calendars names) (sym (ap (λ n. take n text) same ∙ take-length text)))
+
+pub none_found : (calendars : CalendarNames) (names : List Name) (text : List ℕ) → length text < 1
+    → first_style calendars names text ≡ None
+unfolding first_style
+none_found calendars names [] few = refl
+none_found calendars names (byte ∷ text) few = absurd (omega arith)

@@ -1,6 +1,6 @@
 // The names of a list, with what they mean: a text of CSV without quotes, as names.csv is.
 "use strict";
-const { folded, partsOf } = require("./reading.cjs");
+const { bareOf, folded, itemsOf, partsOf } = require("./reading.cjs");
 
 const RELATIONS = "after|before|eve|morrow|octave", SEASONS = "epiphany|lent|easter|pentecost|trinity|advent";
 
@@ -39,7 +39,7 @@ function listOf(rows, calendars) {
   const names = [], fields = [], byCalendar = new Map(calendars.map(it => [it, new Map()]));
   for (const [text, means, where] of rows) {
     if (calendars.includes(means) || means === "both") {
-      fields.push({ text, calendar: means === "both" ? "gregorian" : means });
+      fields.push({ text, calendar: means === "both" ? "gregorian" : means, isBoth: means === "both" });
       continue;
     }
     const held = new Set(where === "" ? calendars : where.split(" "));
@@ -54,6 +54,33 @@ function listOf(rows, calendars) {
   return { names, fields, byCalendar, text: ["name,means,in", ...rows.map(row => row.join(","))].join("\n") };
 }
 
+const STYLES = ["gregorian", "julian"], MOST_BYTES = 64;
+
+// What a field of a calendar means by the names of a list: the first name that it is.
+const nameOf = (field, { fields }) => fields.find(it => folded(bareOf(it.text)) === folded(bareOf(field)));
+
+// The style that an end of a text names: a blank, and a name without digits that says nothing in dates.
+function styleNamed(end, list) {
+  if (!/^[ \t\r\n\u00a0\u202f]/.test(end) || /[0-9]/.test(end)) return null;
+  const name = nameOf(end, list);
+  if (!name || name.isBoth || !STYLES.includes(name.calendar)) return null;
+  const items = itemsOf(end, list.byCalendar.get(name.calendar));
+  return items === null || items.length === 0 ? name.calendar : null;
+}
+
+// The date and the calendar of a text in a calendar, or in none that is known: those that it names at its end, or these.
+function datedIn(text, calendar, list) {
+  const asItIs = { text, calendar };
+  if (calendar !== null && !STYLES.includes(calendar) || /[0-9]$/.test(text)) return asItIs;
+  for (let at = 0; at < text.length; at += 1) {
+    const end = text.slice(at), own = Buffer.byteLength(end) > MOST_BYTES ? null : styleNamed(end, list);
+    if (own === null) continue;
+    const before = bareOf(bareOf(text.slice(0, at)).replace(/,$/, ""));
+    return before === "" ? asItIs : { text: before, calendar: own };
+  }
+  return asItIs;
+}
+
 const rowsOf = text => text.split("\n").slice(1).filter(it => it !== "").map(line => line.split(","));
 
-module.exports = { listOf, rowsOf };
+module.exports = { datedIn, listOf, nameOf, rowsOf };

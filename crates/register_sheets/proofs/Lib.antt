@@ -16,6 +16,7 @@ pub mod RowLemmas
 pub mod OwnCalendarLemmas
 pub mod DateLemmas
 pub mod AcceptedLemmas
+pub mod LawLemmas
 pub mod WidthLemmas
 pub mod AskedLemmas
 pub mod AskedOfSheetLemmas

@@ -11,6 +11,7 @@ pub mod ChurchNames
 pub mod ChoiceViews
 pub mod DateEnds
 pub mod AskedViews
+pub mod Laws
 pub mod DateCounts
 pub mod Converted
 pub mod CountViews

@@ -14,6 +14,7 @@ mod date_counts;
 mod date_marks;
 mod end_texts;
 mod feast_names;
+pub mod laws;
 mod line_writers;
 mod lines;
 mod name_calendars;

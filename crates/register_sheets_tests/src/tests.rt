@@ -5,6 +5,7 @@ mod changes;
 mod counts;
 mod dates;
 mod meanings;
+mod own_calendars;
 mod spans;
 mod table;
 

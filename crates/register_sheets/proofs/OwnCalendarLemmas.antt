@@ -1,11 +1,22 @@
--- The first end of a text that names a style.
-use Rattle.std.proofs.Common.{◌≡◌, ◌≤◌, ◌<◌, ◌-◌, ◌∙◌, ℕ, List, [], ◌∷◌, None, Option, Some, ap, arith, drop, length}
-use Rattle.std.proofs.Common.{refl, sym, take}
+-- What a name says in dates, and the first end of a text that names a style.
+use Rattle.std.proofs.Common.{◌≡◌, ◌≤◌, ◌<◌, ◌-◌, ◌∙◌, ℕ, List, [], ◌∷◌, None, Option, Some, ap, arith, drop, false}
+use Rattle.std.proofs.Common.{length, nat_le, refl, sym, take}
 use Rattle.std.proofs.Math.Seq.{take-length}
+use Rattle.std.proofs.lemmas.Bool.Decides.{nat_tests}
 use Rattle.date_texts.specs.declared.calendar.Calendar.{Calendar}
 use Rattle.written_dates.specs.declared.fields.CalendarNames.{CalendarNames}
+use Rattle.written_dates.specs.declared.items.Item.{Item}
 use Rattle.written_dates.specs.declared.meanings.Name.{Name}
-use Rattle.register_sheets.specs.OwnCalendars.{first_style, style_named}
+use Rattle.register_sheets.specs.OwnCalendars.{first_style, says_something, style_named}
+
+pub many_say_nothing : (found : Option (List Item)) → ((items : List Item) → found ≡ Some items → 16 < length items)
+    → says_something found ≡ false
+many_say_nothing None many = refl
+many_say_nothing (Some []) many = refl
+many_say_nothing (Some (item ∷ items)) many =
+    let over : 16 < length (item ∷ items) = many (item ∷ items) refl in
+    let no : nat_le (length (item ∷ items)) 16 ≡ false = grind (arith, nat_tests) in
+    no
 
 pub found_here : (calendars : CalendarNames) (names : List Name) (text : List ℕ) (style : Calendar) → 1 ≤ length text
     → style_named calendars names text ≡ Some style → first_style calendars names text ≡ Some (length text, style)

@@ -12,10 +12,9 @@ ghost use Rattle.register_sheets.specs.OwnCalendars.{says_something as says_spec
 ghost use Rattle.register_sheets.specs.OwnCalendars.{style_named as named_spec, without_comma as comma_spec};
 ghost use Rattle.register_sheets.specs.OwnViews.{own_seen};
 
-use arrayvec::ArrayVec;
 use date_texts::Calendar;
 use written_dates::{
-    CalendarMeaning, CalendarNames, Item, Names, is_blank, items_of, next_token, without_blanks,
+    CalendarMeaning, CalendarNames, Names, is_blank, items_of, next_token, without_blanks,
 };
 
 /// The most bytes of an end that names a calendar.
@@ -60,8 +59,7 @@ pub(crate) fn has_styles(meaning: Option<CalendarMeaning>) -> bool
 fn says_something(name: &[u8], names: &Names, calendar: Calendar) -> bool
     ensures { result ≡ says_spec (found_items calendar names.now.listed.now name.now) }
 {
-    let found: Option<ArrayVec<Item, 16>> = items_of::<16>(name, names, calendar);
-    match found {
+    match items_of::<16>(name, names, calendar) {
         Some(found) => {
             let items = found.as_slice();
             prove!(items.len() <= 16);

@@ -23,8 +23,8 @@ no_name : (choice : SheetChoice) (meaning : Option CalendarMeaning) (field : Lis
 unfolding own_date
 no_name choice meaning field digit =
     elim (cases_Bool (has_styles meaning)) [
-      | inl yes ↦ rw (yes, digit) refl
-      | inr no ↦ rw no refl
+      | inl has ↦ rw (has, digit) refl
+      | inr lacks ↦ rw lacks refl
     ]
 
 pub digits_name_none : DigitsNameNone
@@ -44,7 +44,8 @@ same_dated : (choice : SheetChoice) (column other : DateColumn) (number : ℕ) (
     → IsDated choice number fields column dated → IsDated choice number others other dated
 same_dated choice column other number fields others dated text calendar meaning id h =
     let names = choice.names.now.listed.now in
-    let (first, last) = (as_text dated.first, as_text dated.last) in
+    let first = as_text dated.first in
+    let last = as_text dated.last in
     record {
       ends = subst (λ (m : Option CalendarMeaning). AreEndsIn m choice.spans choice.reading names
           (date_text choice other others) first last dated.marks) meaning

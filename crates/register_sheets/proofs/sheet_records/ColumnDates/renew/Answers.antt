@@ -12,7 +12,7 @@ use Rattle.register_sheets.proofs.AcceptedLemmas.{accepted_date}
 use Rattle.register_sheets.proofs.DateLemmas.{date_is_read}
 use Rattle.register_sheets.proofs.sheet_records.ColumnDates.renew.Goals as goal
 
-pub stop_beside-stop-requires-clause-stop : goal.stop_beside-stop-requires
+pub stop_beside-stop-requires-clause-stop : goal.stop_beside-stop-requires-clause-stop
 stop_beside-stop-requires-clause-stop c has some =
     let choice = c.args.setup.now.choice in
     let column = c.args.column.now in

@@ -108,11 +108,7 @@ fn style_named(calendars: &CalendarNames, names: &Names, end: &[u8]) -> Option<C
 }
 
 /// How many bytes the first end of a text has that names a style, and this style.
-fn first_style(
-    calendars: &CalendarNames,
-    names: &Names,
-    text: &[u8],
-) -> Option<(usize, Calendar)>
+fn first_style(calendars: &CalendarNames, names: &Names, text: &[u8]) -> Option<(usize, Calendar)>
     ensures value { result ≡ first_spec calendars.now names.now.listed.now text.now }
     ensures within { IfSome result (λ end. end.0 ≤ length text.now) }
 {

@@ -241,7 +241,8 @@ fn sense_of(marks: Marks) -> Sense
     }
 }
 
-/// What stops the date of a record in a column, by its text and the end that is written for it: nothing where its row was accepted.
+/// What stops the date of a record in a column, by its text and the end that is written for it: nothing where its row was
+/// accepted.
 fn stop_beside<'a>(
     choice: &SheetChoice,
     column: &DateColumn,
@@ -468,7 +469,14 @@ impl ColumnDates {
         let id = id_of(choice.id, buffer.format(number).as_bytes(), fields);
         self.convert(setup, number, id);
         one_calendar();
-        let stop = stop_beside(choice, column, called_by(said.meant), fields, said.text, &self.first);
+        let stop = stop_beside(
+            choice,
+            column,
+            called_by(said.meant),
+            fields,
+            said.text,
+            &self.first,
+        );
         self.stop.renew(stop)?;
         self.put_edtf(choice.spans)
     }

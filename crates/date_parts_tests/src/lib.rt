@@ -1,0 +1,5 @@
+//! Tests of `date_parts`, and nothing else.
+#![tactic(auto)]
+
+#[cfg(test)]
+mod tests;

@@ -13,7 +13,8 @@ use Rattle.sheet_arguments.specs.Requests.{CalendarsWanted, Task, all_have, in_c
 use Rattle.clap.specs.Words.{Text}
 use Rattle.command_lines.specs.Values.{IsNumberWord}
 use Rattle.sheet_app.specs.CalendarWords.{SaysNothing, calendar_words}
-use Rattle.sheet_app.specs.Columns.{HoldsOfNone, IsBareWord, IsCalendarField, IsColumn, IsDateColumn, IsForWord, IsItsOwn}
+use Rattle.sheet_app.specs.Columns.{HoldsOfNone, IsBareWord, IsCalendarField, IsColumn, IsDateColumn, IsForWord}
+use Rattle.sheet_app.specs.Columns.{IsDateField, IsItsOwn, LacksDate}
 use Rattle.sheet_app.specs.Columns.{IsMissing, IsWord, NamesNoColumn, NamesNone, calendar_columns}
 use Rattle.sheet_app.specs.declared.columns.ColumnFault.{ColumnFault}
 use Rattle.sheet_app.specs.declared.columns.ColumnFault.TheVariants as column_fault
@@ -85,7 +86,7 @@ asked_word words index word within there =
     slice_get-map (λ (w : Bor Text). w.now) words index ∙ ap (option_map (λ (w : Bor Text). w.now)) found
 
 pub date_column : (lines : List NameLine) (names : Fields) (task : Task) (index : ℕ) (word : Text) (column : DateColumn)
-    → slice_get task.dates index ≡ Some word → IsColumn names word column.date
+    → slice_get task.dates index ≡ Some word → IsDateField names task index word column.date
     → IsCalendarField lines names task.calendars index column.calendar → IsDateColumn lines names task index column
 date_column lines names task index word column asked date calendar = record {
   word = word;
@@ -121,6 +122,20 @@ missing_calendar lines names task words own index word (column_fault.NoColumn ot
     let said : Contains (calendar_words task.calendars) word
     = subst (λ (c : CalendarsWanted). Contains (calendar_words c) word) (sym wanted) among in
     inr (inl (subst (Contains (calendar_words task.calendars)) (sym h.0) said, h.1))
+
+pub missing_else : (lines : List NameLine) (names : Fields) (task : Task) (words : List Text) (otherwise : Option Text)
+    (why : ColumnFault) → task.calendars ≡ in_columns words otherwise
+    → IsForWord (λ other. (otherwise ≡ Some other) × SaysNothing lines other) why
+    → IsForWord (IsMissing lines names task) why
+missing_else lines names task words otherwise column_fault.OutOfMemory wanted h = tt
+missing_else lines names task words otherwise (column_fault.NoColumn other) wanted h =
+    let calendars : task.calendars ≡ in_columns words (Some other.now)
+    = wanted ∙ ap (λ (word : Option Text). in_columns words word) h.0 in
+    inr (inl (
+      subst (λ (c : CalendarsWanted). Contains (calendar_words c) other.now) (sym calendars)
+          (one_of (other.now ∷ []) 0 other.now refl),
+      h.1,
+    ))
 
 -- and that of ids
 pub missing_id : (lines : List NameLine) (names : Fields) (task : Task) (why : ColumnFault)

@@ -1,5 +1,6 @@
 -- Which file serves which public clause of `answer`:
 --   CalendarLemmas, ColumnLemmas, EndLemmas, MarkLemmas: what becomes of a sheet, for `answered`.
+--   JoinedLemmas: the sheets of texts with joined dates, for `answered`.
 --   LineLemmas: the lines on sheets, for `answered`.
 --   ListLemmas: the sheets of files, one after the other, for `answered`.
 --   NameLemmas: the names of outputs, for `answered`. NameListLemmas: what lists dates are read by, for `answered`.
@@ -10,6 +11,7 @@ mod CalendarLemmas
 mod ColumnLemmas
 mod EndLemmas
 mod FaultLemmas
+mod JoinedLemmas
 mod LineLemmas
 mod ListLemmas
 mod MarkLemmas

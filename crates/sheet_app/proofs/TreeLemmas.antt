@@ -4,7 +4,7 @@ use Rattle.register_records.specs.declared.outputs.Output as outputs
 use Rattle.register_sheets.specs.declared.name_lists.NameLine.{NameLine}
 use Rattle.sheet_arguments.specs.Requests.{Task}
 use Rattle.sheet_app.specs.Sheets.{IsEnded}
-use Rattle.sheet_app.specs.TreeTexts.{IsFaultBy, IsTextEnded, IsTextEndedBy, fault_of_text, sheet_of}
+use Rattle.sheet_app.specs.TreeTexts.{IsFaultBy, IsMadeEnded, IsTextEndedBy, fault_of_text, sheet_of}
 use Rattle.sheet_app.specs.declared.sheet_faults.SheetFault.{SheetFault}
 use Rattle.sheet_app.specs.declared.sheets.SheetDone.{SheetDone}
 use Rattle.sheet_app.specs.declared.sheets.SheetDone.TheVariants as done
@@ -15,7 +15,7 @@ module _ {W : Type 0} (o : outputs.Ghosts W) (task : Task) (lines : List NameLin
   pub text_ended : (text sheet : List ℕ) (given written : W) (new registers : List W) (how : SheetDone)
       → fault_of_text task text ≡ None → sheet ≡ sheet_of task text
       → IsEnded o task lines MOST_UNKNOWN sheet given written new registers how
-      → IsTextEnded o task lines text given written new registers how
+      → IsMadeEnded o task lines text given written new registers how
   text_ended text sheet given written new registers how none is ended =
       subst (λ (why : Option SheetFault).
       IsTextEndedBy why o task lines (sheet_of task text) given written new registers how) (sym none)
@@ -31,5 +31,5 @@ module _ {W : Type 0} (o : outputs.Ghosts W) (task : Task) (lines : List NameLin
   -- a text that gives none has broken off
   pub text_broken : (text : List ℕ) (given : W) (new : List W) (fault : SheetFault)
       → IsFaultBy (fault_of_text task text) fault
-      → IsTextEnded o task lines text given given new new (done.Broken fault)
+      → IsMadeEnded o task lines text given given new new (done.Broken fault)
   text_broken text given new fault is = broken_by (fault_of_text task text) (sheet_of task text) given new fault is

@@ -1,6 +1,6 @@
 -- The columns of a sheet that words name.
 use Rattle.std.specs.Prelude.{◌≡◌, ◌≢◌, ◌≤◌, ◌<◌, ◌+◌, ◌^◌, ◌⊎◌, ⊤, ℕ, Contains, List, [], Option, None, Some, get_or, length}
-use Rattle.std.specs.Prelude.{slice_get}
+use Rattle.std.specs.Prelude.{◌==◌, ◌&&◌, Bool, false, is_some, slice_get, true}
 use Rattle.clap.specs.Words.{Text}
 use Rattle.command_lines.specs.Values.{IsNumberWord}
 use Rattle.register_records.specs.Entries.{Fields}
@@ -77,12 +77,22 @@ IsCalendarField lines names (all_have words) index field =
     (word : Text) × IsItsOwn words index word × (meaning : CalendarMeaning) × (field ≡ calendar.All meaning)
     × SaysBy lines word meaning
 
+-- the word at an index is that of the dates which are joined of three columns, and stand behind all others
+abbrev pub is_joined : Task → ℕ → Bool
+is_joined task index = is_some task.three && (index + 1 == length task.dates)
+
+-- the dates of the word at an index are in the column at this place
+abbrev pub IsDateField : Fields → Task → ℕ → Text → ℕ → Type 0
+IsDateField names task index word place =
+    ((is_joined task index ≡ false) × IsColumn names word place)
+    ⊎ ((is_joined task index ≡ true) × (place + 1 ≡ length names))
+
 -- the column of dates at an index
 pub record IsDateColumn (lines : List NameLine) (names : Fields) (task : Task) (index : ℕ) (column : DateColumn)
     : Type 0 where
   pub word : Text
   pub asked : slice_get task.dates index ≡ Some word
-  pub date : IsColumn names word column.date
+  pub date : IsDateField names task index word column.date
   pub calendar : IsCalendarField lines names task.calendars index column.calendar
 
 -- the columns of dates that are asked for, by the names of these lines
@@ -110,13 +120,24 @@ IsToNameColumn task word =
 abbrev pub AreTooFew : Task → List Text → Type 0
 AreTooFew task words = (length words ≢ 1) × (length words < length task.dates)
 
+-- there is no last name, or its index has more than 32 bits
+abbrev pub HasNoLast : Fields → Type 0
+HasNoLast names = (length names ≡ 0) ⊎ (2 ^ 32 < length names)
+
+-- for the word of dates at an index there is no column
+abbrev pub LacksDate : Fields → Task → ℕ → Text → Type 0
+LacksDate names task index word =
+    ((is_joined task index ≡ false) × NamesNone names word) ⊎ ((is_joined task index ≡ true) × HasNoLast names)
+
 -- for this word of a task there is no column among these names: it is to name one and names none, or is to say a calendar
--- and says none by the names of these lines; or there is no word for a column of dates, which is told as an empty one
+-- and says none by the names of these lines; or there is no word for a column of dates, which is told as an empty one;
+-- or it is that of joined dates
 abbrev pub IsMissing : List NameLine → Fields → Task → Text → Type 0
 IsMissing lines names task word =
     (IsToNameColumn task word × NamesNone names word)
     ⊎ (Contains (calendar_words task.calendars) word × SaysNothing lines word)
     ⊎ ((word ≡ []) × AreTooFew task (own_words task.calendars))
+    ⊎ ((is_some task.three ≡ true) × Contains task.dates word × HasNoLast names)
 
 -- memory ran out, or there is no column for a word of which this holds
 abbrev pub IsForWord : (Text → Type 0) → ColumnFault → Type 0

@@ -10,7 +10,7 @@ use Rattle.register_sheets.specs.declared.name_lists.NameLine.{NameLine}
 use Rattle.sheet_arguments.specs.Requests.{Task}
 use Rattle.sheet_app.specs.FileSheets.{IsMadeFor, ending_of, names_ending, register_endings, sheet_name}
 use Rattle.sheet_app.specs.Lines.{lines_on, names_line}
-use Rattle.sheet_app.specs.TreeTexts.{IsTextEnded}
+use Rattle.sheet_app.specs.JoinedTexts.{IsTextEnded}
 use Rattle.sheet_app.specs.declared.converting.EndedSheet.{EndedSheet}
 use Rattle.sheet_app.specs.declared.file_sheets.FileSheet.{FileSheet}
 use Rattle.sheet_app.specs.declared.sheet_faults.SheetFault.{SheetFault}

@@ -4,6 +4,7 @@ pub mod FileSheets
 pub mod SheetFaults
 pub mod Sheets
 pub mod TreeTexts
+pub mod JoinedTexts
 pub mod EndedSheets
 pub mod Lines
 pub mod SheetViews

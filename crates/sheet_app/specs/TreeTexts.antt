@@ -34,9 +34,9 @@ IsTextEndedBy None o task lines sheet given written new registers how =
     IsEnded o task lines MOST_UNKNOWN sheet given written new registers how
 
 -- a text has ended so, with what the outputs have gained
-abbrev pub IsTextEnded : {W : Type 0} → outputs.Ghosts W → Task → List NameLine → List ℕ → W → W → List W → List W
+abbrev pub IsMadeEnded : {W : Type 0} → outputs.Ghosts W → Task → List NameLine → List ℕ → W → W → List W → List W
     → SheetDone → Type 0
-IsTextEnded o task lines text given written new registers how =
+IsMadeEnded o task lines text given written new registers how =
     IsTextEndedBy (fault_of_text task text) o task lines (sheet_of task text) given written new registers how
 
 -- ---- what the functions that make it promise

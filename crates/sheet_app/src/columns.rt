@@ -1,8 +1,9 @@
 //! The columns of a sheet that the arguments name.
 
-ghost use Rattle.std.specs.Prelude.{◌≡◌, ◌≢◌, ◌≤◌, ◌<◌, IfErr, IfNone, IfOk, IfSome, Some, length, map, option_map};
+ghost use Rattle.std.specs.Prelude.{◌≡◌, ◌≢◌, ◌≤◌, ◌<◌, ◌+◌, IfErr, IfNone, IfOk, IfSome, Some, length, map, option_map};
 ghost use Rattle.csv.specs.Records.{fields_of};
 ghost use Rattle.sheet_arguments.specs.Requests.{task_of};
+ghost use Rattle.sheet_app.specs.Columns.{HasNoLast, IsDateField, LacksDate, is_joined as joined_spec};
 ghost use Rattle.sheet_app.specs.Columns.{AreDateColumns, HoldsOfNone, IsBareWord, IsCalendarField, IsColumn, IsFirst};
 ghost use Rattle.sheet_app.specs.CalendarWords.{SaysBy, SaysNothing};
 ghost use Rattle.sheet_app.specs.Columns.{IsForWord, IsIdField, IsItsOwn, IsMissing, IsWord, NamesNoColumn, NamesNone};
@@ -89,6 +90,37 @@ pub fn column_named(names: &ByteRecord, word: &str) -> Option<u32>
     match column_found(names, word) {
         Some(index) => u32::try_from(index).ok(),
         None => None,
+    }
+}
+
+/// The index of the last column.
+fn last_column(names: &ByteRecord) -> Option<u32>
+    ensures some { IfSome result (λ place. place + 1 ≡ length (fields_of names.now)) }
+    ensures none { IfNone result (HasNoLast (fields_of names.now)) }
+{
+    let place = names.len().checked_sub(1)?;
+    u32::try_from(place).ok()
+}
+
+/// Whether the word at an index of a job is that of the dates which are joined of three columns.
+fn is_joined(job: &Job, index: usize) -> bool
+    requires { index < length job.now.dates.items }
+    ensures { result ≡ joined_spec (task_of job.now) index }
+{
+    job.three.is_some() && index + 1 == job.dates.len()
+}
+
+/// The index of the column of dates that the word at an index of a job names: with three columns that are joined, the last
+/// word is that of the last column.
+fn date_named(names: &ByteRecord, job: &Job, index: usize, word: &str) -> Option<u32>
+    requires { index < length job.now.dates.items }
+    ensures some { IfSome result (IsDateField (fields_of names.now) (task_of job.now) index word.now) }
+    ensures none { IfNone result (LacksDate (fields_of names.now) (task_of job.now) index word.now) }
+{
+    if is_joined(job, index) {
+        last_column(names)
+    } else {
+        column_named(names, word)
     }
 }
 
@@ -196,7 +228,7 @@ pub fn dates_named<'a>(
     let mut dates = Vec::new(alloc);
     'dates: for index in 0..job.dates.len() {
         let word = job.dates[index];
-        let Some(date) = column_named(names, word) else {
+        let Some(date) = date_named(names, job, index, word) else {
             return Err(ColumnFault::NoColumn(word));
         };
         let calendar = calendar_named(alloc, list, names, job, index)?;

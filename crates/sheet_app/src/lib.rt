@@ -7,6 +7,7 @@ mod calendar_words;
 mod columns;
 mod converting;
 mod file_sheets;
+mod joined_texts;
 mod name_lists;
 mod program;
 mod program_faults;

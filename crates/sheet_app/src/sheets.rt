@@ -166,7 +166,7 @@ fn write_outputs<'b, W: Output>(
 
 /// The mark of UTF-8 that a sheet begins with, or nothing.
 #[tactic(auto, using(crate::proofs::MarkLemmas::heads))]
-fn mark_of(sheet: &[u8]) -> &[u8]
+pub(crate) fn mark_of(sheet: &[u8]) -> &[u8]
     ensures { HasMark sheet.now result.now }
 {
     if sheet.len() >= 3 && sheet[0] == 0xEF && sheet[1] == 0xBB && sheet[2] == 0xBF {

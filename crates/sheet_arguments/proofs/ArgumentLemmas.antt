@@ -11,6 +11,7 @@ use Rattle.sheet_arguments.specs.Faults.{Fault, tree_at_odds}
 use Rattle.sheet_arguments.specs.OptionValues.{order_option, short_hebrew_option, short_option, skip_option}
 use Rattle.sheet_arguments.specs.Requests.{Ask, AskMeant, Task, false_check, given_checks, result_check}
 use Rattle.sheet_arguments.specs.Requests.{sheet_line, value_checks}
+use Rattle.sheet_arguments.specs.ThreeColumns.{three_asked}
 use Rattle.sheet_arguments.specs.TreeValues.{is_at_odds, meant}
 use Rattle.sheet_arguments.specs.WordLists.{columns_asked}
 use Rattle.written_dates.specs.declared.written.Choice.{Choice}
@@ -50,10 +51,11 @@ same_reading : (a b : Choice) → a.order ≡ b.order → a.short_years ≡ b.sh
     → a.short_hebrew_years ≡ b.short_hebrew_years → a.charters ≡ b.charters → a ≡ b
 same_reading a b order years hebrew charters = search rules
 
-same_task : (a b : Task) → a.tree ≡ b.tree → a.dates ≡ b.dates → a.calendars ≡ b.calendars → a.id ≡ b.id → a.columns ≡ b.columns → a.spans ≡ b.spans
+same_task : (a b : Task) → a.tree ≡ b.tree → a.dates ≡ b.dates → a.three ≡ b.three → a.calendars ≡ b.calendars → a.id ≡ b.id → a.columns ≡ b.columns
+    → a.spans ≡ b.spans
     → a.reading ≡ b.reading → a.names ≡ b.names → a.skip ≡ b.skip → a.delimiter ≡ b.delimiter
     → a.register ≡ b.register → a.unknown ≡ b.unknown → a.summary ≡ b.summary → a.files ≡ b.files → a ≡ b
-same_task a b tree dates calendars id columns spans reading names skip delimiter register unknown summary files =
+same_task a b tree dates three calendars id columns spans reading names skip delimiter register unknown summary files =
     search rules
 
 -- values ask for one task at most
@@ -61,6 +63,7 @@ one_task : (values : Values) (a b : Task) → Ask values a → Ask values b → 
 one_task values a b asked same =
     let tree : a.tree ≡ b.tree = asked.tree ∙ sym same.tree in
     let dates : a.dates ≡ b.dates = asked.dates ∙ sym same.dates in
+    let three : a.three ≡ b.three = same_value (three_asked values.three) _ _ asked.three same.three in
     let calendars : a.calendars ≡ b.calendars
     = asked.calendars ∙ sym same.calendars in
     let id : a.id ≡ b.id = asked.id ∙ sym same.id in
@@ -82,8 +85,8 @@ one_task values a b asked same =
     let unknown : a.unknown ≡ b.unknown = asked.unknown ∙ sym same.unknown in
     let summary : a.summary ≡ b.summary = asked.summary ∙ sym same.summary in
     let files : a.files ≡ b.files = asked.files ∙ sym same.files in
-    same_task a b tree dates calendars id columns spans (same_reading a.reading b.reading order years hebrew charters) names skip
-    delimiter register unknown summary files
+    same_task a b tree dates three calendars id columns spans
+    (same_reading a.reading b.reading order years hebrew charters) names skip delimiter register unknown summary files
 
 -- so arguments mean one thing
 pub is_clear : IsClear sheet_line

@@ -3,10 +3,10 @@ use Rattle.std.specs.Prelude.{List, [], ◌∷◌, Bool, codes, fold, Option, un
 use Rattle.clap.specs.Words.{App, Row, Rule, Text, all_of, first_of, one_of, with_rule}
 use Rattle.command_lines.specs.Rules.{bare_command, files_rule, flag_rule, is_set, option_rule, repeated_rule}
 
--- the rules of the arguments: four options as often as wanted, eight with a value each, seven flags, and files
+-- the rules of the arguments: four options as often as wanted, nine with a value each, seven flags, and files
 abbrev pub argument_rules : List Rule
 argument_rules =
-    flag_rule (codes "tree") ∷ repeated_rule (codes "date") ∷ repeated_rule (codes "calendar") ∷ repeated_rule (codes "all")
+    flag_rule (codes "tree") ∷ repeated_rule (codes "date") ∷ option_rule (codes "three") ∷ repeated_rule (codes "calendar") ∷ repeated_rule (codes "all")
     ∷ option_rule (codes "else") ∷ option_rule (codes "id") ∷ option_rule (codes "order") ∷ repeated_rule (codes "names")
     ∷ option_rule (codes "short-years") ∷ option_rule (codes "short-hebrew-years") ∷ flag_rule (codes "charter-years")
     ∷ option_rule (codes "skip") ∷ option_rule (codes "delimiter") ∷ option_rule (codes "to")
@@ -21,6 +21,7 @@ command_line = fold with_rule (bare_command (codes "register-sheet")) argument_r
 pub record Values : Type 0 where
   pub tree : Bool
   pub dates : List Text
+  pub three : Option Text
   pub calendars : List Text
   pub all : List Text
   pub otherwise : Option Text
@@ -45,6 +46,7 @@ abbrev pub values_of : List Row → Values
 values_of found = record {
   tree = is_set (one_of (codes "tree") found);
   dates = unwrap_or (all_of (codes "date") found) [];
+  three = first_of (codes "three") found;
   calendars = unwrap_or (all_of (codes "calendar") found) [];
   all = unwrap_or (all_of (codes "all") found) [];
   otherwise = first_of (codes "else") found;

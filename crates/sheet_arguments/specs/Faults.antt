@@ -13,7 +13,7 @@ use Rattle.sheet_arguments.specs.declared.request_faults.RequestFault.TheVariant
 -- what is wrong: the options are not written as they are taken, with a tree the columns or the form of a sheet are given,
 -- no column of dates is named or more than eight, the calendars are not as many, a calendar is said for empty fields of no
 -- column, a word says no order, no rule of short years, no number or no delimiter, a
--- name names no column or one twice, registers of standard input are asked for, there are more than 32 files, or a file
+-- name names no column or one twice, a list is not of three words, registers of standard input are asked for, there are more than 32 files, or a file
 -- is named twice
 pub data Fault : Type 0 where
   usage : ErrorKind → Fault
@@ -29,6 +29,7 @@ pub data Fault : Type 0 where
   unknown_delimiter : List ℕ → Fault
   unknown_column : List ℕ → Fault
   column_twice : AskedColumn → Fault
+  bad_three : List ℕ → Fault
   register_of_input : Fault
   too_many_files : Fault
   file_twice : List ℕ → Fault
@@ -49,6 +50,7 @@ fault_of_error (request_fault.BadSkip word) = Some (bad_skip word.now)
 fault_of_error (request_fault.UnknownDelimiter word) = Some (unknown_delimiter word.now)
 fault_of_error (request_fault.UnknownColumn name) = Some (unknown_column name.now)
 fault_of_error (request_fault.ColumnTwice column) = Some (column_twice column)
+fault_of_error (request_fault.BadThree list) = Some (bad_three list.now)
 fault_of_error request_fault.RegisterOfInput = Some register_of_input
 fault_of_error request_fault.TooManyFiles = Some too_many_files
 fault_of_error (request_fault.FileTwice file) = Some (file_twice file.now)
@@ -75,7 +77,7 @@ abbrev pub error_line : RequestFault → Option (List ℕ)
 error_line request_fault.OutOfMemory = Some memory_line
 error_line (request_fault.Usage error) = None
 error_line request_fault.TreeAtOdds =
-    Some (program_line (codes "--tree takes no --date, --calendar, --all, --skip and --delimiter"))
+    Some (program_line (codes "--tree takes no --date, --three, --calendar, --all, --skip and --delimiter"))
 error_line request_fault.NoDate = Some (program_line (codes "no column of dates: give --date COLUMN"))
 error_line request_fault.TooManyDates = Some (program_line (codes "more than 8 columns of dates"))
 error_line request_fault.CalendarCount =
@@ -90,6 +92,7 @@ error_line (request_fault.UnknownDelimiter word) = Some (program_line (codes "un
 error_line (request_fault.UnknownColumn name) = Some (program_line (codes "unknown column: " ++ name.now))
 error_line (request_fault.ColumnTwice column) =
     Some (program_line (codes "column named twice: " ++ asked_name column))
+error_line (request_fault.BadThree list) = Some (program_line (codes "bad year, month and day: " ++ list.now))
 error_line request_fault.RegisterOfInput = Some (program_line (codes "--register is for files"))
 error_line request_fault.TooManyFiles = Some (program_line (codes "more than 32 files"))
 error_line (request_fault.FileTwice file) = Some (program_line (codes "file named twice: " ++ file.now))

@@ -17,6 +17,7 @@ use Rattle.sheet_arguments.specs.Faults.{else_alone, file_twice, no_date, regist
 use Rattle.sheet_arguments.specs.Faults.{too_many_files, tree_at_odds, unknown_delimiter, unknown_order, usage}
 use Rattle.sheet_arguments.specs.OptionValues.{order_number, order_option, short_hebrew_option, short_number}
 use Rattle.sheet_arguments.specs.OptionValues.{short_option, skip_option}
+use Rattle.sheet_arguments.specs.ThreeColumns.{ThreeWords, three_asked, words_seen}
 use Rattle.sheet_arguments.specs.TreeValues.{is_at_odds, meant}
 use Rattle.sheet_arguments.specs.WordLists.{columns_asked}
 use Rattle.sheet_arguments.specs.declared.requests.CalendarsAsked.{CalendarsAsked}
@@ -38,6 +39,7 @@ pub data CalendarsWanted : Type 0 where
 pub record Task : Type 0 where
   pub tree : Bool
   pub dates : List Text
+  pub three : Option ThreeWords
   pub calendars : CalendarsWanted
   pub id : Option Text
   pub columns : List AskedColumn
@@ -83,6 +85,7 @@ spans_asked false false = spans_of.Unread
 pub record Ask (values : Values) (task : Task) : Type 0 where
   pub tree : task.tree ≡ values.tree
   pub dates : task.dates ≡ values.dates
+  pub three : three_asked values.three ≡ Ok task.three
   pub some_dates : (length values.dates == 0) ≡ false
   pub few_dates : nat_lt date_limit (length values.dates) ≡ false
   pub as_many : are_misfits (length values.dates) (length values.calendars) (length values.all) ≡ false
@@ -127,6 +130,7 @@ value_checks values =
     ∷ option_check skip_option bad_skip values.skip
     ∷ option_check delimiter_option unknown_delimiter values.delimiter
     ∷ result_check (columns_asked values.to)
+    ∷ result_check (three_asked values.three)
     ∷ false_check (asks_for_registers_of_input values) register_of_input
     ∷ file_check too_many_files file_twice values.files
     ∷ []
@@ -170,6 +174,7 @@ abbrev pub task_of : Job → Task
 task_of job = record {
   tree = job.tree;
   dates = map (λ date. date.now) job.dates.items;
+  three = option_map words_seen job.three;
   calendars = wanted_by job.calendars;
   id = option_map (λ id. id.now) job.id;
   columns = job.columns.items;
@@ -195,6 +200,7 @@ abbrev pub values_by : Options → Values
 values_by options = record {
   tree = options.tree;
   dates = map (λ v. v.now) options.dates.items;
+  three = option_map (λ v. v.now) options.three;
   calendars = map (λ v. v.now) options.calendars.items;
   all = map (λ v. v.now) options.all.items;
   otherwise = option_map (λ v. v.now) options.otherwise;

@@ -1,7 +1,7 @@
 -- What `--tree` stands for. The sheet of a tree has columns of its own, `tree_head` of `family_trees`, with commas between
 -- them, and in a tree the day stands before the month.
-use Rattle.std.specs.Prelude.{◌||◌, ◌&&◌, ◌==◌, ◌∷◌, Bool, List, [], codes, false, if◌then◌else◌, length, not, true}
-use Rattle.std.specs.Prelude.{None, Option, Some}
+use Rattle.std.specs.Prelude.{◌||◌, ◌&&◌, ◌==◌, ◌++◌, ◌∷◌, Bool, List, [], codes, false, if◌then◌else◌, length, not, true}
+use Rattle.std.specs.Prelude.{None, Option, Some, option_to_list}
 use Rattle.std.specs.Option.{option_map_or}
 use Rattle.clap.specs.Words.{Text}
 use Rattle.sheet_arguments.specs.CommandLine.{Values}
@@ -15,8 +15,8 @@ are_given words = not (length words == 0)
 -- the columns or the form of a sheet are given, which a tree does not leave open
 abbrev pub is_at_odds : Values → Bool
 is_at_odds values =
-    values.tree && (are_given values.dates || are_given values.calendars || are_given values.all || is_given values.skip
-    || is_given values.delimiter)
+    values.tree && (are_given values.dates || is_given values.three || are_given values.calendars
+    || are_given values.all || is_given values.skip || is_given values.delimiter)
 
 abbrev pub or_word : Option Text → Text → Option Text
 or_word None other = Some other
@@ -27,6 +27,7 @@ abbrev pub of_tree : Values → Values
 of_tree values = record {
   tree = values.tree;
   dates = codes "date" ∷ [];
+  three = values.three;
   calendars = codes "calendar" ∷ [];
   all = values.all;
   otherwise = values.otherwise;
@@ -47,6 +48,10 @@ of_tree values = record {
   files = values.files;
 }
 
+-- the column of the dates that are joined of three stands behind the others, and its word is the list of these
+abbrev pub with_three : Values → Values
+with_three values = record values { dates = values.dates ++ option_to_list values.three }
+
 -- the values that are meant
 abbrev pub meant : Values → Values
-meant values = if values.tree then of_tree values else values
+meant values = if values.tree then of_tree values else with_three values

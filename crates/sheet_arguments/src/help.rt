@@ -21,9 +21,13 @@ Options:
                       Its dates are converted, but for those of the file,
                       as when a record was changed, as a sheet with the
                       columns record, name, partner, event, part, type,
-                      place, calendar and date. It takes no --date,
+                      place, calendar and date. It takes no --date, --three,
                       --calendar, --all, --skip and --delimiter.
     --date COLUMN     where the dates are; once to eight times.
+    --three YEAR,MONTH,DAY
+                      the three columns of which one is made behind the
+                      others, as year-month-day: digits as 1806-5-12, else as
+                      12 Mai 1806. It is a further column of dates.
     --calendar COLUMN where their calendars are; or
     --all CALENDAR    the calendar that they all have: any name of a list, as
                       O.S., both (dates in both styles), or a change, as

@@ -19,7 +19,7 @@ pub enum RequestFault<'a> {
     OutOfMemory,
     /// The options are not written as they are taken. The text says how, and ends its last line.
     Usage(clap::Error),
-    /// With `--tree` there is also `--date`, `--calendar`, `--all`, `--skip` or `--delimiter`.
+    /// With `--tree` there is also `--date`, `--three`, `--calendar`, `--all`, `--skip` or `--delimiter`.
     TreeAtOdds,
     /// No column of dates is named.
     NoDate,
@@ -44,6 +44,8 @@ pub enum RequestFault<'a> {
     UnknownColumn(&'a str),
     /// A column that is named at two places of the list.
     ColumnTwice(AskedColumn),
+    /// What is to name the columns of years, months and days is no list of three, as it was given.
+    BadThree(&'a str),
     /// Registers are asked for, and no file is named.
     RegisterOfInput,
     /// More than 32 files are named.
@@ -118,7 +120,7 @@ impl RequestFault<'_> {
         match self {
             RequestFault::OutOfMemory | RequestFault::Usage(_) => ("out of memory", ""),
             RequestFault::TreeAtOdds => (
-                "--tree takes no --date, --calendar, --all, --skip and --delimiter",
+                "--tree takes no --date, --three, --calendar, --all, --skip and --delimiter",
                 "",
             ),
             RequestFault::NoDate => ("no column of dates: give --date COLUMN", ""),
@@ -135,6 +137,7 @@ impl RequestFault<'_> {
             RequestFault::UnknownDelimiter(word) => ("unknown delimiter: ", *word),
             RequestFault::UnknownColumn(name) => ("unknown column: ", *name),
             RequestFault::ColumnTwice(column) => ("column named twice: ", column_name(*column)),
+            RequestFault::BadThree(list) => ("bad year, month and day: ", *list),
             RequestFault::RegisterOfInput => ("--register is for files", ""),
             RequestFault::TooManyFiles => ("more than 32 files", ""),
             RequestFault::FileTwice(file) => ("file named twice: ", *file),

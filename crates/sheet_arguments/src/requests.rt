@@ -15,7 +15,7 @@ ghost use Rattle.sheet_arguments.specs.OptionValues.{order_number, order_option,
 ghost use Rattle.sheet_arguments.specs.OptionValues.{short_option, skip_option};
 ghost use Rattle.sheet_arguments.specs.Requests.{Ask, MeanJust, are_misfits as misfits_spec, calendars_wanted};
 ghost use Rattle.sheet_arguments.specs.Requests.{is_misfit as misfit_spec, meaning_of, sheet_line, task_of};
-ghost use Rattle.sheet_arguments.specs.TreeValues.{is_at_odds as odds_spec, meant as meant_spec};
+ghost use Rattle.sheet_arguments.specs.TreeValues.{is_at_odds as odds_spec, meant as meant_spec, with_three as three_spec};
 ghost use Rattle.sheet_arguments.specs.Requests.{AskMeant, given_checks};
 ghost use Rattle.sheet_arguments.specs.Requests.{AreSaidBy, FewDates, WordsAre, output_checks, value_checks, values_by};
 ghost use Rattle.sheet_arguments.specs.Requests.{spans_asked as spans_spec, wanted_by, word_checks};
@@ -25,6 +25,7 @@ use crate::option_values::{
     chosen_delimiter, chosen_order, chosen_short_hebrew_years, chosen_short_years, chosen_skip,
 };
 use crate::request_faults::RequestFault;
+use crate::three_columns::{ThreeColumns, chosen_three};
 use clap::error::ErrorKind;
 use clap::{ArgMatches, Command};
 use command_lines::{Argument, check_files, command_with, is_given, value_given, values_given};
@@ -36,9 +37,10 @@ use written_dates::{Choice, Order, Short};
 pub const VERSION: &str = "1.2.0";
 
 /// The options and flags, and the files.
-const ARGUMENTS: [Argument<'static>; 20] = [
+const ARGUMENTS: [Argument<'static>; 21] = [
     Argument::Flag("tree"),
     Argument::Repeated("date", "COLUMN"),
+    Argument::Valued("three", "YEAR,MONTH,DAY"),
     Argument::Repeated("calendar", "COLUMN"),
     Argument::Repeated("all", "CALENDAR"),
     Argument::Valued("else", "CALENDAR"),
@@ -73,8 +75,10 @@ pub enum CalendarsAsked<'a> {
 pub struct Job<'a> {
     /// Whether each file is a family tree, of which the sheet of its dates is converted.
     pub tree: bool,
-    /// The columns of dates: one to eight.
+    /// The columns of dates: one to eight. With `three` the last is that of the dates joined of them.
     pub dates: Vec<&'a str>,
+    /// The columns with the years, the months and the days of dates, which are joined before all else.
+    pub three: Option<ThreeColumns<'a>>,
     /// Where their calendars are.
     pub calendars: CalendarsAsked<'a>,
     /// The column of ids; without it, an id is the number of the record.
@@ -127,6 +131,7 @@ struct Words<'a> {
 struct Options<'a> {
     tree: bool,
     dates: Vec<&'a str>,
+    three: Option<&'a str>,
     calendars: Vec<&'a str>,
     all: Vec<&'a str>,
     otherwise: Option<&'a str>,
@@ -179,6 +184,7 @@ fn options_found<'a>(alloc: Global, matches: &ArgMatches<'a>) -> Result<Options<
     Ok(Options {
         tree: is_given(matches, "tree"),
         dates,
+        three: value_given(matches, "three"),
         calendars,
         all,
         otherwise: value_given(matches, "else"),
@@ -347,7 +353,7 @@ fn outputs_fit<'a>(register: bool, files: &[&'a str]) -> Result<(), RequestFault
 ///
 /// The first that applies: `NoDate`, `TooManyDates`, `CalendarCount`, `ElseAlone`, `UnknownOrder`,
 /// `BadShortYears`, `BadShortHebrewYears`, `BadSkip`, `UnknownDelimiter`, the faults of the list of columns as
-/// [`chosen_columns`] has them, `RegisterOfInput`, and the faults of the files as [`check_files`] has them; and
+/// [`chosen_columns`] has them, `BadThree`, `RegisterOfInput`, and the faults of the files as [`check_files`] has them; and
 /// `OutOfMemory` where memory runs out on the way.
 fn chosen_job<'a>(alloc: Global, options: Options<'a>) -> Result<Job<'a>, RequestFault<'a>>
     ensures asked { IfOk result (λ job. Ask (values_by options.entry) (task_of job)) }
@@ -357,10 +363,12 @@ fn chosen_job<'a>(alloc: Global, options: Options<'a>) -> Result<Job<'a>, Reques
     dates_fit(&options)?;
     let reading = chosen_reading(&options.words)?;
     let columns = chosen_columns(alloc, options.to)?;
+    let three = chosen_three(options.three)?;
     outputs_fit(options.register, options.files.as_slice())?;
     Ok(Job {
         tree: options.tree,
         dates: options.dates,
+        three,
         calendars: chosen_calendars(options.calendars, options.all, options.otherwise),
         id: options.id,
         columns,
@@ -387,6 +395,7 @@ fn is_at_odds(options: &Options) -> bool
 {
     options.tree
         && (count_of(options.dates.as_slice()) != 0
+            || options.three.is_some()
             || count_of(options.calendars.as_slice()) != 0
             || count_of(options.all.as_slice()) != 0
             || options.words.skip.is_some()
@@ -402,19 +411,31 @@ fn one_word<'a>(alloc: Global, word: &'a str) -> Result<Vec<&'a str>, AllocError
     Ok(words)
 }
 
+/// The options with the column of the dates that are joined of three behind the others.
+fn with_three<'a>(options: Options<'a>) -> Result<Options<'a>, AllocError>
+    ensures { IfOk result (λ meant. values_by meant ≡ three_spec (values_by options.entry)) }
+{
+    let mut options = options;
+    if let Some(list) = options.three {
+        options.dates.push(list)?;
+    }
+    Ok(options)
+}
+
 /// The options that are meant: with a tree the columns of its sheet, and, where no other is given, the order with the day
-/// in front.
+/// in front; else with the column of joined dates.
 fn meant<'a>(alloc: Global, options: Options<'a>) -> Result<Options<'a>, AllocError>
     ensures { IfOk result (λ meant. values_by meant ≡ meant_spec (values_by options.entry)) }
 {
     if !options.tree {
-        return Ok(options);
+        return with_three(options);
     }
     let dates = one_word(alloc, "date")?;
     let calendars = one_word(alloc, "calendar")?;
     Ok(Options {
         tree: options.tree,
         dates,
+        three: options.three,
         calendars,
         all: options.all,
         otherwise: options.otherwise,

@@ -6,6 +6,7 @@ use Rattle.sheet_arguments.specs.CommandLine.{Values}
 use Rattle.sheet_arguments.specs.Faults.{Fault}
 use Rattle.sheet_arguments.specs.Requests.{AreSaidBy, FewDates, output_checks, result_check, value_checks, values_by}
 use Rattle.sheet_arguments.specs.Requests.{word_checks}
+use Rattle.sheet_arguments.specs.ThreeColumns.{three_asked}
 use Rattle.sheet_arguments.specs.WordLists.{columns_asked}
 use Rattle.sheet_arguments.specs.declared.requests.Reading.{Reading}
 use Rattle.sheet_arguments.specs.declared.requests.Words.{Words}
@@ -51,6 +52,20 @@ returns-in_err-columns-clause-fault c =
     found_up c.from_residual-in_err-columns.result c.in_err-columns.field-0.0 checks fails
     c.from_residual-in_err-columns.ensures.1 c.in_err-columns.ensures.fault first
 
+pub returns-in_err-three-clause-fault : goal.returns-in_err-three-clause-fault
+returns-in_err-three-clause-fault c =
+    let v = values_by c.args.options in
+    let checks = value_checks v in
+    let four = passed_four v c.in_ok-dates_fit.ensures.fine in
+    let words = word_checks c.args.options.words in
+    let said = passed_words c.args.options.words _ c.in_ok-reading.ensures.value in
+    let fails = (result_check (three_asked v.three)).fails in
+    let first : (fault : Fault) → fails fault → FailFirst checks fault
+    = λ fault is. behind (take 4 checks) (drop 4 checks) fault four
+    (behind words (drop 9 checks) fault said (inr ((_, c.in_ok-columns.ensures.value), inl is))) in
+    found_up c.from_residual-in_err-three.result c.in_err-three.field-0.0 checks fails
+    c.from_residual-in_err-three.ensures.1 c.in_err-three.ensures.fault first
+
 pub returns-in_err-outputs_fit-clause-fault : goal.returns-in_err-outputs_fit-clause-fault
 returns-in_err-outputs_fit-clause-fault c =
     let v = values_by c.args.options in
@@ -61,7 +76,8 @@ returns-in_err-outputs_fit-clause-fault c =
     let outputs = output_checks v.register v.files in
     let first : (fault : Fault) → FailFirst outputs fault → FailFirst checks fault
     = λ fault is. behind (take 4 checks) (drop 4 checks) fault four
-    (behind words (drop 9 checks) fault said (inr ((_, c.in_ok-columns.ensures.value), is))) in
+    (behind words (drop 9 checks) fault said
+    (inr ((_, c.in_ok-columns.ensures.value), inr ((_, c.in_ok-three.ensures.value), is)))) in
     found_up c.from_residual-in_err-outputs_fit.result c.in_err-outputs_fit.field-0.0 checks (FailFirst outputs)
     c.from_residual-in_err-outputs_fit.ensures.1 (rw c.as_slice.ensures.value at c.in_err-outputs_fit.ensures.fault) first
 
@@ -73,6 +89,7 @@ returns-clause-asked c =
     record {
       tree = refl;
       dates = refl;
+      three = c.in_ok-three.ensures.value;
       some_dates = few.0;
       few_dates = few.1;
       as_many = few.2;

@@ -2,7 +2,7 @@
 rules and from published day numbers."""
 
 VERSION = "register-sheet 1.2.0\n"
-AT_ODDS = "--tree takes no --date, --calendar, --all, --skip and --delimiter"
+AT_ODDS = "--tree takes no --date, --three, --calendar, --all, --skip and --delimiter"
 NOT_AS_MANY = "give --calendar COLUMN or --all CALENDAR, once or once for each --date"
 
 # What holds where an option is not given, as the page of help says it.
@@ -30,6 +30,7 @@ REFUSED = {
     "--tree --calendar=1 --order=x": AT_ODDS,
     "--all=mars --tree": AT_ODDS,
     "--tree --skip=0": AT_ODDS,
+    "--tree --three=1,2,3": AT_ODDS,
     "--delimiter=x --tree --register": AT_ODDS,
     "--tree --order=x": "unknown order: x",
     "--tree --register": "--register is for files",
@@ -45,6 +46,15 @@ REFUSED = {
     "--date=1 --all=iso '--to=rd,iso, RD'": "column named twice: rd",
     "--date=1 --all=iso --to=none": "unknown column: none",
     "--date=1 --all=iso '--to=church,iso, Church'": "column named twice: church",
+    # Three columns are one column of dates.
+    "--three=1,2,3": NOT_AS_MANY,
+    "--three=1,2,3 --date=1 --date=2 --all=iso --all=iso": NOT_AS_MANY,
+    " ".join(["--date=1"] * 8) + " --three=1,2,3": "more than 8 columns of dates",
+    "--three=1,2 --all=iso": "bad year, month and day: 1,2",
+    "--three=1,2,3,4 --all=iso": "bad year, month and day: 1,2,3,4",
+    "--three= --all=iso": "bad year, month and day: ",
+    "--three=1 --all=iso --to=x": "unknown column: x",
+    "--three=1 --all=iso --register": "bad year, month and day: 1",
     "--date=1 --all=iso --register": "--register is for files",
     "--date=1 --all=iso a b a": "file named twice: a",
     # The first fault in the order of the checks.
@@ -78,6 +88,7 @@ MISUSED = {
     "--date=1 --all=mars --bogus": "unexpected argument '--bogus' found",
     "-x.csv": "unexpected argument '-x' found",
     "--date": "a value is required for '--date <COLUMN>' but none was supplied",
+    "--three": "a value is required for '--three <YEAR,MONTH,DAY>' but none was supplied",
     "--order": "a value is required for '--order <year|day|month>' but none was supplied",
     "--order day --order day": "the argument '--order <year|day|month>' cannot be used multiple times",
     "--unknown --unknown": "the argument '--unknown' cannot be used multiple times",
@@ -380,6 +391,25 @@ STREAMS = [
     ("--tree", SHEET, 1, "", lines("standard input: is no family tree: its first line is not 0 HEAD")),
     ("--tree", "", 1, "", lines("standard input: is no family tree: its first line is not 0 HEAD")),
     ("--tree", "0 HEAD\n1 NOTE K\udce4the\n", 1, "", lines("standard input: is not UTF-8")),
+    # Dates of three columns, behind all others: of digits, of a name, without blanks at the ends, without a day, of nothing.
+    ("--three Jahr,Monat,Tag --all gregorian --order day --to gregorian --spans",
+     "Tag,Monat,Jahr\n12,5,1806\n 12 ,Mai,1806\n,Mai,1806 \n,,\n", 0,
+     "Tag,Monat,Jahr,Jahr-Monat-Tag,first gregorian,last gregorian,mark,refusal\n"
+     "12,5,1806,1806-5-12,1806-05-12,1806-05-12,,\n 12 ,Mai,1806,12 Mai 1806,1806-05-12,1806-05-12,,\n"
+     ",Mai,1806 ,Mai 1806,1806-05-01,1806-05-31,,\n,,,,,,,5\n", ""),
+    # Beside another column of dates, by numbers, below a title, in records of another length, and in quotes.
+    ("--three 1,2,3 --date Tod --skip 1 --all julian --all gregorian --delimiter semicolon --to rd",
+     "title\ny;m;\"d;\";Tod\n1001;1;1;1001-1-1\n1001;Mai\n", 0,
+     "title\ny;m;\"d;\";Tod;\"y-m-d;\";Tod rd;Tod refusal;\"y-m-d; rd\";\"y-m-d; refusal\"\n"
+     "1001;1;1;1001-1-1;1001-1-1;365249;;365243;\n1001;Mai;;;Mai 1001;;5;;5\n",
+     lines("standard input: 1 date has no day")),
+    # A column of that name is another, and the mark of UTF-8 stays in front.
+    ("--three y,m,d --all gregorian --to gregorian", "\ufeffy,m,d,y-m-d\n1806,5,12,x\n", 0,
+     "\ufeffy,m,d,y-m-d,y-m-d,gregorian,refusal\n1806,5,12,x,1806-5-12,1806-05-12,\n", ""),
+    ("--three y,m,x --all gregorian", "y,m,d\n", 1, "", lines("standard input: no column x: the columns are y, m, d")),
+    ("--three y,m,d --date x --all gregorian", "y,m,d\n", 1, "",
+     lines("standard input: no column x: the columns are y, m, d, y-m-d")),
+    ("--three y,m,d --all gregorian", "", 1, "", lines("standard input: no record with names")),
     # The mark of UTF-8, as Excel writes and wants it: one comes back, above a title too and before a list; of two the second
     # is of the first name, which it makes another; none comes back of a sheet that breaks off before anything is written.
     ("--date d --all gregorian --to gregorian", "\ufeffd\n1806-5-12\n", 0,

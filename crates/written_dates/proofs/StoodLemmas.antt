@@ -41,13 +41,15 @@ no_minus : (order : Order) (text : List ℕ) (runs : Runs) → unless_turned ord
     → runs_behind_minus (tokens 0 text) ≡ None
 no_minus order text runs e = rw (no_hyphen (bare (tokens 0 text)) runs (not_turned order _ runs e)) refl
 
+pub civil_stood : (choice : Choice) (calendar : Calendar) (names : List Name) (text : List ℕ) (runs : Runs)
+    → unless_turned choice.order (three_runs (tokens 0 text)) ≡ Some runs
+    → civil_text choice calendar names text ≡ stood choice calendar (joined runs.0 runs.1 runs.2) (numbers runs)
+civil_stood choice calendar names text runs e = rw (no_minus choice.order text runs e, e) refl
+
 pub stood_at_once : (choice : Choice) (calendar : Calendar) (names : List Name) (text : List ℕ) (runs : Runs)
     → unless_turned choice.order (three_runs (tokens 0 text)) ≡ Some runs
     → civil_text choice calendar names (dated_text choice calendar names text)
     ≡ stood choice calendar (joined runs.0 runs.1 runs.2) (numbers runs)
 stood_at_once choice calendar names text runs e =
-    rw (
-      dated_whole choice calendar names text (stands_dated choice calendar names text (rw e refl)),
-      no_minus choice.order text runs e,
-      e,
-    ) refl
+    rw (dated_whole choice calendar names text (stands_dated choice calendar names text (rw e refl)))
+    (civil_stood choice calendar names text runs e)

@@ -1,6 +1,6 @@
 //! What is written for a text.
 
-ghost use Rattle.std.specs.Prelude.{◌≡◌, ◌++◌, ◌∷◌, ◌+◌, OnOk, Option, Some};
+ghost use Rattle.std.specs.Prelude.{◌≡◌, ◌++◌, ◌∷◌, ◌+◌, OnOk, Option, Some, None, unwrap_or};
 ghost use Rattle.std.specs.Fmt.{decimal};
 ghost use Rattle.std.specs.List.{list_all};
 ghost use Rattle.written_dates.specs.Calendars.{form as form_spec};
@@ -446,7 +446,26 @@ pub fn push_stood(
     }
 }
 
-/// Appends what is written in a calendar with years, months and days.
+/// Appends what is written in a calendar with years, months and days for a text that is no date as registers have it, but
+/// that may stand behind a minus.
+fn push_unstood(
+    out: &mut Vec<u8>,
+    choice: &Choice,
+    calendar: Calendar,
+    names: &Names,
+    text: &[u8],
+) -> Result<(), AllocError>
+    ensures { OnOk result (unless_turned choice.now.order (runs_spec (tokens 0 text.now)) ≡ None
+        → out.new.items ≡ out.old.items ++ civil_text choice.now calendar names.now.listed.now text.now) }
+{
+    if let Some((year, month, day)) = runs_behind_minus(text) {
+        out.push(b'-')?;
+        return push_joined(out, year, month, day);
+    }
+    push_answer(out, text, answer_of(choice, calendar, names, text))
+}
+
+/// Appends what is written in such a calendar. Most dates of registers stand as they have them.
 fn push_civil(
     out: &mut Vec<u8>,
     choice: &Choice,
@@ -457,14 +476,10 @@ fn push_civil(
     ensures { OnOk result (out.new.items ≡ out.old.items
         ++ civil_text choice.now calendar names.now.listed.now text.now) }
 {
-    if let Some((year, month, day)) = runs_behind_minus(text) {
-        out.push(b'-')?;
-        return push_joined(out, year, month, day);
-    }
     if let Some((year, month, day)) = standing(choice.order, text) {
         return push_stood(out, choice, calendar, year, month, day);
     }
-    push_answer(out, text, answer_of(choice, calendar, names, text))
+    push_unstood(out, choice, calendar, names, text)
 }
 
 /// Appends what is written in such a calendar for a text without a time of day behind a date. Registers have no times, so
@@ -483,13 +498,10 @@ fn push_timeless(
     if let Some((year, month, day)) = standing(choice.order, text) {
         return push_stood(out, choice, calendar, year, month, day);
     }
-    push_civil(
-        out,
-        choice,
-        calendar,
-        names,
-        dated_text(choice, calendar, names, text),
-    )
+    match dated_before(choice, calendar, names, text) {
+        Some(before) => push_civil(out, choice, calendar, names, before),
+        None => push_unstood(out, choice, calendar, names, text),
+    }
 }
 
 /// Whether a date is found, if it be one whose short year is refused.
@@ -542,8 +554,24 @@ pub(crate) fn before_time<'a>(
     Some(before)
 }
 
-/// The text that is read: without a time of day behind a date.
+/// The date before a time of day.
 #[tactic(auto, unfolding(crate::specs::Written::dated_text))]
+fn dated_before<'a>(
+    choice: &Choice,
+    calendar: Calendar,
+    names: &Names,
+    text: &'a [u8],
+) -> Option<&'a [u8]>
+    ensures { unwrap_or (seen_text result) text.now ≡ dated_text_spec choice.now calendar names.now.listed.now text.now }
+{
+    let before = before_time(choice, calendar, names, text)?;
+    if is_dated(choice, calendar, names, before) {
+        return Some(before);
+    }
+    None
+}
+
+/// The text that is read: without a time of day behind a date.
 pub fn dated_text<'a>(
     choice: &Choice,
     calendar: Calendar,
@@ -552,9 +580,9 @@ pub fn dated_text<'a>(
 ) -> &'a [u8]
     ensures { result.now ≡ dated_text_spec choice.now calendar names.now.listed.now text.now }
 {
-    match before_time(choice, calendar, names, text) {
-        Some(before) if is_dated(choice, calendar, names, before) => before,
-        _ => text,
+    match dated_before(choice, calendar, names, text) {
+        Some(before) => before,
+        None => text,
     }
 }
 

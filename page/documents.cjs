@@ -1,5 +1,6 @@
-// A document, as far as the page needs one, for trials in Node: elements with their names, properties and events, that are
-// found by simple selectors, and what of it is to be seen, as lines of text. A browser has more: how it looks is tried there.
+// A document, as far as the page needs one, for trials in Node: elements with their names, properties and events, that
+// are found by simple selectors, and what of it is to be seen, as lines of text. A browser has more: how it looks is
+// tried there.
 'use strict';
 const crypto = require('crypto');
 
@@ -7,7 +8,8 @@ const VOID = new Set(['meta', 'link', 'input', 'br', 'img']);
 const FLAGS = ['hidden', 'disabled', 'checked', 'multiple', 'open'];
 // Properties that have another name than their attributes.
 const NAMES = { className: 'class', htmlFor: 'for', colSpan: 'colspan', tabIndex: 'tabindex' };
-const ATTRIBUTES = ['id', 'href', 'download', 'title', 'name', 'type', 'lang', 'label', 'scope', 'autocomplete', 'inputMode', 'max'];
+const ATTRIBUTES = ['id', 'href', 'download', 'title', 'name', 'type', 'lang', 'label', 'scope', 'autocomplete',
+  'inputMode', 'max'];
 
 class Text {
   constructor(data) {
@@ -46,14 +48,16 @@ function matches(element, selector) {
 
 class Element {
   constructor(localName, owner) {
-    Object.assign(this, { localName, owner, parentNode: null, childNodes: [], attributes: new Map(), listeners: [], own: {} });
+    Object.assign(this, { localName, owner, parentNode: null, childNodes: [], listeners: [], own: {} });
+    this.attributes = new Map();
     this.style = { setProperty: (name, value) => this.setAttribute('style', `${name}: ${value}`) };
     const keyOf = (key) => `data-${String(key)}`;
     this.dataset = new Proxy({}, {
       get: (_, key) => this.attributes.get(keyOf(key)),
       set: (_, key, value) => { this.setAttribute(keyOf(key), value); return true; },
       ownKeys: () => [...this.attributes.keys()].filter((key) => key.startsWith('data-')).map((key) => key.slice(5)),
-      getOwnPropertyDescriptor: (_, key) => ({ value: this.attributes.get(keyOf(key)), enumerable: true, configurable: true }),
+      getOwnPropertyDescriptor: (_, key) =>
+        ({ value: this.attributes.get(keyOf(key)), enumerable: true, configurable: true }),
     });
     const classes = () => this.className.split(' ').filter(Boolean);
     this.classList = {
@@ -99,7 +103,9 @@ class Element {
     return all[all.indexOf(this) + 1] || null;
   }
 
-  get isConnected() { return this === this.owner.documentElement || this.parentNode !== null && this.parentNode.isConnected; }
+  get isConnected() {
+    return this === this.owner.documentElement || this.parentNode !== null && this.parentNode.isConnected;
+  }
 
   get textContent() { return this.childNodes.map((it) => it.textContent).join(''); }
 
@@ -228,7 +234,8 @@ Object.defineProperty(Element.prototype, 'value', {
     return found ? found.own.value : '';
   },
   set(value) {
-    if (this.localName === 'select') this.own.chosen = this.querySelectorAll('option').find((it) => it.own.value === value) || null;
+    const isOne = (it) => it.own.value === value;
+    if (this.localName === 'select') this.own.chosen = this.querySelectorAll('option').find(isOne) || null;
     else this.own.value = String(value);
   },
 });
@@ -251,7 +258,8 @@ function documentOf(html) {
     documentElement: root, createElement: (name) => new Element(name, document),
     createElementNS: (space, name) => Object.assign(new Element(name, document), { space }),
     getElementById: (id) => root.named(id),
-    querySelector: (selector) => root.querySelector(selector), querySelectorAll: (selector) => root.querySelectorAll(selector),
+    querySelector: (selector) => root.querySelector(selector),
+    querySelectorAll: (selector) => root.querySelectorAll(selector),
     addEventListener: (kind, take) => document.listeners.push([kind, take]),
   });
   Object.defineProperty(document, 'activeElement', {
@@ -270,9 +278,10 @@ function markupOf(it) {
 // ---- What is to be seen ----
 
 const squeezed = (text) => text.replace(/\s+/g, ' ').trim();
-const OF_ARIA = ['role', 'aria-label', 'aria-pressed', 'aria-expanded', 'aria-invalid', 'aria-disabled', 'aria-labelledby',
-  'aria-controls', 'aria-describedby'];
-const SHOWN = ['for', 'href', 'download', 'colspan', 'scope', 'data-name', 'name', 'type', 'style', 'max', 'lang', 'tabindex'];
+const OF_ARIA = ['role', 'aria-label', 'aria-pressed', 'aria-expanded', 'aria-invalid', 'aria-disabled',
+  'aria-labelledby', 'aria-controls', 'aria-describedby'];
+const SHOWN = ['for', 'href', 'download', 'colspan', 'scope', 'data-name', 'name', 'type', 'style', 'max', 'lang',
+  'tabindex'];
 // What stands in a line with the text around it.
 const INLINE = new Set(['code']);
 // So long may a line be that has all of an element.
@@ -282,20 +291,24 @@ const MANY = 6;
 
 // What an element is, beside what is in it. A title is told where it is another than its text.
 function headOf(it) {
-  const said = OF_ARIA.filter((key) => it.attributes.has(key)).map((key) => `${key.replace('aria-', '')}=${it.getAttribute(key)}`);
-  const flags = ['disabled', 'open'].filter((key) => it.own[key]), title = it.title && it.title !== it.textContent ? `title=${it.title}` : '';
+  const said = OF_ARIA.filter((key) => it.attributes.has(key))
+    .map((key) => `${key.replace('aria-', '')}=${it.getAttribute(key)}`);
+  const flags = ['disabled', 'open'].filter((key) => it.own[key]);
+  const title = it.title && it.title !== it.textContent ? `title=${it.title}` : '';
   const kind = it.className ? `.${it.className.replace(/ /g, '.')}` : '';
   const own = SHOWN.filter((key) => it.attributes.has(key)).map((key) => `${key}=${it.getAttribute(key)}`);
   const values = it.localName === 'input' && /checkbox|radio/.test(it.type) ? [it.checked ? '[x]' : '[ ]', it.value]
     : it.localName === 'progress' ? [`value=${it.own.value ?? 'none'}`]
       : /input|textarea|select/.test(it.localName) ? [`= ${JSON.stringify(it.value)}`] : [];
-  return [it.localName + (it.id ? `#${it.id}` : '') + kind, title, ...own, ...said, ...flags, ...values].filter(Boolean).join(' ');
+  const name = it.localName + (it.id ? `#${it.id}` : '') + kind;
+  return [name, title, ...own, ...said, ...flags, ...values].filter(Boolean).join(' ');
 }
 
 // What a list offers: each option, and which of them are groups; of many the first and the last, and a digest.
 function offered(it) {
   const options = it.querySelectorAll('option').map((one) => `${one.value}: ${squeezed(one.textContent)}`);
-  const all = [...options, ...it.querySelectorAll('optgroup').map(({ label, children }) => `${label} (${children.length})`)];
+  const groups = it.querySelectorAll('optgroup').map(({ label, children }) => `${label} (${children.length})`);
+  const all = [...options, ...groups];
   if (all.length <= MANY) return ` of ${all.join(' | ')}`;
   const digest = crypto.createHash('sha256').update(all.join('\n')).digest('hex').slice(0, 8);
   return ` of ${all.length}: ${all[0]} | .. | ${all[all.length - 1]}, ${digest}`;

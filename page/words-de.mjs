@@ -332,9 +332,9 @@ export const WORDS = {
   binary: 'die Datei ist kein Text; speichern Sie ihre Tabelle als CSV UTF-8, oder kopieren Sie ihre Zellen und fügen Sie ' +
     'sie unter „Dateien“ ein',
   database: 'die Datei ist kein Text, sondern eine Datenbank (SQLite); speichern Sie ihre Tabelle als CSV UTF-8, ' +
-    'oder kopieren Sie ihre Zellen und fügen Sie sie in „Dateien“ ein',
+    'oder kopieren Sie ihre Zellen und fügen Sie sie unter „Dateien“ ein',
   pdf: 'die Datei ist kein Text, sondern ein PDF; kopieren Sie ihre Tabelle in eine Tabellenkalkulation und ' +
-    'speichern Sie diese als CSV UTF-8, oder kopieren Sie ihre Zellen und fügen Sie sie in „Dateien“ ein',
+    'speichern Sie diese als CSV UTF-8, oder kopieren Sie ihre Zellen und fügen Sie sie unter „Dateien“ ein',
   utf16: 'die Datei ist in UTF-16 geschrieben und ein Register in UTF-8; behandeln Sie sie oben als Tabellenblatt, oder ' +
     'speichern Sie sie als CSV UTF-8',
   tree: 'die Datei ist ein Stammbaum (GEDCOM); wählen Sie das oben bei der Datei',
@@ -558,8 +558,8 @@ export const WORDS = {
   tooManyNames: (n) => `Weitere, in ${WORDS.datesOf(n)}, sind nicht gezeigt: Sind das die richtigen Spalten?`,
   leave: 'offen lassen',
   noCalendarThere: 'Wo kein Kalender steht',
-  noCalendarThereIs: 'In Einträgen, deren Feld für den Kalender leer ist, und in Spalten mit Daten, deren Kalender hier steht.',
-  refuseEmpty: 'nichts: diese Daten werden abgelehnt',
+  noCalendarThereIs: 'In Einträgen, deren Feld für den Kalender leer ist, und in Datumsspalten, deren Kalender hier steht.',
+  refuseEmpty: 'nichts: diese Datumsangaben werden abgelehnt',
   asEmpty: 'wie unten gewählt: ein Wechsel des Kalenders, oder beide Stile',
   bothStyles: 'beide Stile, wie 10./22. Januar 1863',
   changes: 'Der julianische, und von einem Tag an der gregorianische',

@@ -355,7 +355,7 @@ export const WORDS = {
     'entries.',
   strokesAre: 'A stroke below the bars stands for what is no single day, from its first day to its last; an arrow for an ' +
     'end that is open, or far from the others.',
-  gapIs: 'A gap is longer than a year, and five times as long as lies between two entries on the average; at most ' +
+  gapIs: 'A gap is longer than a year, and over five times as long as lies between two entries on the average; at most ' +
     'five are shown.',
   farIs: 'An entry is far from the others that is further from the middle four fifths of them than these are long, ' +
     'and than 50 years. It may be right, or a slip.',

@@ -107,4 +107,5 @@ async function page(processors = 4) {
 
 module.exports = {
   COMMA, NONE, SEMICOLON, asker, changing, choiceOf, file, linesOf, load, page, source, unreadable, useModule, waiting,
+  workerMaker,
 };

@@ -1,0 +1,2 @@
+-- RecordLemmas serves `joined_sheet`.
+pub mod RecordLemmas

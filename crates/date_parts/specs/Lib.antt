@@ -1,0 +1,2 @@
+pub mod JoinedDates
+pub mod SheetViews

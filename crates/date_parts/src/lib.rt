@@ -1,0 +1,10 @@
+//! Sheets whose dates stand in three columns, with their years, months and days: the same sheet with one column more, of
+//! the dates.
+#![tactic(auto)]
+
+mod joining;
+mod places;
+mod sheets;
+
+pub use joining::joined_sheet;
+pub use places::DatePlaces;

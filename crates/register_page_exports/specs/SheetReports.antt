@@ -3,6 +3,7 @@ use Rattle.std.specs.Prelude.{◌≡◌, ◌⊎◌, ℕ, List, map, length}
 use Rattle.std.specs.List.{concat}
 use Rattle.register_records.specs.Entries.{Fields}
 use Rattle.register_page.specs.Rooms.{with_front}
+use Rattle.date_parts.specs.declared.places.DatePlaces.{DatePlaces}
 use Rattle.register_sheets.specs.Sheets.{widest}
 use Rattle.record_texts.specs.Picks.{all_chosen}
 use Rattle.register_page_exports.specs.declared.sheets.PickReport.{PickReport}
@@ -10,6 +11,10 @@ use Rattle.register_page_exports.specs.declared.sheets.PickReport.{PickReport}
 -- this text was put to the front of the room, and its length is reported
 abbrev pub PutsText : List ℕ → List ℕ → List ℕ → ℕ → Type 0
 PutsText text old new reported = (reported ≡ length text) × (new ≡ with_front text old)
+
+-- the places of the columns with years, months and days
+abbrev pub places_of : ℕ → ℕ → ℕ → DatePlaces
+places_of year month day = record { year = year; month = month; day = day }
 
 -- the fields at these places of these records were put to the front of the rooms, and their numbers are reported
 pub record PutsFields (places : List ℕ) (records : List Fields) (bytes_old bytes_new : List ℕ)

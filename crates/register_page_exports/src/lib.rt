@@ -11,6 +11,7 @@ mod choices;
 pub mod dates;
 pub mod days;
 pub mod orders;
+pub mod parts;
 pub mod sheet_tables;
 pub mod sheets;
 pub mod trees;

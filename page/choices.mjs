@@ -14,6 +14,8 @@ const SPANS_AT = 7;
 export const DATES_AT = 8;
 // What the file of choices begins with.
 const KIND = 'choices of a sheet';
+/** No columns with years, months and days are chosen. */
+export const NO_THREE = ['', '', ''];
 
 /**
  * Columns are places, from 0. `date` is '' where none is chosen yet, and `calendar` too, which is a column or the name of
@@ -34,6 +36,9 @@ export const noPicks = () => ({
   id: '-1', dates: [{ date: '', calendar: '' }], order: 'year', short: 'refuse', hebrew: 'refuse', charters: false,
   spans: false, edtf: false, names: [],
 });
+
+/** Whether the columns with years, months and days are all chosen, each another: then there is one of their dates. */
+export const isThree = (three) => Boolean(three) && !three.includes('') && new Set(three).size === 3;
 
 /**
  * How dates are read, whatever columns they stand in.
@@ -112,10 +117,11 @@ function calendarCalled(heading, calendar) {
 }
 
 /** The choices as a text that can be read and kept. */
-export function choicesText({ encoding, delimiter, above }, heading, picks, columns) {
+export function choicesText({ encoding, delimiter, above, three }, heading, picks, columns) {
   const { id, dates, order, short, hebrew, charters, spans, edtf, names } = picks;
   return `${JSON.stringify({
     what: KIND, encoding, delimiter: DELIMITERS.find(([, byte]) => byte === delimiter)[0], 'records above the names': above,
+    ...(isThree(three) ? { 'year, month and day': three.map((it) => columnCalled(heading, it)) } : {}),
     dates: dates.filter(({ date }) => date !== '').map(({ date, calendar }) =>
       ({ ...columnCalled(heading, date), ...calendarCalled(heading, calendar) })),
     id: Number(id) < 0 ? 'number of the record' : columnCalled(heading, id),
@@ -147,6 +153,7 @@ export function choicesOf(text) {
   return {
     encoding: either(kept.encoding, isText, null), delimiter,
     above: either(kept['records above the names'], (it) => Number.isInteger(it) && it >= 0, null),
+    three: either(kept['year, month and day'], (it) => listOf(it).length === 3 && it.every(isColumnCalled), null),
     dates: listOf(kept.dates).filter(isColumnCalled).slice(0, MOST_DATES),
     id: either(kept.id, isColumnCalled, null),
     order: either(kept.order, (it) => ORDERS.includes(it), own.order),
@@ -165,6 +172,12 @@ export function choicesOf(text) {
 function placeOf(heading, { column, number = 1 }) {
   const places = heading.flatMap((name, i) => (name === column ? [i] : []));
   return places.length < number ? null : String(places[number - 1]);
+}
+
+/** The kept columns with years, months and days, in a sheet with this heading: none where it does not have all of them. */
+export function threeIn({ three }, heading) {
+  const places = (three || []).map((it) => placeOf(heading, it));
+  return isThree(places) && !places.includes(null) ? places : NO_THREE;
 }
 
 /**

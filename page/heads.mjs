@@ -36,14 +36,20 @@ const isOnly = (list) => (head) => {
 const nearest = (columns, place) => [...columns].sort((one, other) =>
   Math.abs(one - place) - Math.abs(other - place) || other - one)[0];
 
-/** What is proposed for a sheet with this heading: its columns of dates, each with one of calendars, and that of ids. */
-export function likelyPicks(heading) {
-  const among = (isOne) => heading.flatMap((head, i) => (isOne(head) ? [i] : []));
+/**
+ * What is proposed for a sheet with this heading: its columns of dates, each with one of calendars, and that of ids. Where
+ * `three` have years, months and days, none of these is one of dates, and that at the place `joined` is.
+ * @param {string[]} three
+ * @param {number | null} joined
+ */
+export function likelyPicks(heading, three = [], joined = null) {
+  const among = (isOne) => heading.flatMap((head, i) => (isOne(head, i) ? [i] : []));
   const ofCalendars = among(names(calendars)), hasParts = heading.some(isOnly(parts));
   const isOther = (head) => names(calendars)(head) || names(others)(head) || (hasParts && isOnly(days)(head));
-  const isDate = (head) => names(dates)(head) && !isOther(head);
+  const isDate = (head, i) => i === joined || (names(dates)(head) && !isOther(head) && !three.includes(String(i)));
+  const calendarOf = (place) => (ofCalendars.length ? String(nearest(ofCalendars, place)) : '');
   const found = among(isDate).slice(0, MOST_DATES).map((date) =>
-    ({ date: String(date), calendar: ofCalendars.length ? String(nearest(ofCalendars, date)) : '' }));
+    ({ date: String(date), calendar: calendarOf(date === joined ? Number(three[0]) : date) }));
   const [id] = among(isOnly(ids)), proposed = noPicks();
   return { ...proposed, dates: found.length ? found : proposed.dates, id: id === undefined ? proposed.id : String(id) };
 }

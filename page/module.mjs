@@ -469,6 +469,18 @@ export class Module {
     return text;
   }
 
+  /**
+   * The sheet with one column more behind all others, of the dates whose years, months and days stand in these three columns.
+   * @param {Part} text
+   * @param {number[]} three
+   */
+  joinedDates(text, delimiter, above, three) {
+    const { ending, text: joined } = this.makeFrom('joined_dates', 0, [text, delimiter, above, ...three], [],
+      PAGE + text.length + Math.ceil(text.length / 4));
+    if (ending !== 0) throw new NoMemory();
+    return joined;
+  }
+
   /** A CSV text of the fields, of which each `width` are a record. */
   write(fields, width, delimiter) {
     return this.makeText('sheet_write', fields, (bytes, lengths) => [bytes, lengths, BigInt(width), delimiter]);

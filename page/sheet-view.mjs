@@ -1,7 +1,7 @@
 // Draws the sheet, and takes what is chosen.
 
 import { BESIDE, CALENDARS } from './calendars.mjs';
-import { AS_EMPTY, MOST_DATES, changeOf, dayOfChange, isColumn, meantByEmpty } from './choices.mjs';
+import { AS_EMPTY, MOST_DATES, NO_THREE, changeOf, dayOfChange, isColumn, meantByEmpty } from './choices.mjs';
 import {
   byId, check, clear, columnTicks, drawPart, drawReport, drawRunning, element, onCheck, option, saveBlob, setText, tableBox,
   textOf, whenChanged, withFocus, wordsIn,
@@ -12,8 +12,8 @@ import {
   sheetReport, sheetStatus, sheetSummary, sheetTable, sheetTitles,
 } from './reports.mjs';
 import {
-  beginning, columnsChosen, dateAdded, datePicked, dateRemoved, isRunning, missing, namePicked, picked, pictureWanted,
-  registerWanted, saved, shownPreview, shownRun, shownUnknown, sortWanted, sourceChosen, started, stopped, wronglyTyped,
+  beginning, columnsChosen, dateAdded, datePicked, dateRemoved, isRunning, missing, namePicked, partChosen, partColumns, picked,
+  pictureWanted, registerWanted, saved, shownPreview, shownRun, shownUnknown, sortWanted, sourceChosen, started, stopped, wronglyTyped,
 } from './sheet.mjs';
 import { WORDS } from './language.mjs';
 
@@ -180,6 +180,9 @@ function takeSource(step) {
     // What is typed wrongly does not stay beside what was read with another number.
     target.value = above === null ? '' : String(above);
   });
+  NO_THREE.forEach((_, place) => {
+    byId(`sheet-three-${place}`).addEventListener('change', ({ target }) => step(partChosen, place, target.value));
+  });
   byId('sheet-page').addEventListener('change', ({ target }) => step(sourceChosen, { page: Number(target.value) }));
   byId('sheet-file-dates').addEventListener('change', ({ target }) => step(sourceChosen, { hasFileDates: target.checked }));
 }
@@ -217,6 +220,18 @@ function drawSource({ encoding, delimiter, above, hasFileDates }) {
   byId('sheet-above').value = above === null ? '' : String(above);
 }
 
+// Choices among the columns of a sheet that was read; while it is read again for them they stay.
+function drawThree(state) {
+  if (state.begins === null && state.stays) return;
+  const columns = partColumns(state);
+  byId('sheet-three-field').hidden = columns.length === 0;
+  (state.source.three || NO_THREE).forEach((column, place) => {
+    const select = byId(`sheet-three-${place}`);
+    select.replaceChildren(option(WORDS.none, ''), ...columnOptions(columns));
+    select.value = column;
+  });
+}
+
 function drawBeginning(state) {
   const first = beginning(state), table = sheetTable(state);
   byId('sheet-rows').replaceChildren(...(table === null ? [] : [tableBox(table)]));
@@ -230,6 +245,7 @@ function drawBeginning(state) {
   byId('sheet-tree-choices').hidden = first === null || !first.isOfTree;
   // What is missing is to be seen.
   if (state.begins !== null && (first === null || missing(state))) byId('sheet-fold').open = true;
+  drawThree(state);
   if (first !== null) {
     byId('sheet-id').replaceChildren(option(WORDS.rowNumber, '-1'), ...columnOptions(first.heading));
   }

@@ -2,7 +2,8 @@
 // its conversion. Each step takes the state and gives the next.
 
 import {
-  MOST_DATES, choicesOf, choicesText, endsOf, fitted, isColumn, lacksMeaning, namesText, noPicks, numbersOf, rulesOf, widthOf,
+  MOST_DATES, NO_THREE, choicesOf, choicesText, endsOf, fitted, isColumn, isThree, lacksMeaning, namesText, noPicks, numbersOf,
+  rulesOf, widthOf,
 } from './choices.mjs';
 import { isSameFile } from './files.mjs';
 import { likelyPicks } from './heads.mjs';
@@ -21,10 +22,13 @@ export const MOST_BYTES = 2 ** 28;
  * `columns` or `source` holds what it came from. `gathered` has what a picture shows of the first columns of dates, whose days
  * take long to find: at the same time as the conversion where the state `isEarly`, once its text is `told`. `given` is the
  * number of the sheet among what was given and what it is taken for, and `held` has what was chosen for others by theirs,
- * and what came of it: it is there again when one comes back to them. Readings are numbered through all sheets.
+ * and what came of it: it is there again when one comes back to them. Readings are numbered through all sheets. `three` are
+ * the columns with years, months and days, of which the sheet has one more; where one of these is chosen, `stays` says that
+ * the other columns are read again as they were.
  * @typedef {import('./choices.mjs').Picks} Picks
  * @typedef {{ encoding: string | null, delimiter: number | null, above: number | null }} Proposed
- * @typedef {{ file: File | null, isTree: boolean | null, hasFileDates: boolean, page: number | null } & Proposed} Source
+ * @typedef {{ file: File | null, isTree: boolean | null, hasFileDates: boolean, page: number | null, three: string[] | null }
+ *   & Proposed} Source
  * @typedef {{ source: Source, picks: Picks, columns: string[], status: 'runs' | 'ended' | 'stopped', key: string,
  *   reply: any, told: any, isSaved: boolean, gathered: any[], sorted: { place: number, reply: any } | null,
  *   registers: Record<number, { reply: any }>, pictures: Record<number, { reply: any }> }} Run
@@ -32,11 +36,14 @@ export const MOST_BYTES = 2 ** 28;
  * @typedef {{ source: Source, proposed: Proposed, kept: { file: File, choices: any, isFilled: boolean } | null,
  *   fit: { absent: string[], other: string[] } | null, reading: number, begins: any, picks: Picks, columns: string[],
  *   unknown: any, orders: any, listed: Listed[], preview: any, run: Run | null, runs: number, worker: number, notice: string,
- *   isEarly: boolean, given: { number: number, as: string } | null, held: Record<string, any>, readings: number }} SheetState
+ *   isEarly: boolean, given: { number: number, as: string } | null, held: Record<string, any>, readings: number,
+ *   stays: boolean }} SheetState
  */
 
 /** @type {Proposed} */
 const NOTHING = { encoding: null, delimiter: null, above: null };
+// A sheet of which nothing is chosen.
+const ANEW = { ...NOTHING, three: null };
 
 /**
  * `processors` says how many workers can be busy at the same time.
@@ -44,11 +51,11 @@ const NOTHING = { encoding: null, delimiter: null, above: null };
  */
 export function initial(processors) {
   return {
-    source: { file: null, isTree: null, hasFileDates: false, page: null, encoding: 'utf-8', delimiter: 44, above: 0 },
+    source: { file: null, isTree: null, hasFileDates: false, page: null, three: null, encoding: 'utf-8', delimiter: 44, above: 0 },
     proposed: NOTHING, kept: null, fit: null,
     reading: 0, begins: null, picks: noPicks(), columns: ['weekday', 'gregorian'], unknown: null, orders: null, listed: [],
     preview: null, run: null, runs: 0, worker: 0, notice: '',
-    isEarly: isEarlyBy(processors), given: null, held: {}, readings: 0,
+    isEarly: isEarlyBy(processors), given: null, held: {}, readings: 0, stays: false,
   };
 }
 
@@ -67,19 +74,37 @@ export const isRunning = ({ run }) => run !== null && run.status === 'runs';
 // What is chosen of the columns is proposed anew; what holds for the same file stays.
 function readAnew(state, source) {
   const reading = state.readings + 1;
-  return { ...state, source, reading, readings: reading, worker: state.worker + 1, begins: null, fit: null, notice: '' };
+  return {
+    ...state, source, reading, readings: reading, worker: state.worker + 1, begins: null, fit: null, notice: '', stays: false,
+  };
 }
 
 /**
  * An encoding, a delimiter or the number of records above the names is chosen: the columns are to be chosen again. For
- * records above the names the file is not read again.
+ * records above the names the file is not read again, unless it has the dates of three columns. With another delimiter these
+ * are others.
  * @param {SheetState} state
  * @returns {SheetState}
  */
 export function sourceChosen(state, change) {
   if (isRunning(state)) return { ...state, notice: 'stopFirst' };
-  const source = { ...state.source, ...('page' in change ? NOTHING : {}), ...change };
-  return 'above' in change ? { ...state, source, begins: null, fit: null, notice: '' } : readAnew(state, source);
+  const others = 'page' in change ? ANEW : 'delimiter' in change ? { three: null } : {};
+  const source = { ...state.source, ...others, ...change };
+  if ('above' in change && !isThree(source.three)) return { ...state, source, begins: null, fit: null, notice: '', stays: false };
+  return readAnew(state, source);
+}
+
+/**
+ * The column with years, months or days is chosen, by its place among these three. Where all are chosen, or were, the sheet is
+ * read again, with a column of their dates or without.
+ * @param {SheetState} state
+ * @returns {SheetState}
+ */
+export function partChosen(state, place, column) {
+  if (isRunning(state)) return { ...state, notice: 'stopFirst' };
+  const { three: before } = state.source, three = (before || NO_THREE).map((it, i) => (i === place ? column : it));
+  const source = { ...state.source, three };
+  return isThree(before) || isThree(three) ? { ...readAnew(state, source), stays: true } : { ...state, source, notice: '' };
 }
 
 /**
@@ -132,7 +157,7 @@ export function fileChosen(state, given) {
   const next = { ...state, held, given: given && number !== undefined ? { number, as } : null };
   if (own && isSameFile(own.source.file, file)) return { ...next, ...own, worker: state.worker + 1, notice: '' };
   const { hasFileDates, page } = own ? own.source : { hasFileDates: false, page: null };
-  const source = { file, isTree: as === undefined ? null : as === 'tree', hasFileDates, page, ...(proposed || NOTHING) };
+  const source = { file, isTree: as === undefined ? null : as === 'tree', hasFileDates, page, ...ANEW, ...proposed };
   const waits = state.source.file === null ? state.kept : null, choices = own ? ownChoices(own) : null;
   if (choices === null) return chosenAnew(next, source, waits);
   return { ...chosenAnew(next, source, { file: own.source.file, choices, isFilled: false }), columns: own.columns };
@@ -147,7 +172,7 @@ export function fileChosen(state, given) {
 export function choicesChosen(state, file) {
   if (isRunning(state)) return { ...state, notice: 'stopFirst' };
   const { file: ownFile, isTree, hasFileDates, page } = state.source;
-  const own = { file: ownFile, isTree, hasFileDates, page, ...NOTHING };
+  const own = { file: ownFile, isTree, hasFileDates, page, ...ANEW };
   return chosenAnew(state, own, { file, choices: null, isFilled: false });
 }
 
@@ -240,6 +265,13 @@ export function shownProposed({ source, proposed }) {
 /** How the sheet begins, or null while that is not known. */
 export const beginning = ({ begins }) => (begins !== null && begins.reply.answer && begins.reply.answer.records > 0 ?
   begins.reply.answer : null);
+
+/** The columns among which those with years, months and days are chosen: the sheet's own, unless these are fewer than three. */
+export function partColumns(state) {
+  const { heading, isOfTree, joined } = beginning(state) || { heading: [], isOfTree: false, joined: null };
+  const own = heading.slice(0, joined ?? heading.length);
+  return isOfTree || own.length < NO_THREE.length ? [] : own;
+}
 
 /** The first choice that is missing, and of which column of dates; or null. */
 export function missing({ picks }) {
@@ -446,10 +478,25 @@ function runReplied(state, reply) {
 const listedNames = ({ names }) => names.filter(({ name, where }) => name !== '' || where !== '')
   .map(({ name, where }) => ({ name, where, count: null }));
 
+// The columns that were chosen of a sheet, but for that of the dates of three columns, which is chosen where it is there now.
+function columnsStay(picks, { heading, three, joined }, proposed) {
+  const own = joined ?? heading.length, isOwn = (column) => !isColumn(column) || Number(column) < own;
+  const calendarOf = ({ calendar }) => (isOwn(calendar) ? calendar : ''), isPart = (date) => joined !== null && three.includes(date);
+  const stay = picks.dates.filter(({ date }) => date !== '' && isOwn(date) && !isPart(date))
+    .map((it) => ({ ...it, calendar: calendarOf(it) }));
+  const last = calendarOf(picks.dates[picks.dates.length - 1]);
+  const more = proposed.dates.filter(({ date }) => joined !== null && date === String(joined))
+    .map((it) => ({ ...it, calendar: last || it.calendar }));
+  const dates = [...stay, ...more].slice(0, MOST_DATES);
+  return { ...picks, id: isOwn(picks.id) ? picks.id : '-1', dates: dates.length ? dates : proposed.dates };
+}
+
 // The columns, as they are proposed by their names or were kept. What was chosen for the dates of this file stays. In a
 // family tree the day stands first.
-function columnsProposed(state, { heading, encoding, delimiter, isOfTree }) {
-  const { kept, picks } = state, rules = rulesOf(picks), proposed = likelyPicks(heading);
+function columnsProposed(state, answer) {
+  const { heading, encoding, delimiter, isOfTree, three, joined } = answer, { kept, picks } = state, rules = rulesOf(picks);
+  const proposed = likelyPicks(heading, joined === null ? [] : three, joined);
+  if (state.stays) return { ...state, picks: columnsStay(picks, answer, proposed) };
   if (kept === null) {
     const own = { ...proposed, ...rules, order: isOfTree ? 'day' : rules.order };
     return { ...state, picks: own, listed: listedNames(own), fit: null };
@@ -464,8 +511,8 @@ function columnsProposed(state, { heading, encoding, delimiter, isOfTree }) {
 function readingReplied(state, reply) {
   const { source, proposed } = state, begins = { reply };
   if (reply.fault) return { ...state, begins };
-  const { encoding, delimiter, above } = reply.answer;
-  const found = { encoding, delimiter, above }, ofNow = { ...source, ...found };
+  const { encoding, delimiter, above, three } = reply.answer;
+  const found = { encoding, delimiter, above }, ofNow = { ...source, ...found, three: source.three ?? three };
   const lookOf = (name) => (source[name] === null ? found[name] : proposed[name]);
   const looks = { encoding: lookOf('encoding'), delimiter: lookOf('delimiter'), above: lookOf('above') };
   return { ...columnsProposed(state, reply.answer), begins, source: ofNow, proposed: looks };

@@ -393,6 +393,33 @@ class SheetTrials:
         self.check("the sheet of a workbook that is chosen", ["One", "Two", "1"], self.page.run(shown))
         self.open()
 
+    def try_three(self):
+        """Where year, month and day stand in columns of their own, these are chosen, and a column of their dates comes."""
+        self.open()
+        is_shown = "return document.querySelector('#sheet-three').checkVisibility()"
+        self.give(self.file("two.csv", "Jahr,Tag\n1806,1\n"))
+        self.wait_for_sheet()
+        self.check("two columns have no three", False, self.page.run(is_shown))
+        self.give(self.file("three.csv", "Tag,Monat,Jahr,Stil\n12,5,1806,julian\n,Mai,1807,julian\n"))
+        wait_for("the sheet", lambda: "2 records of 4 columns" in self.text("#sheet-said"))
+        options = "return [...document.querySelectorAll('#sheet-three select')].map(({ value, options }) => [value, options.length])"
+        self.check("none of three is chosen", (True, [["", 5]] * 3), (self.page.run(is_shown), self.page.run(options)))
+        self.choose("#sheet-three-0", "2")
+        self.choose("#sheet-three-1", "1")
+        self.page.run("document.querySelector('#sheet-three-2').focus()")
+        self.page.press("\ue015")
+        wait_for("the column of dates", lambda: "1806-5-12" in (self.text("#sheet-rows") or ""))
+        self.check("the keys stay at the last of three", "sheet-three-2", self.page.run("return document.activeElement.id"))
+        self.check("three that are chosen", [["2", 5], ["1", 5], ["0", 5]], self.page.run(options))
+        chosen = "return ['date', 'calendar'].map((it) => document.querySelector(`#sheet-${it}-0`).value)"
+        self.check("their dates are dates", ["4", "3"], self.page.run(chosen))
+        self.wait_for_counts()
+        self.convert_sheet()
+        lines = self.save("#sheet-results", 1)["three.dates.csv"].removeprefix(MARK).decode().split("\n")
+        self.check("dates of three columns", ["Tag,Monat,Jahr,Stil,Jahr-Monat-Tag,weekday,gregorian,refusal",
+            "12,5,1806,julian,1806-5-12,Saturday,1806-05-24,", ",Mai,1807,julian,Mai 1807,,,5", ""], lines)
+        self.open()
+
     def try_sorted(self):
         """A family tree comes back by the days of its dates where that is chosen, by keys, and stays so when it is saved."""
         self.open()

@@ -510,6 +510,12 @@ export const WORDS = {
   sheetUnread: 'das Tabellenblatt konnte nicht gelesen werden',
   noNames: 'für die Spaltennamen bleibt keine Zeile: Geben Sie weniger Zeilen davor an',
   onlyFirst: (n) => `Nur die ersten ${n} Spalten können gewählt werden.`,
+  three: 'Jahr, Monat und Tag in eigenen Spalten',
+  threeIs: 'Wo Sie alle drei auswählen, kommt hinter die anderen eine Spalte mit ihren Daten, wie `1806-5-12`, `12 Mai 1806` ' +
+    'oder `Mai 1806`.',
+  yearColumn: 'Jahr',
+  monthColumn: 'Monat',
+  dayColumn: 'Tag',
   dates: 'Datumsspalten',
   datesIs: 'Jede mit der Spalte, in der ihre Kalender stehen, oder mit einem Kalender für alle Zeilen.',
   dateColumn: (k, all) => (all === 1 ? 'Datum' : `Datum ${k}`),

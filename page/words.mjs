@@ -487,6 +487,12 @@ export const WORDS = {
   sheetUnread: 'the sheet could not be read',
   noNames: 'no line is left for the names of the columns: let fewer stand above them',
   onlyFirst: (n) => `Only the first ${n} columns can be chosen.`,
+  three: 'Year, month and day in columns of their own',
+  threeIs: 'Where you choose all three, a column of their dates comes behind the others, as `1806-5-12`, `12 Mai 1806` or ' +
+    '`Mai 1806`.',
+  yearColumn: 'Year',
+  monthColumn: 'Month',
+  dayColumn: 'Day',
   dates: 'Columns with dates',
   datesIs: 'Each with the column that has its calendars, or with one calendar for all.',
   dateColumn: (k, all) => (all === 1 ? 'Date' : `Date ${k}`),

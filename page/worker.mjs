@@ -2,7 +2,7 @@
 
 import { TooLarge, archiveOf } from './archive.mjs';
 import { TARGETS } from './calendars.mjs';
-import { DATES_AT, choicesOf, columnNumbers, spansIn, widthOf, withSpans } from './choices.mjs';
+import { DATES_AT, NO_THREE, choicesOf, columnNumbers, isThree, spansIn, threeIn, widthOf, withSpans } from './choices.mjs';
 import { ChangedFile, NoReading, checkUnchanged, readFile } from './files.mjs';
 import { formulasAmong } from './formulas.mjs';
 import { NO_DAY, NoMemory, expectedLength, instantiate } from './module.mjs';
@@ -236,9 +236,11 @@ async function picture({ compiled, text, delimiter, sealed }) {
 
 /**
  * What a sheet is read from: `number` is that of the reading. An encoding, a delimiter or a number of records above the
- * names that is null is to be proposed, by `kept` choices where they fit, and so is whether it is a family tree.
+ * names that is null is to be proposed, by `kept` choices where they fit, and so is whether it is a family tree. `three` are
+ * the columns with years, months and days, or null where they are those of `kept` choices.
  * @typedef {{ compiled: WebAssembly.Module, number: number, file: File, isTree?: boolean | null, encoding: string | null,
- *   delimiter: number | null, above: number | null, kept: any, hasFileDates?: boolean, page?: number | null }} Source
+ *   delimiter: number | null, above: number | null, kept: any, hasFileDates?: boolean, page?: number | null,
+ *   three?: string[] | null }} Source
  */
 
 // The sheet that was read last, in the module's memory.
@@ -315,14 +317,12 @@ function delimiterOf(front, { delimiter, kept }) {
 async function readBook(module, { raw, bytesAt }, { number, file, page }) {
   const { pages, width, fields } = await cellsOf(module.bytes(raw).slice(), page || 0);
   const text = fields.length ? module.write(fields, width, TAB) : module.put(new Uint8Array());
-  sheet = { number, file, bytesAt, module, text, front: frontOf(module, text), encoding: 'utf-8', delimiter: TAB, isOfTree: false,
-    book: { pages, page: page || 0 }, counted: null };
-  return sheet;
+  return { number, file, bytesAt, module, text, front: frontOf(module, text), encoding: 'utf-8', delimiter: TAB, isOfTree: false,
+    book: { pages, page: page || 0 } };
 }
 
-/** @param {Source} source */
-async function readSheet({ compiled, number, file, encoding: chosen, ...source }) {
-  sheet = null;
+// The sheet as it is in its file.
+async function readOwn({ compiled, number, file, encoding: chosen, ...source }) {
   const module = await instantiate(compiled), read = await rawOf(module, file);
   const kind = kindOf(read.bytesAt(0, read.raw.length));
   if (kind === 'workbook') return readBook(module, read, { number, file, page: source.page });
@@ -334,8 +334,17 @@ async function readSheet({ compiled, number, file, encoding: chosen, ...source }
   const text = isOfTree ? datesOfTree(module, own, source.hasFileDates) : own;
   const front = isOfTree ? frontOf(module, text) : beginning;
   const delimiter = isOfTree ? COMMA : delimiterOf(front, source);
-  const { bytesAt } = read, how = { number, file, bytesAt, module, text, front, encoding, delimiter, isOfTree };
-  sheet = { ...how, counted: null };
+  const { bytesAt } = read;
+  return { number, file, bytesAt, module, text, front, encoding, delimiter, isOfTree };
+}
+
+/** @param {Source} source */
+async function readSheet(source) {
+  sheet = null;
+  const own = await readOwn(source), above = aboveOf(own, source), three = threeOf(own, above, source);
+  const { module, delimiter } = own, isJoined = isThree(three);
+  const text = isJoined ? module.joinedDates(own.text, delimiter, above, three.map(Number)) : own.text;
+  sheet = { ...own, text, above, three, counted: null };
   return sheet;
 }
 
@@ -368,30 +377,45 @@ function ownDates(bytes, lengths) {
 // The sheet of this reading, which a new worker reads again.
 const sheetOf = async (source) => (sheet && sheet.number === source.number ? sheet : readSheet(source));
 
-// The first records and columns of a sheet under its names, and what stands above these.
-function begins({ module, text, encoding, delimiter, isOfTree, book = {} }, above, records, widest) {
-  const width = Math.max(1, Math.min(widest, MOST_COLUMNS));
+// A column of the dates of three others stands behind all, so that no fewer are looked at.
+const mostOf = ({ three }, most) => (isThree(three) ? Infinity : most);
+
+// The first records and columns of a sheet under its names, and what stands above these; and where the dates of three columns
+// stand, or null.
+function begins({ module, text, encoding, delimiter, isOfTree, three = NO_THREE, book = {} }, above, records, widest) {
+  const width = Math.max(1, Math.min(widest, mostOf({ three }, MOST_COLUMNS)));
   const first = rowsOf(module.pick(text, delimiter, range(width), above + SHOWN + 1).fields, width);
   const titles = first.slice(0, Math.min(above, SHOWN)).map((fields) => fields.filter(Boolean).join(' '));
   const [heading = [], ...rows] = first.slice(above);
-  return { encoding, delimiter, above, records, widest, heading, rows, titles, isOfTree, ...book };
+  // The name of that column is the last, and is never empty.
+  const joined = isThree(three) && heading.length ? heading.map(Boolean).lastIndexOf(true) : null;
+  return { encoding, delimiter, above, records, widest, heading, rows, titles, isOfTree, three, joined, ...book };
+}
+
+// The names of the columns of a sheet.
+const headingOf = (read, above) => begins({ ...read, three: NO_THREE }, above, 0, MOST_COLUMNS).heading;
+
+// The three columns with years, months and days that are chosen, or were kept.
+function threeOf(read, above, { three, kept }) {
+  if (read.isOfTree) return NO_THREE;
+  return three ?? (kept ? threeIn(kept, headingOf(read, above)) : NO_THREE);
 }
 
 // The records above the names, so many as were chosen, or kept where a column that was kept has its name below, or are
 // likely.
-function aboveOf({ module, text, delimiter, front, isOfTree }, { above, kept }) {
+function aboveOf(read, { above, kept }) {
   if (above !== null) return above;
-  if (isOfTree) return 0;
+  if (read.isOfTree) return 0;
   if (kept && kept.above !== null) {
-    const { heading } = begins({ module, text, encoding: '', delimiter, isOfTree }, kept.above, 0, MOST_COLUMNS);
-    if (kept.dates.some(({ column }) => heading.includes(column))) return kept.above;
+    const heading = headingOf(read, kept.above);
+    if ([...kept.dates, ...(kept.three || [])].some(({ column }) => heading.includes(column))) return kept.above;
   }
-  return likelyAbove(front, delimiter);
+  return likelyAbove(read.front, read.delimiter);
 }
 
 /** How a sheet begins, and how it was read. */
 async function beginning(source) {
-  const read = await sheetOf(source), above = aboveOf(read, source);
+  const read = await sheetOf(source), above = source.above ?? read.above;
   read.counted ??= read.module.pick(read.text, read.delimiter, [], EVERY);
   const { records, widest } = read.counted;
   return begins(read, above, Math.max(0, records - above), widest);
@@ -469,8 +493,9 @@ function firstJoined(module, table, delimiter, above, behind) {
 }
 
 // The first records of the sheet, as a text of their own.
-function frontRecords({ module, text, delimiter }, above) {
-  const { widest } = module.pick(text, delimiter, [], above + 1 + SHOWN), width = Math.max(1, Math.min(widest, MOST_CUT));
+function frontRecords({ module, text, delimiter, three }, above) {
+  const { widest } = module.pick(text, delimiter, [], above + 1 + SHOWN);
+  const width = Math.max(1, Math.min(widest, mostOf({ three }, MOST_CUT)));
   return module.write(module.pick(text, delimiter, range(width), above + 1 + SHOWN).fields, width, delimiter);
 }
 

@@ -122,8 +122,8 @@ function chosenAnew(state, source, kept) {
 
 // What is chosen for the sheet that is there, and what came of it.
 function heldOf(state) {
-  const { source, proposed, kept, fit, reading, begins, picks, columns, unknown, orders, listed, preview, run, given } = state;
-  return { source, proposed, kept, fit, reading, begins, picks, columns, unknown, orders, listed, preview, run, given };
+  const { source, proposed, kept, fit, reading, begins, picks, columns, unknown, orders, listed, preview, run, given, stays } = state;
+  return { source, proposed, kept, fit, reading, begins, picks, columns, unknown, orders, listed, preview, run, given, stays };
 }
 
 // Choices as they would be kept and read again, for another text of the same sheet. What was proposed alone is no choice.

@@ -512,7 +512,8 @@ function readingReplied(state, reply) {
   const { source, proposed } = state, begins = { reply };
   if (reply.fault) return { ...state, begins };
   const { encoding, delimiter, above, three } = reply.answer;
-  const found = { encoding, delimiter, above }, ofNow = { ...source, ...found, three: source.three ?? three };
+  const found = { encoding, delimiter, above }, isOfNow = isThree(source.three) || source.three === null;
+  const ofNow = { ...source, ...found, three: isOfNow ? three : source.three };
   const lookOf = (name) => (source[name] === null ? found[name] : proposed[name]);
   const looks = { encoding: lookOf('encoding'), delimiter: lookOf('delimiter'), above: lookOf('above') };
   return { ...columnsProposed(state, reply.answer), begins, source: ofNow, proposed: looks };

@@ -392,13 +392,17 @@ function begins({ module, text, encoding, delimiter, isOfTree, three = NO_THREE,
   return { encoding, delimiter, above, records, widest, heading, rows, titles, isOfTree, three, joined, ...book };
 }
 
-// The names of the columns of a sheet.
-const headingOf = (read, above) => begins({ ...read, three: NO_THREE }, above, 0, MOST_COLUMNS).heading;
+// The most fields of the first records, so many.
+const widestOf = ({ module, text, delimiter }, most) => module.pick(text, delimiter, [], most).widest;
 
-// The three columns with years, months and days that are chosen, or were kept.
+// The names of the columns of a sheet as it is in its file.
+const headingOf = (read, above) => begins(read, above, 0, widestOf(read, above + 1)).heading;
+
+// The three columns with years, months and days that are chosen, or were kept, where the sheet has them.
 function threeOf(read, above, { three, kept }) {
   if (read.isOfTree) return NO_THREE;
-  return three ?? (kept ? threeIn(kept, headingOf(read, above)) : NO_THREE);
+  const own = three ?? (kept ? threeIn(kept, headingOf(read, above)) : NO_THREE);
+  return isThree(own) && Math.max(...own.map(Number)) >= widestOf(read, EVERY) ? NO_THREE : own;
 }
 
 // The records above the names, so many as were chosen, or kept where a column that was kept has its name below, or are
@@ -494,8 +498,8 @@ function firstJoined(module, table, delimiter, above, behind) {
 
 // The first records of the sheet, as a text of their own.
 function frontRecords({ module, text, delimiter, three }, above) {
-  const { widest } = module.pick(text, delimiter, [], above + 1 + SHOWN);
-  const width = Math.max(1, Math.min(widest, mostOf({ three }, MOST_CUT)));
+  const { widest } = module.pick(text, delimiter, [], above + 1 + SHOWN), most = mostOf({ three }, MOST_CUT);
+  const width = Math.max(1, Math.min(widest, most));
   return module.write(module.pick(text, delimiter, range(width), above + 1 + SHOWN).fields, width, delimiter);
 }
 

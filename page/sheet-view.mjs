@@ -12,8 +12,9 @@ import {
   sheetReport, sheetStatus, sheetSummary, sheetTable, sheetTitles,
 } from './reports.mjs';
 import {
-  beginning, columnsChosen, dateAdded, datePicked, dateRemoved, isRunning, missing, namePicked, partChosen, partColumns, picked,
-  pictureWanted, registerWanted, saved, shownPreview, shownRun, shownUnknown, sortWanted, sourceChosen, started, stopped, wronglyTyped,
+  beginning, columnsChosen, dateAdded, datePicked, dateRemoved, isRunning, missing, namePicked, partChosen, partColumns,
+  picked, pictureWanted, registerWanted, saved, shownPreview, shownRun, shownUnknown, sortWanted, sourceChosen, started,
+  stopped, wronglyTyped,
 } from './sheet.mjs';
 import { WORDS } from './language.mjs';
 

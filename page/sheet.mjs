@@ -51,7 +51,9 @@ const ANEW = { ...NOTHING, three: null };
  */
 export function initial(processors) {
   return {
-    source: { file: null, isTree: null, hasFileDates: false, page: null, three: null, encoding: 'utf-8', delimiter: 44, above: 0 },
+    source: {
+      file: null, isTree: null, hasFileDates: false, page: null, three: null, encoding: 'utf-8', delimiter: 44, above: 0,
+    },
     proposed: NOTHING, kept: null, fit: null,
     reading: 0, begins: null, picks: noPicks(), columns: ['weekday', 'gregorian'], unknown: null, orders: null, listed: [],
     preview: null, run: null, runs: 0, worker: 0, notice: '',
@@ -90,8 +92,8 @@ export function sourceChosen(state, change) {
   if (isRunning(state)) return { ...state, notice: 'stopFirst' };
   const others = 'page' in change ? ANEW : 'delimiter' in change ? { three: null } : {};
   const source = { ...state.source, ...others, ...change };
-  if ('above' in change && !isThree(source.three)) return { ...state, source, begins: null, fit: null, notice: '', stays: false };
-  return readAnew(state, source);
+  const isAlike = 'above' in change && !isThree(source.three);
+  return isAlike ? { ...state, source, begins: null, fit: null, notice: '', stays: false } : readAnew(state, source);
 }
 
 /**
@@ -122,8 +124,9 @@ function chosenAnew(state, source, kept) {
 
 // What is chosen for the sheet that is there, and what came of it.
 function heldOf(state) {
-  const { source, proposed, kept, fit, reading, begins, picks, columns, unknown, orders, listed, preview, run, given, stays } = state;
-  return { source, proposed, kept, fit, reading, begins, picks, columns, unknown, orders, listed, preview, run, given, stays };
+  const { source, proposed, kept, fit, reading, stays, begins, picks, columns, unknown, orders, listed, preview, run, given } =
+    state;
+  return { source, proposed, kept, fit, reading, stays, begins, picks, columns, unknown, orders, listed, preview, run, given };
 }
 
 // Choices as they would be kept and read again, for another text of the same sheet. What was proposed alone is no choice.
@@ -481,7 +484,8 @@ const listedNames = ({ names }) => names.filter(({ name, where }) => name !== ''
 // The columns that were chosen of a sheet, but for that of the dates of three columns, which is chosen where it is there now.
 function columnsStay(picks, { heading, three, joined }, proposed) {
   const own = joined ?? heading.length, isOwn = (column) => !isColumn(column) || Number(column) < own;
-  const calendarOf = ({ calendar }) => (isOwn(calendar) ? calendar : ''), isPart = (date) => joined !== null && three.includes(date);
+  const calendarOf = ({ calendar }) => (isOwn(calendar) ? calendar : '');
+  const isPart = (date) => joined !== null && three.includes(date);
   const stay = picks.dates.filter(({ date }) => date !== '' && isOwn(date) && !isPart(date))
     .map((it) => ({ ...it, calendar: calendarOf(it) }));
   const last = calendarOf(picks.dates[picks.dates.length - 1]);

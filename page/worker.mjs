@@ -317,8 +317,10 @@ function delimiterOf(front, { delimiter, kept }) {
 async function readBook(module, { raw, bytesAt }, { number, file, page }) {
   const { pages, width, fields } = await cellsOf(module.bytes(raw).slice(), page || 0);
   const text = fields.length ? module.write(fields, width, TAB) : module.put(new Uint8Array());
-  return { number, file, bytesAt, module, text, front: frontOf(module, text), encoding: 'utf-8', delimiter: TAB, isOfTree: false,
-    book: { pages, page: page || 0 } };
+  return {
+    number, file, bytesAt, module, text, front: frontOf(module, text), encoding: 'utf-8', delimiter: TAB, isOfTree: false,
+    book: { pages, page: page || 0 },
+  };
 }
 
 // The sheet as it is in its file.

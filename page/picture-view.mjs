@@ -54,6 +54,7 @@ export function lanesOf(lines) {
     else {
       const all = lanes[MOST_LANES - 1], last = all[all.length - 1];
       last.end = Math.max(last.end, line.end);
+      last.isBefore ||= line.isBefore;
       last.isBehind ||= line.isBehind;
     }
   }

@@ -41,25 +41,32 @@ function beginOf(number, { is1904, isExact }) {
   return isExact || number >= NO_DAY_OF_1900 || number < 0 ? FROM_1900 : FROM_1900 + DAY;
 }
 
-/** A number of days as the date that a workbook shows for it; one that it shows in no certain way stays a number. */
-export function dateOfNumber(text, { hasDay, hasTime, is1904, isExact }) {
+/**
+ * A number of days as the date that a workbook shows for it; one that it shows in no certain way stays a number, and so does
+ * a day or more that has passed.
+ */
+export function dateOfNumber(text, { hasDay, hasTime, isElapsed, is1904, isExact }) {
   const number = Number(text);
-  if (text === '' || !Number.isFinite(number)) return text;
+  if (text === '' || !Number.isFinite(number) || (isElapsed && !(number >= 0 && number < 1))) return text;
   if (hasDay && Math.floor(number) === NO_DAY_OF_1900 && !is1904 && !isExact) return '1900-02-29';
   const time = beginOf(number, { is1904, isExact }) + Math.round(number * DAY);
   return hasDay && time < FIRST_DAY ? text : dayAndTime(time, hasDay, hasTime);
 }
 
-/** Whether a format shows a day, and a time; what stands in quotes or brackets, or behind \, shows nothing. */
+/**
+ * Whether a format shows a day, and a time, or how much time has passed, as [h]:mm; what else stands in quotes or brackets, or
+ * behind \, shows nothing.
+ */
 export function formatOf(code) {
-  const own = code.split(';')[0].replace(/"[^"]*"|\[[^\]]*\]|\\.|_./g, '').toLowerCase();
+  const said = code.split(';')[0].replace(/"[^"]*"|\\.|_./g, '').toLowerCase(), own = said.replace(/\[[^\]]*\]/g, '');
   if (/general|standard/.test(own)) return { hasDay: false, hasTime: false };
+  if (/\[(?:h+|m+|s+)\]/.test(said)) return { hasDay: false, hasTime: true, isElapsed: true };
   const hasTime = /[hs]/.test(own);
   return { hasDay: /[yd]/.test(own) || (/m/.test(own) && !hasTime), hasTime };
 }
 
 const NUMBER = { hasDay: false, hasTime: false };
-const formatById = (id) => ({ hasDay: DATES.includes(id), hasTime: TIMES.includes(id) || id === 22 });
+const formatById = (id) => ({ hasDay: DATES.includes(id), hasTime: TIMES.includes(id) || id === 22, isElapsed: id === 46 });
 
 // ---- .xlsx ----
 

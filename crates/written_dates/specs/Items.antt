@@ -1,6 +1,6 @@
 -- The items of a text: numbers, months, marks, and what names a day by a feast.
 use Rattle.std.specs.Prelude.{ℕ, zero, suc, ◌+◌, ◌-◌, ◌*◌, Bool, true, false, ◌&&◌, ◌||◌, ◌==◌, nat_le, nat_lt}
-use Rattle.std.specs.Prelude.{if◌then◌else◌, List, [], ◌∷◌, ◌++◌, length, fold, Option, Some, None}
+use Rattle.std.specs.Prelude.{if◌then◌else◌, List, [], ◌∷◌, ◌++◌, length, fold, Option, Some, None, is_some}
 use Rattle.std.specs.Char.{is_ascii_digit}
 use Rattle.std.specs.List.{list_all}
 use Rattle.written_dates.specs.declared.tokens.Kind.{Kind}
@@ -23,11 +23,11 @@ spelled digits = fold (λ value digit. 10 * value + (digit - 48)) 0 digits
 unfoldable pub number_of_digits : List ℕ → Option Number
 number_of_digits text =
     if nat_le (length text) 9 && list_all is_ascii_digit text
-    then Some (record { value = spelled text; digits = length text; named = false; year = false; day = false }) else None
+    then Some (record { value = spelled text; digits = length text; named = false; year = None; day = false }) else None
 
 abbrev pub bare_number : Option ℕ → Option Number
 bare_number None = None
-bare_number (Some n) = Some (record { value = n; digits = 0; named = false; year = false; day = false })
+bare_number (Some n) = Some (record { value = n; digits = 0; named = false; year = None; day = false })
 
 abbrev pub number_of_kind : Kind → List ℕ → Option Number
 number_of_kind Digit text = number_of_digits text
@@ -39,7 +39,7 @@ number_of p = number_of_kind p.kind p.text
 
 -- three digits or more, or, Roman or named, 100 or more
 abbrev pub is_long : Number → Bool
-is_long n = n.year || nat_le 3 n.digits || ((n.digits == 0) && nat_le 100 n.value)
+is_long n = is_some n.year || nat_le 3 n.digits || ((n.digits == 0) && nat_le 100 n.value)
 
 -- what a name means in a date
 abbrev pub meant : Meaning → List Item
@@ -47,9 +47,12 @@ meant meaning.Nothing = []
 meant (meaning.Month m) = item.Month m ∷ []
 meant meaning.Adar = item.Adar ∷ []
 meant (meaning.Number n) =
-    item.Number (record { value = n; digits = 0; named = true; year = false; day = false }) ∷ []
-meant meaning.YearWord = item.YearWord ∷ []
+    item.Number (record { value = n; digits = 0; named = true; year = None; day = false }) ∷ []
+meant (meaning.YearWord era) = item.YearWord era ∷ []
 meant meaning.DayWord = item.DayWord ∷ []
+meant (meaning.Months first last) = item.Months first last ∷ []
+meant (meaning.Century first) = item.Century first ∷ []
+meant meaning.Decade = item.Decade ∷ []
 meant (meaning.Mark m) = item.Mark m ∷ []
 meant (meaning.Weekday w) = item.Weekday w ∷ []
 meant (meaning.DecadeDay n) = item.DecadeDay n ∷ []

@@ -1,5 +1,5 @@
 -- Laws of what is read: it is what was written.
-use Rattle.std.specs.Prelude.{◌≡◌, ◌⊎◌, ℕ, ◌+◌, ◌*◌, ◌<◌, ◌≤◌, Bool, true, false, if◌then◌else◌, List, [], ◌∷◌, ◌++◌, Some, None}
+use Rattle.std.specs.Prelude.{◌≡◌, ◌⊎◌, ℕ, ◌+◌, ◌*◌, ◌<◌, ◌≤◌, Bool, true, false, if◌then◌else◌, List, [], ◌∷◌, ◌++◌, Option, Some, None, is_some}
 use Rattle.std.specs.Char.{is_ascii_digit}
 use Rattle.std.specs.List.{filter, Contains}
 use Rattle.std.specs.List.Sorted.{IsPermutation}
@@ -15,6 +15,8 @@ use Rattle.written_dates.specs.declared.calendars.Form.TheVariants as forms
 use Rattle.written_dates.specs.declared.items.Number.{Number as Numeral}
 use Rattle.written_dates.specs.declared.items.Item.{Item}
 use Rattle.written_dates.specs.declared.items.Item.TheVariants.{Number, Month, Weekday, DecadeDay}
+use Rattle.written_dates.specs.declared.meanings.Era.{Era}
+use Rattle.written_dates.specs.declared.meanings.Era.TheVariants as eras
 use Rattle.written_dates.specs.declared.meanings.Name.{Name}
 use Rattle.written_dates.specs.declared.rules.Reading.{Reading}
 use Rattle.written_dates.specs.declared.rules.InYear.{InYear}
@@ -27,7 +29,7 @@ use Rattle.written_dates.specs.Signs.{has_bar_between, has_minus, has_mixed_sign
 use Rattle.written_dates.specs.Rules.{plain_reading}
 use Rattle.written_dates.specs.Sums.{found_items}
 use Rattle.written_dates.specs.Weekdays.{is_decade_day, is_on, IsOn}
-use Rattle.written_dates.specs.Written.{answer, date_by_rule, date_of, items_answer, short_rule, written}
+use Rattle.written_dates.specs.Written.{answer, counted, date_by_rule, date_of, items_answer, short_rule, written}
 
 -- a date is read of a text that has these items, by these names, in this calendar
 pub record IsRead (choice : Choice) (calendar : Calendar) (names : List Name) (text : List ℕ) (found : List Item)
@@ -129,22 +131,28 @@ NothingIsLeftOver =
     (choice : Choice) (calendar : Calendar) (names : List Name) (text : List ℕ) (found : List Item) (year month day : ℕ)
     → IsRead choice calendar names text found year month day
     → (number : Numeral) × (in_year : InYear) × UsesAll found number in_year
-    × (date_by_rule (short_rule choice calendar number) calendar number.value in_year ≡ Date year month day)
+    × (date_by_rule (short_rule choice calendar number) calendar (counted number in_year) in_year ≡ Date year month day)
+
+-- no word for the years of another era stands beside the number
+abbrev pub is_of_calendar : Option Era → Bool
+is_of_calendar (Some eras.Spanish) = false
+is_of_calendar (Some eras.Creation) = false
+is_of_calendar era = true
 
 -- a number of four digits is the year, in every order
 abbrev pub LongNumbersAreYears : Type 0
 LongNumbersAreYears =
     (choice : Choice) (calendar : Calendar) (names : List Name) (text : List ℕ) (found : List Item) (year month day : ℕ)
     (n : Numeral) → IsRead choice calendar names text found year month day → Contains found (Number n) → 4 ≤ n.digits
-    → year ≡ n.value
+    → is_of_calendar n.year ≡ true → year ≡ n.value
 
 -- a number behind a word for year is the year, by the rule for it
 abbrev pub YearWordsNameYears : Type 0
 YearWordsNameYears =
     (choice : Choice) (calendar : Calendar) (names : List Name) (text : List ℕ) (found : List Item) (year month day : ℕ)
-    (n : Numeral) → IsRead choice calendar names text found year month day → Contains found (Number n) → n.year ≡ true
+    (n : Numeral) → IsRead choice calendar names text found year month day → Contains found (Number n) → is_some n.year ≡ true
     → (in_year : InYear)
-    × (date_by_rule (short_rule choice calendar n) calendar n.value in_year ≡ Date year month day)
+    × (date_by_rule (short_rule choice calendar n) calendar (counted n in_year) in_year ≡ Date year month day)
 
 abbrev pub IsOfChurch : Calendar → Type 0
 IsOfChurch calendar = (calendar ≡ Gregorian) ⊎ (calendar ≡ Julian)

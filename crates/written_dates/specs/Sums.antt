@@ -1,10 +1,12 @@
 -- Items that belong together, by rules of this project.
-use Rattle.std.specs.Prelude.{◌≡◌, ℕ, ◌+◌, ◌%◌, Bool, true, ◌&&◌, ◌||◌, ◌==◌, nat_lt, if◌then◌else◌, List, [], ◌∷◌}
+use Rattle.std.specs.Prelude.{◌≡◌, ℕ, ◌+◌, ◌%◌, Bool, true, ◌&&◌, ◌||◌, ◌==◌, nat_le, nat_lt, if◌then◌else◌, List, [], ◌∷◌}
 use Rattle.std.specs.Prelude.{Option, None, Some, option_map}
 use Rattle.date_texts.specs.declared.calendar.Calendar.{Calendar}
 use Rattle.written_dates.specs.declared.items.Number.{Number as Numeral}
 use Rattle.written_dates.specs.declared.items.Item.{Item}
 use Rattle.written_dates.specs.declared.items.Item.TheVariants.{Number, YearWord, DayWord, Weekday, Feast}
+use Rattle.written_dates.specs.declared.meanings.Era.{Era}
+use Rattle.written_dates.specs.declared.meanings.Era.TheVariants as eras
 use Rattle.written_dates.specs.declared.meanings.Name.{Name}
 use Rattle.written_dates.specs.Items.{is_long, items}
 use Rattle.written_dates.specs.Names.{names_in}
@@ -22,9 +24,18 @@ sum_of a b =
     if adds_up a b
     then Some (Number (record { value = a.value + b.value; digits = 0; named = true; year = a.year; day = a.day })) else None
 
--- a number behind a word for year is the year
-abbrev pub with_year : Numeral → Item
-with_year n = Number (record { value = n.value; digits = n.digits; named = n.named; year = true; day = n.day })
+-- a number beside a word for year is the year
+abbrev pub with_year : Era → Numeral → Item
+with_year era n = Number (record { value = n.value; digits = n.digits; named = n.named; year = Some era; day = n.day })
+
+-- an era has these years: the Spanish one until 1422 AD, that of the creation until 1699
+abbrev pub has_year_of : Era → ℕ → Bool
+has_year_of eras.Calendar year = true
+has_year_of eras.Spanish year = nat_lt 38 year && nat_le year 1_460
+has_year_of eras.Creation year = nat_lt 5_508 year && nat_le year 7_208
+
+abbrev pub behind_year : Era → Numeral → Option Item
+behind_year era n = if has_year_of era n.value then Some (with_year era n) else None
 
 -- a number beside a word for day, which is not long, counts days
 abbrev pub with_day : Numeral → Option Item
@@ -32,17 +43,21 @@ with_day n =
     if is_long n then None
     else Some (Number (record { value = n.value; digits = n.digits; named = n.named; year = n.year; day = true }))
 
--- a word for year behind a long number says nothing more
-abbrev pub before_year : Numeral → Option Item
-before_year n = if is_long n then Some (Number n) else None
+-- a word for year behind a long number says nothing more, unless its years are those of another era
+abbrev pub before_era : Era → Numeral → Option Item
+before_era eras.Calendar n = Some (Number n)
+before_era era n = behind_year era n
+
+abbrev pub before_year : Era → Numeral → Option Item
+before_year era n = if is_long n then before_era era n else None
 
 -- the one item that two items are, if they belong together: numbers that add up; a number and a word for year or day; and
 -- a weekday or a feast behind a word for day, which says nothing more
 abbrev pub joined_item : Item → Item → Option Item
 joined_item (Number a) (Number b) = sum_of a b
-joined_item (Number a) YearWord = before_year a
+joined_item (Number a) (YearWord era) = before_year era a
 joined_item (Number a) DayWord = with_day a
-joined_item YearWord (Number b) = Some (with_year b)
+joined_item (YearWord era) (Number b) = behind_year era b
 joined_item DayWord (Number b) = with_day b
 joined_item DayWord (Weekday w) = Some (Weekday w)
 joined_item DayWord (Feast f) = Some (Feast f)

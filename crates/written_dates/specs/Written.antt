@@ -1,5 +1,5 @@
 -- What is written for a text: the rules of this project for dates as people write them.
-use Rattle.std.specs.Prelude.{ℕ, ◌+◌, Bool, true, false, not, ◌&&◌, ◌||◌, nat_le, nat_lt, if◌then◌else◌}
+use Rattle.std.specs.Prelude.{ℕ, ◌+◌, ◌-◌, Bool, true, false, not, ◌&&◌, ◌||◌, nat_le, nat_lt, if◌then◌else◌}
 use Rattle.std.specs.Prelude.{List, [], ◌∷◌, ◌++◌, length, Option, Some, None, is_some}
 use Rattle.std.specs.Fmt.{decimal}
 use Rattle.std.specs.List.{list_all}
@@ -8,6 +8,8 @@ use Rattle.date_texts.specs.declared.calendar.Calendar.TheVariants.{Armenian, Co
 use Rattle.date_texts.specs.declared.calendar.Calendar.TheVariants.{Islamic, Julian, Republican}
 use Rattle.written_dates.specs.declared.calendars.Form.{Form}
 use Rattle.written_dates.specs.declared.calendars.Form.TheVariants as forms
+use Rattle.written_dates.specs.declared.meanings.Era.{Era}
+use Rattle.written_dates.specs.declared.meanings.Era.TheVariants as eras
 use Rattle.written_dates.specs.declared.meanings.Mark.{Mark}
 use Rattle.written_dates.specs.declared.meanings.Mark.TheVariants.{Kalends, Nones, Ides}
 use Rattle.written_dates.specs.declared.meanings.Name.{Name}
@@ -43,22 +45,26 @@ use Rattle.written_dates.specs.Rules.{is_year_first, civil_reading, roman_readin
 abbrev pub if_short : ℕ → ℕ → Number → Short → Short
 if_short bound digits year rule = if nat_lt year.value bound && nat_le year.digits digits then rule else Keep
 
--- what is added is a century of Gregorian and Julian years: others are kept or refused
-abbrev pub unless_added : Short → Short
-unless_added Keep = Keep
-unless_added rule = Refuse
+-- in calendars which count hundreds of years those under 100 are short, and Hebrew ones under 1000
+abbrev pub rule_in : Choice → Calendar → Number → Short
+rule_in choice Gregorian year = if_short 100 2 year choice.short_years
+rule_in choice Julian year = if_short 100 2 year choice.short_years
+rule_in choice Hebrew year = if_short 1000 3 year choice.short_hebrew_years
+rule_in choice Islamic year = if_short 100 2 year choice.short_other_years
+rule_in choice Coptic year = if_short 100 2 year choice.short_other_years
+rule_in choice Ethiopic year = if_short 100 2 year choice.short_other_years
+rule_in choice Armenian year = if_short 100 2 year choice.short_other_years
+rule_in choice calendar year = Keep
 
--- what is done with a year: in calendars which count hundreds of years those under 100 are short, and Hebrew ones under
--- 1000
+-- a year beside a word for year is not refused, and kept where it is one of another era
+abbrev pub unless_said : Option Era → Short → Short
+unless_said None rule = rule
+unless_said (Some eras.Calendar) (Add more) = Add more
+unless_said era rule = Keep
+
+-- what is done with a year
 abbrev pub short_rule : Choice → Calendar → Number → Short
-short_rule choice Gregorian year = if_short 100 2 year choice.short_years
-short_rule choice Julian year = if_short 100 2 year choice.short_years
-short_rule choice Hebrew year = if_short 1000 3 year choice.short_hebrew_years
-short_rule choice Islamic year = if_short 100 2 year (unless_added choice.short_years)
-short_rule choice Coptic year = if_short 100 2 year (unless_added choice.short_years)
-short_rule choice Ethiopic year = if_short 100 2 year (unless_added choice.short_years)
-short_rule choice Armenian year = if_short 100 2 year (unless_added choice.short_years)
-short_rule choice calendar year = Keep
+short_rule choice calendar year = unless_said year.year (rule_in choice calendar year)
 
 -- a year, a month and a day, with dashes (45) between them
 abbrev pub joined : List ℕ → List ℕ → List ℕ → List ℕ
@@ -133,12 +139,30 @@ abbrev pub lacks_church : Option Church → InYear → Bool
 lacks_church None (Feast feast place) = true
 lacks_church church day = false
 
+-- the year of the calendar that a year is which counts from 38 BC, or from 1 September 5509 BC
+abbrev pub from_creation : ℕ → ℕ → ℕ
+from_creation year month = if nat_le 9 month then year - 5_509 else year - 5_508
+
+abbrev pub counted_by : Option Era → ℕ → InYear → ℕ
+counted_by (Some eras.Spanish) year day = year - 38
+counted_by (Some eras.Creation) year (Day month day) = from_creation year month
+counted_by (Some eras.Creation) year (NumberedWeekday n weekday month) = from_creation year month
+counted_by era year day = year
+
+abbrev pub counted : Number → InYear → ℕ
+counted year day = counted_by year.year year.value day
+
+-- a year that begins in September, and a feast, whose month it does not have
+abbrev pub lacks_month : Option Era → InYear → Bool
+lacks_month (Some eras.Creation) (Feast feast place) = true
+lacks_month era day = false
+
 -- the date that a reading says
 abbrev pub date_of : Choice → Calendar → Option Reading → Answer
 date_of choice calendar None = Stays
 date_of choice calendar (Some (Civil year day)) =
-    if is_half_year calendar year || lacks_church (church_of calendar) day then Stays
-    else date_by_rule (short_rule choice calendar year) calendar year.value day
+    if is_half_year calendar year || lacks_church (church_of calendar) day || lacks_month year.year day then Stays
+    else date_by_rule (short_rule choice calendar year) calendar (counted year day) day
 date_of choice calendar (Some (Roman year month mark count)) = RomanDate year month mark count
 
 -- a weekday, or a day of a decade, that is named is that of the date

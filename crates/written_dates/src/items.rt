@@ -11,10 +11,11 @@ ghost use Rattle.written_dates.specs.Items.{longest as longest_spec, is_long as 
 ghost use Rattle.written_dates.specs.Unknown.{first_unknown};
 ghost use Rattle.written_dates.specs.Sums.{adds_up as adds_up_spec, found_items, joined_item as joined_spec};
 ghost use Rattle.written_dates.specs.Sums.{before_year as before_year_spec, sum_of as sum_of_spec};
+ghost use Rattle.written_dates.specs.Sums.{behind_year as behind_year_spec, has_year_of as has_year_spec};
 ghost use Rattle.written_dates.specs.Sums.{with_day as with_day_spec, with_year as with_year_spec};
 ghost use Rattle.written_dates.specs.ItemViews.{resumed};
 
-use crate::meanings::{Mark, Meaning, Name, Relation, Word};
+use crate::meanings::{Era, Mark, Meaning, Name, Relation, Word};
 use crate::names::{Names, key_of_word};
 use crate::parts::{next_part, stands};
 use crate::roman::roman_number;
@@ -33,8 +34,8 @@ pub struct Number {
     pub digits: usize,
     /// Whether it stands by name.
     pub named: bool,
-    /// Whether a word for year stands before it.
-    pub year: bool,
+    /// What years it counts, where a word for year stands beside it.
+    pub year: Option<Era>,
     /// Whether a word for day stands beside it.
     pub day: bool,
 }
@@ -45,9 +46,15 @@ pub enum Item {
     /// A number.
     Number(Number),
     /// A word for year.
-    YearWord,
+    YearWord(Era),
     /// A word for day.
     DayWord,
+    /// A part of a year, from a month to a month.
+    Months(u8, u8),
+    /// A century, whose first year ends with 00 or 01.
+    Century(u8),
+    /// Ten years.
+    Decade,
     /// A month by name.
     Month(u8),
     /// Adar, which is month 12, or months 12 and 13.
@@ -86,7 +93,7 @@ pub(crate) fn number_of_digits(text: &[u8]) -> Option<Number>
         value,
         digits: text.len(),
         named: false,
-        year: false,
+        year: None,
         day: false,
     })
 }
@@ -103,7 +110,7 @@ fn number_of(part: Token) -> Option<Number>
             value,
             digits: 0,
             named: false,
-            year: false,
+            year: None,
             day: false,
         }),
         None => None,
@@ -166,7 +173,7 @@ fn longest<'a>(
 pub fn is_long(number: Number) -> bool
     ensures { result ≡ long_spec number }
 {
-    number.year || number.digits >= 3 || (number.digits == 0 && number.value >= 100)
+    number.year.is_some() || number.digits >= 3 || (number.digits == 0 && number.value >= 100)
 }
 
 /// The item that a name means, if it means one.
@@ -181,11 +188,14 @@ fn item_of(meaning: Meaning) -> Option<Item>
             value,
             digits: 0,
             named: true,
-            year: false,
+            year: None,
             day: false,
         })),
-        Meaning::YearWord => Some(Item::YearWord),
+        Meaning::YearWord(era) => Some(Item::YearWord(era)),
         Meaning::DayWord => Some(Item::DayWord),
+        Meaning::Months(first, last) => Some(Item::Months(first, last)),
+        Meaning::Century(first) => Some(Item::Century(first)),
+        Meaning::Decade => Some(Item::Decade),
         Meaning::Mark(mark) => Some(Item::Mark(mark)),
         Meaning::Weekday(weekday) => Some(Item::Weekday(weekday)),
         Meaning::DecadeDay(number) => Some(Item::DecadeDay(number)),
@@ -259,15 +269,15 @@ fn sum_of(a: Number, b: Number) -> Option<Item>
     }))
 }
 
-/// A number behind a word for year.
-fn with_year(n: Number) -> Item
-    ensures { result ≡ with_year_spec n }
+/// A number beside a word for year.
+fn with_year(era: Era, n: Number) -> Item
+    ensures { result ≡ with_year_spec era n }
 {
     Item::Number(Number {
         value: n.value,
         digits: n.digits,
         named: n.named,
-        year: true,
+        year: Some(era),
         day: n.day,
     })
 }
@@ -288,14 +298,38 @@ fn with_day(n: Number) -> Option<Item>
     }))
 }
 
-/// The year before a word for year, if it is long.
-fn before_year(n: Number) -> Option<Item>
-    ensures { result ≡ before_year_spec n }
+/// Whether an era has a year.
+fn has_year_of(era: Era, year: u32) -> bool
+    ensures { result ≡ has_year_spec era year }
 {
-    if is_long(n) {
-        Some(Item::Number(n))
+    match era {
+        Era::Calendar => true,
+        Era::Spanish => 38 < year && year <= 1_460,
+        Era::Creation => 5_508 < year && year <= 7_208,
+    }
+}
+
+/// The year behind a word for year, if its era has it.
+fn behind_year(era: Era, n: Number) -> Option<Item>
+    ensures { result ≡ behind_year_spec era n }
+{
+    if has_year_of(era, n.value) {
+        Some(with_year(era, n))
     } else {
         None
+    }
+}
+
+/// The year before a word for year, if it is long.
+fn before_year(era: Era, n: Number) -> Option<Item>
+    ensures { result ≡ before_year_spec era n }
+{
+    if !is_long(n) {
+        return None;
+    }
+    match era {
+        Era::Calendar => Some(Item::Number(n)),
+        _ => behind_year(era, n),
     }
 }
 
@@ -306,12 +340,12 @@ fn joined_item(a: Item, b: Item) -> Option<Item>
     match a {
         Item::Number(a) => match b {
             Item::Number(b) => sum_of(a, b),
-            Item::YearWord => before_year(a),
+            Item::YearWord(era) => before_year(era, a),
             Item::DayWord => with_day(a),
             _ => None,
         },
-        Item::YearWord => match b {
-            Item::Number(b) => Some(with_year(b)),
+        Item::YearWord(era) => match b {
+            Item::Number(b) => behind_year(era, b),
             _ => None,
         },
         Item::DayWord => match b {

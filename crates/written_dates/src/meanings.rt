@@ -33,6 +33,17 @@ pub enum Relation {
     Octave,
 }
 
+/// From what the years are counted that a word for year stands beside.
+#[derive(Clone, Copy, PartialEq, Eq)]
+pub enum Era {
+    /// As those of the calendar.
+    Calendar,
+    /// From 38 BC, as in Spain and Portugal until the 14th and 15th century.
+    Spanish,
+    /// From the creation of the world, with years from 1 September, as in Russia until 1699.
+    Creation,
+}
+
 /// A word of texts that say no single day.
 #[derive(Clone, Copy, PartialEq, Eq)]
 pub enum Word {
@@ -46,6 +57,8 @@ pub enum Word {
     Between,
     /// And what follows.
     And,
+    /// No date is known.
+    Undated,
 }
 
 /// What a name means in a date.
@@ -59,10 +72,16 @@ pub enum Meaning {
     Adar,
     /// A number.
     Number(u32),
-    /// A word for year: the number behind it is the year.
-    YearWord,
+    /// A word for year: the number behind it is the year; of another era than the calendar's one before it too.
+    YearWord(Era),
     /// A word for day: the number beside it counts days.
     DayWord,
+    /// A part of a year, from a month to a month.
+    Months(u8, u8),
+    /// A century, whose first year ends with 00 or 01, as this says.
+    Century(u8),
+    /// Ten years.
+    Decade,
     /// A mark.
     Mark(Mark),
     /// A day of the week.

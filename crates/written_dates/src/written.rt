@@ -7,7 +7,8 @@ ghost use Rattle.written_dates.specs.Calendars.{form as form_spec};
 ghost use Rattle.written_dates.specs.Tokens.{tokens};
 ghost use Rattle.written_dates.specs.Signs.{three_runs as runs_spec};
 ghost use Rattle.written_dates.specs.SignViews.{seen_runs, seen_text};
-ghost use Rattle.written_dates.specs.Written.{if_short as if_short_spec, unless_added as unless_added_spec};
+ghost use Rattle.written_dates.specs.Written.{if_short as if_short_spec, rule_in as rule_in_spec, unless_said as unless_said_spec};
+ghost use Rattle.written_dates.specs.Written.{counted as counted_spec, from_creation as creation_spec, lacks_month as lacks_month_spec};
 ghost use Rattle.written_dates.specs.Written.{short_rule as rule_spec, joined, dated, letter, stood, numbers};
 ghost use Rattle.written_dates.specs.Written.{is_turned as turned_spec, unless_turned};
 ghost use Rattle.written_dates.specs.Written.{church_of as church_spec, feast_of as feast_spec};
@@ -24,7 +25,7 @@ ghost use Rattle.written_dates.specs.Written.{is_dated as dated_spec, is_found a
 
 use crate::calendars::{Form, form_of};
 use crate::items::{Item, Number, items_of, number_of_digits};
-use crate::meanings::Mark;
+use crate::meanings::{Era, Mark};
 use crate::names::Names;
 use crate::rules::{InYear, Order, Reading, civil_of, is_year_first, roman_of};
 use crate::signs::{begins_with_dash, runs_behind_minus, signs_of, three_runs};
@@ -55,6 +56,8 @@ pub struct Choice {
     pub short_years: Short,
     /// What is done with short Hebrew years.
     pub short_hebrew_years: Short,
+    /// What is done with short Islamic, Coptic, Ethiopic and Armenian years.
+    pub short_other_years: Short,
     /// Whether the year of a Roman date is that of its day.
     pub charters: bool,
 }
@@ -87,29 +90,36 @@ fn if_short(bound: u32, digits: usize, year: Number, rule: Short) -> Short
     }
 }
 
-/// What is done with short years to which no century can be added.
-fn unless_added(rule: Short) -> Short
-    ensures { result ≡ unless_added_spec rule }
+/// What is done with a short year by its word: behind one for year it is not refused, and of another era it is kept.
+fn unless_said(era: Option<Era>, rule: Short) -> Short
+    ensures { result ≡ unless_said_spec era rule }
 {
-    match rule {
-        Short::Keep => Short::Keep,
-        _ => Short::Refuse,
+    match (era, rule) {
+        (None, rule) => rule,
+        (Some(Era::Calendar), Short::Add(more)) => Short::Add(more),
+        _ => Short::Keep,
     }
 }
 
-/// What is done with a year. The century that a choice adds is one of Gregorian and Julian years, so a short year of
-/// another calendar that counts hundreds of them is kept or refused. The French Republic had short years alone.
-pub fn short_rule(choice: &Choice, calendar: Calendar, year: Number) -> Short
-    ensures { result ≡ rule_spec choice.now calendar year }
+/// The rule for years of a calendar, if these are short below `bound` and with at most so many digits.
+fn rule_in(choice: &Choice, calendar: Calendar, year: Number) -> Short
+    ensures { result ≡ rule_in_spec choice.now calendar year }
 {
     match calendar {
         Calendar::Gregorian | Calendar::Julian => if_short(100, 2, year, choice.short_years),
         Calendar::Hebrew => if_short(1000, 3, year, choice.short_hebrew_years),
         Calendar::Islamic | Calendar::Coptic | Calendar::Ethiopic | Calendar::Armenian => {
-            if_short(100, 2, year, unless_added(choice.short_years))
+            if_short(100, 2, year, choice.short_other_years)
         }
         _ => Short::Keep,
     }
+}
+
+/// What is done with a year. The French Republic had short years alone.
+pub fn short_rule(choice: &Choice, calendar: Calendar, year: Number) -> Short
+    ensures { result ≡ rule_spec choice.now calendar year }
+{
+    unless_said(year.year, rule_in(choice, calendar, year))
 }
 
 /// Appends a year, a month and a day with dashes between them.
@@ -290,17 +300,53 @@ fn lacks_church(church: Option<Church>, day: InYear) -> bool
     }
 }
 
+/// The year that one from the creation is in a month.
+fn from_creation(year: u32, month: u32) -> u32
+    ensures { result ≡ creation_spec year month }
+{
+    if month >= 9 {
+        year.saturating_sub(5_509)
+    } else {
+        year.saturating_sub(5_508)
+    }
+}
+
+/// The year of the calendar that a year is, of a day that is named in it.
+fn counted(year: Number, day: InYear) -> u32
+    ensures { result ≡ counted_spec year day }
+{
+    match (year.year, day) {
+        (Some(Era::Spanish), _) => year.value.saturating_sub(38),
+        (Some(Era::Creation), InYear::Day(month, _)) => from_creation(year.value, month),
+        (Some(Era::Creation), InYear::NumberedWeekday(_, _, month)) => {
+            from_creation(year.value, month)
+        }
+        _ => year.value,
+    }
+}
+
+/// Whether a year begins in September, and a feast is named, whose month it does not have.
+fn lacks_month(era: Option<Era>, day: InYear) -> bool
+    ensures { result ≡ lacks_month_spec era day }
+{
+    matches!((era, day), (Some(Era::Creation), InYear::Feast(_, _)))
+}
+
 /// The date of a year, and of a day that is named in it.
 fn civil_date(choice: &Choice, calendar: Calendar, year: Number, day: InYear) -> Answer
     ensures { result ≡ date_spec choice.now calendar (Some (Civil year day)) }
 {
-    if is_half_year(calendar, year) || lacks_church(church_of(calendar), day) {
+    if is_half_year(calendar, year)
+        || lacks_church(church_of(calendar), day)
+        || lacks_month(year.year, day)
+    {
         return Answer::Stays;
     }
+    let counted = counted(year, day) as u64;
     match short_rule(choice, calendar, year) {
         Short::Refuse => Answer::Refused,
-        Short::Keep => date_in(calendar, year.value as u64, day),
-        Short::Add(more) => date_in(calendar, year.value as u64 + more as u64, day),
+        Short::Keep => date_in(calendar, counted, day),
+        Short::Add(more) => date_in(calendar, counted + more as u64, day),
     }
 }
 

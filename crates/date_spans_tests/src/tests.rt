@@ -161,6 +161,7 @@ fn choice_on(line: &str) -> Option<(Option<Calendar>, Choice)> {
         order,
         short_years,
         short_hebrew_years,
+        short_other_years: Short::Refuse,
         charters: false,
     };
     Some((calendar, choice))
@@ -311,6 +312,7 @@ fn texts_have_both_styles(rt: HostRuntime) {
         order: Order::DayFirst,
         short_years: Short::Refuse,
         short_hebrew_years: Short::Refuse,
+        short_other_years: Short::Refuse,
         charters: false,
     };
     for (text, numbers) in &BOTH {

@@ -14,14 +14,13 @@ use Rattle.written_dates.specs.Items.{is_long}
 use Rattle.written_dates.specs.Rules.{beside_weekday}
 use Rattle.date_spans.specs.declared.extents.Extent.{Extent}
 use Rattle.date_spans.specs.declared.extents.Extent.TheVariants as extent
-use Rattle.date_spans.specs.declared.extents.SaidDay.{SaidDay}
 use Rattle.date_spans.specs.declared.extents.Signs.{Signs}
 use Rattle.date_spans.specs.declared.sayings.Kind.{Kind}
 use Rattle.date_spans.specs.declared.sayings.Kind.TheVariants as kinds
 use Rattle.date_spans.specs.declared.sayings.RangeSigns.{RangeSigns}
 use Rattle.date_spans.specs.declared.sayings.Said.{Said}
 use Rattle.date_spans.specs.declared.sayings.Said.TheVariants as said
-use Rattle.date_spans.specs.Extents.{extent_of, if_year, or_else, weekday_among, with_weekday, year_in}
+use Rattle.date_spans.specs.Extents.{day_of_year, extent_of, if_year, or_else, weekday_among, with_weekday, year_in}
 use Rattle.date_spans.specs.FeastSides.{bare_side, in_year_of, side_of}
 
 abbrev pub is_about_word : Word → Bool
@@ -91,6 +90,11 @@ abbrev pub parted : Bool → Calendar → Signs → Order → Option Said → Li
 parted between calendar signs order alone items =
     at_word between calendar signs order alone items (position (parts_sides between) items)
 
+-- that no date is known is said by its word alone
+abbrev pub undated : List Item → Option Said
+undated [] = Some said.Undated
+undated (item ∷ rest) = None
+
 -- what is said behind a word, by the signs of a text that is one side, and by those of one that a word parts
 abbrev pub by_word : Calendar → Signs → Signs → Order → Word → List Item → List Item → Option Said
 by_word calendar one two order words.To rest whole = option_map said.Until (piece calendar one order rest)
@@ -98,6 +102,7 @@ by_word calendar one two order words.From rest whole =
     parted false calendar two order (option_map said.From (piece calendar one order rest)) rest
 by_word calendar one two order words.Between rest whole = parted true calendar two order None rest
 by_word calendar one two order words.And rest whole = None
+by_word calendar one two order words.Undated rest whole = undated rest
 by_word calendar one two order words.About rest whole =
     parted false calendar two order (option_map said.One (piece calendar one order whole)) whole
 
@@ -151,6 +156,7 @@ kind_of (said.Before e) = kinds.Before
 kind_of (said.After e) = kinds.After
 kind_of (said.From e) = kinds.From
 kind_of (said.Until e) = kinds.Until
+kind_of said.Undated = kinds.Undated
 
 abbrev pub is_julian : Calendar → Bool
 is_julian Julian = true
@@ -159,9 +165,6 @@ is_julian calendar = false
 -- before 25 March, with which the year began whose number stands before the slash
 abbrev pub is_before_new_year : ℕ → ℕ → Bool
 is_before_new_year month day = nat_lt month 3 || ((month == 3) && nat_lt day 25)
-
-abbrev pub day_of_year : SaidDay → Numeral → SaidDay
-day_of_year d year = record { year = year; month = d.month; day = d.day; adar = d.adar; beside = d.beside }
 
 -- of a date that both years have, the one in the later year
 abbrev pub in_later_year : Calendar → Extent → Option Said

@@ -10,7 +10,8 @@ ghost use Rattle.date_spans.specs.FeastSides.{yearless_feast as yearless_spec};
 ghost use Rattle.written_dates.specs.Written.{church_of as church_spec, feast_of as feast_spec};
 
 use crate::extents::{
-    Extent, Signs, if_year, is_letter, plain_extent, said_day, weekday_among, with_weekday,
+    Extent, Signs, if_year, is_letter, is_of_calendar, plain_extent, said_day, weekday_among,
+    with_weekday,
 };
 use church_year::{Church, Feast, Place, Season, feast_date};
 use date_texts::Calendar;
@@ -52,11 +53,11 @@ fn date_of(church: Option<Church>, year: u32, feast: Feast) -> Option<(u32, u32)
     }
 }
 
-/// Whether a year is never short.
+/// Whether a year is one of the calendar, and never short.
 fn is_whole(year: Number) -> bool
     ensures { result ≡ whole_spec year }
 {
-    (year.value >= 100 || year.digits >= 3) && !is_letter(year)
+    (year.value >= 100 || year.digits >= 3) && !is_letter(year) && is_of_calendar(year.year)
 }
 
 /// The day of a feast in a year that has it, in the calendar of a church.

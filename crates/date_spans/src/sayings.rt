@@ -5,7 +5,7 @@ ghost use Rattle.date_spans.specs.Extents.{year_in as year_spec};
 ghost use Rattle.date_spans.specs.FeastSides.{bare_side as bare_spec};
 ghost use Rattle.date_spans.specs.Sayings.{all_alike as alike_spec, before_slash as slash_spec, both as both_spec};
 ghost use Rattle.date_spans.specs.Sayings.{by_word as word_spec};
-ghost use Rattle.date_spans.specs.Sayings.{completed as completed_spec, day_of_year as day_of_year_spec, dual_by as dual_spec};
+ghost use Rattle.date_spans.specs.Sayings.{completed as completed_spec, dual_by as dual_spec, undated as undated_spec};
 ghost use Rattle.date_spans.specs.Sayings.{is_about as about_spec, is_about_word as about_word_spec};
 ghost use Rattle.date_spans.specs.Sayings.{is_before_new_year as before_spec, is_between as between_spec};
 ghost use Rattle.date_spans.specs.Sayings.{is_dual_by as is_dual_by_spec, is_dual_of as is_dual_spec};
@@ -21,7 +21,7 @@ ghost use Rattle.date_spans.specs.Sayings.{said_of_short as said_short_spec, sho
 ghost use Rattle.date_spans.specs.Sayings.{without_about as without_spec};
 
 use crate::extents::{
-    Extent, SaidDay, Signs, extent_of, if_year, weekday_among, with_weekday, year_in,
+    Extent, Signs, day_of_year, extent_of, if_year, weekday_among, with_weekday, year_in,
 };
 use crate::feast_sides::{bare_side, in_year_of, side_of};
 use arrayvec::ArrayVec;
@@ -56,6 +56,8 @@ pub enum Said {
     From(Extent),
     /// Up to it.
     Until(Extent),
+    /// No date is known.
+    Undated,
 }
 
 /// What kind of saying it is.
@@ -75,6 +77,8 @@ pub enum Kind {
     From,
     /// Up to then.
     Until,
+    /// No date is known.
+    Undated,
     /// Nothing that is read.
     Unread,
 }
@@ -91,6 +95,7 @@ pub fn kind_of(said: Said) -> Kind
         Said::After(_) => Kind::After,
         Said::From(_) => Kind::From,
         Said::Until(_) => Kind::Until,
+        Said::Undated => Kind::Undated,
     }
 }
 
@@ -350,6 +355,17 @@ pub struct Way {
     pub two: Signs,
 }
 
+/// That no date is known, if nothing stands behind its word.
+fn undated(rest: &[Item]) -> Option<Said>
+    ensures { result ≡ undated_spec rest.now }
+{
+    if rest.is_empty() {
+        Some(Said::Undated)
+    } else {
+        None
+    }
+}
+
 /// What items with this word in front say.
 fn by_word(way: Way, word: Word, rest: &[Item], whole: &[Item]) -> Option<Said>
     requires rest { length rest.now ≤ 16 }
@@ -364,6 +380,7 @@ fn by_word(way: Way, word: Word, rest: &[Item], whole: &[Item]) -> Option<Said>
         }
         Word::Between => parted(true, way.calendar, way.two, way.order, None, rest),
         Word::And => None,
+        Word::Undated => undated(rest),
         Word::About => {
             let alone = one(piece(way.calendar, way.one, way.order, whole));
             parted(false, way.calendar, way.two, way.order, alone, whole)
@@ -479,19 +496,6 @@ fn next_year(year: Number) -> Number
         named: year.named,
         year: year.year,
         day: year.day,
-    }
-}
-
-/// The same day of another year.
-fn day_of_year(said: SaidDay, year: Number) -> SaidDay
-    ensures { result ≡ day_of_year_spec said year }
-{
-    SaidDay {
-        year,
-        month: said.month,
-        day: said.day,
-        adar: said.adar,
-        beside: said.beside,
     }
 }
 

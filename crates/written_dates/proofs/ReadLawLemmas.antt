@@ -32,7 +32,8 @@ use Rattle.written_dates.specs.declared.written.Short.{Short}
 use Rattle.written_dates.specs.declared.written.Short.TheVariants.{Refuse, Keep, Add}
 use Rattle.written_dates.specs.Calendars.{form}
 use Rattle.written_dates.specs.Tokens.{Piece, tokens}
-use Rattle.written_dates.specs.Items.{is_long}
+use Rattle.written_dates.specs.declared.meanings.Mark.{Mark as NamedMark}
+use Rattle.written_dates.specs.Items.{is_long, is_of_calendar}
 use Rattle.written_dates.specs.Sums.{found_items}
 use Rattle.written_dates.specs.Signs.{bare, begins_with_dash, has_bar_between, has_minus, has_mixed_signs, has_other, three_runs}
 use Rattle.written_dates.specs.Signs.{runs_behind_minus}
@@ -45,7 +46,6 @@ use Rattle.written_dates.specs.Written.{if_agreed, in_month, is_half_year, items
 use Rattle.written_dates.specs.ReadLaws.{if_on, WeekdaysOnlyTest, DecadeDaysAgree, MixedSignsStay, DaysToDaysStay}
 use Rattle.written_dates.specs.ReadLaws.{IsRead, WeekdaysAgree, UsesAll, AreYearMonthDay, IsMonthItem, IsDayItem}
 use Rattle.written_dates.specs.ReadLaws.{NothingIsLeftOver, LongNumbersAreYears, MonthsAreMonths, YearWordsNameYears}
-use Rattle.written_dates.specs.ReadLaws.{is_of_calendar}
 use Rattle.written_dates.specs.ReadLaws.{MinusesAreNotRead, MinusesStay, YearsOfTheRepublic, is_no_weekday}
 use Rattle.written_dates.specs.ReadLaws.{is_numeral, IsOfChurch, IsRepublican, NamedYearsAreWhole, DaysStandBehindMonths, RomanNumbersAreMonths}
 use Rattle.written_dates.proofs.DayLemmas.{on_parts}
@@ -240,10 +240,17 @@ uses_of found number day uses =
     let a : year ≡ number = cc in let b : other ≡ day = cc in
     subst (λ (x : InYear). UsesAll found number x) b (subst (λ (n : Numeral). UsesAll found n other) a all)
 
+marked_alone : (b : Bool) (year month : ℕ) (mark : NamedMark) (count : ℕ) (number : Numeral) (day : InYear)
+    → cond b (Some (Roman year month mark count)) None ≡ Some (Civil number day) → ⊥
+marked_alone true year month mark count number day e = cc
+marked_alone false year month mark count number day e = cc
+
 no_civil : (charters : Bool) (found : List Item) (number : Numeral) (day : InYear)
     → roman_reading charters found ≡ Some (Civil number day) → ⊥
-no_civil charters (Number n ∷ Mark k ∷ Month m ∷ Number y ∷ []) number day e = cc
-no_civil charters (Mark k ∷ Month m ∷ Number y ∷ []) number day e = cc
+no_civil charters (Number n ∷ Mark k ∷ Month m ∷ Number y ∷ []) number day e =
+    marked_alone (is_of_calendar y.year) _ _ _ _ number day e
+no_civil charters (Mark k ∷ Month m ∷ Number y ∷ []) number day e =
+    marked_alone (is_of_calendar y.year) _ _ _ _ number day e
 no_civil charters _ number day e = cc
 
 pub uses_by : (f : Form) (choice : Choice) (pieces : List Piece) (found : List Item) (number : Numeral) (day : InYear)

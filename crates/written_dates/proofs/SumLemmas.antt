@@ -1,5 +1,5 @@
 -- Items are added from the left, and numbers that add up become one.
-use Rattle.std.proofs.Common.{◌≡◌, ℕ, ◌+◌, ◌<◌, ◌≤◌, Bool, true, false, cond, List, [], ◌∷◌, ◌++◌, length, refl, sym, ap, ◌∙◌, arith}
+use Rattle.std.proofs.Common.{◌≡◌, ℕ, ◌+◌, ◌<◌, ◌≤◌, Bool, true, false, ◌&&◌, cond, List, [], ◌∷◌, ◌++◌, length, refl, sym, ap, ◌∙◌, arith}
 use Rattle.std.proofs.Common.{Option, Some, None, append_assoc, append-nil, length-append}
 use Rattle.std.specs.Prelude.{option_map}
 use Rattle.std.proofs.lemmas.Bool.{true≢false}
@@ -12,7 +12,7 @@ use Rattle.written_dates.specs.declared.meanings.Name.{Name}
 use Rattle.written_dates.specs.Tokens.{Piece}
 use Rattle.written_dates.specs.Items.{before, is_long, items}
 use Rattle.written_dates.specs.ItemViews.{resumed}
-use Rattle.written_dates.specs.Sums.{before_era, has_year_of, with_year, SumsStay, adds_up, joined_item, joined_or, summed, summed_from, total, value_of}
+use Rattle.written_dates.specs.Sums.{before_era, has_sum, has_year_of, with_year, SumsStay, adds_up, joined_item, joined_or, summed, summed_from, total, value_of}
 
 -- ---- the last item may still grow
 last_resumed : (xs : List Item) (last : Item) (rest : List Item)
@@ -205,7 +205,7 @@ day_before false a next rest h =
 
 summed_more : (x y : Item) (next : Item → List Item) (rest : ℕ) → ((z : Item) → total (next z) ≡ value_of z + rest)
     → Kept (joined_item x y) x y next rest
-summed_more (Number a) (Number c) next rest h = summed_if (adds_up a c) a c next rest h
+summed_more (Number a) (Number c) next rest h = summed_if (adds_up a c && has_sum a.year (a.value + c.value)) a c next rest h
 summed_more (Number a) (YearWord era) next rest h = year_if (is_long a) era a next rest h
 summed_more (Number a) DayWord next rest h = day_behind (is_long a) a next rest h
 summed_more (YearWord era) (Number c) next rest h = year_behind (has_year_of era c.value) era c next rest h

@@ -14,9 +14,8 @@ use Rattle.written_dates.specs.declared.rules.InYear.TheVariants as named
 use Rattle.written_dates.specs.declared.rules.Order.{Order}
 use Rattle.written_dates.specs.declared.rules.Reading.{Reading}
 use Rattle.written_dates.specs.declared.rules.Reading.TheVariants.{Civil}
-use Rattle.written_dates.specs.Items.{is_long}
+use Rattle.written_dates.specs.Items.{is_long, is_of_calendar}
 use Rattle.written_dates.specs.Rules.{beside_weekday, is_year_first, plain_reading}
-use Rattle.written_dates.specs.ReadLaws.{is_of_calendar}
 use Rattle.written_dates.specs.Written.{has_year, is_half_year}
 use Rattle.date_spans.specs.declared.extents.Extent.{Extent}
 use Rattle.date_spans.specs.declared.extents.Extent.TheVariants as extent

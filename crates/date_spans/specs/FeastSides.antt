@@ -10,8 +10,7 @@ use Rattle.written_dates.specs.declared.items.Number.{Number as Numeral}
 use Rattle.written_dates.specs.declared.items.Item.{Item}
 use Rattle.written_dates.specs.declared.items.Item.TheVariants.{Number, Feast, Sundays}
 use Rattle.written_dates.specs.declared.rules.Order.{Order}
-use Rattle.written_dates.specs.Items.{is_long}
-use Rattle.written_dates.specs.ReadLaws.{is_of_calendar}
+use Rattle.written_dates.specs.Items.{is_long, is_of_calendar}
 use Rattle.written_dates.specs.Rules.{beside_weekday}
 use Rattle.written_dates.specs.Written.{church_of, feast_of}
 use Rattle.date_spans.specs.declared.extents.Extent.{Extent}

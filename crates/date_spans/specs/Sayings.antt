@@ -1,5 +1,6 @@
 -- What items with words say: how much, and whether they mean it, what lies before it or what lies after it.
-use Rattle.std.specs.Prelude.{ℕ, ◌+◌, ◌-◌, ◌%◌, Bool, true, false, ◌&&◌, ◌||◌, ◌==◌, nat_lt, if◌then◌else◌}
+use Rattle.std.specs.List.{list_any}
+use Rattle.std.specs.Prelude.{ℕ, ◌+◌, ◌-◌, ◌%◌, Bool, true, false, not, ◌&&◌, ◌||◌, ◌==◌, nat_lt, if◌then◌else◌}
 use Rattle.std.specs.Prelude.{List, [], ◌∷◌, ◌++◌, length, take, drop, position, slice_get, Option, Some, None, option_map}
 use Rattle.date_texts.specs.declared.calendar.Calendar.{Calendar}
 use Rattle.date_texts.specs.declared.calendar.Calendar.TheVariants.{Julian}
@@ -10,7 +11,7 @@ use Rattle.written_dates.specs.declared.meanings.Relation.TheVariants as relatio
 use Rattle.written_dates.specs.declared.meanings.Word.{Word}
 use Rattle.written_dates.specs.declared.meanings.Word.TheVariants as words
 use Rattle.written_dates.specs.declared.rules.Order.{Order}
-use Rattle.written_dates.specs.Items.{is_long}
+use Rattle.written_dates.specs.Items.{is_long, is_of_calendar}
 use Rattle.written_dates.specs.Rules.{beside_weekday}
 use Rattle.date_spans.specs.declared.extents.Extent.{Extent}
 use Rattle.date_spans.specs.declared.extents.Extent.TheVariants as extent
@@ -59,10 +60,26 @@ left_of calendar signs order left right =
     (if_year calendar (with_weekday (weekday_among left)
     (completed calendar signs.shared order (beside_weekday left) (beside_weekday right))))
 
+-- the left of two sides has a year, and one of them has years of another era, but not both
+abbrev pub is_long_number : Item → Bool
+is_long_number (Number n) = is_long n
+is_long_number item = false
+
+abbrev pub is_of_other_era : Item → Bool
+is_of_other_era (Number n) = not (is_of_calendar n.year)
+is_of_other_era item = false
+
+abbrev pub are_mixed : List Item → List Item → Bool
+are_mixed left right =
+    list_any is_long_number left
+    && (if list_any is_of_other_era left
+    then not (list_any is_of_other_era right) else list_any is_of_other_era right)
+
 -- from one side to the other, or between both
 abbrev pub range_of : Bool → Calendar → RangeSigns → Order → List Item → List Item → Option Said
 range_of between calendar signs order left right =
-    both between (left_of calendar signs order (without_about left) (without_about right))
+    if are_mixed left right then None
+    else both between (left_of calendar signs order (without_about left) (without_about right))
     (piece calendar signs.right order right)
 
 -- words that part two sides; `and` does so behind `between` alone

@@ -15,13 +15,12 @@ ghost use Rattle.date_spans.specs.Extents.{are_in_order as order_spec, before_cr
 ghost use Rattle.date_spans.specs.Extents.{day_of_year as day_of_year_spec, from_creation as creation_spec};
 ghost use Rattle.date_spans.specs.Extents.{from_spanish as spanish_spec, in_calendar as in_calendar_spec};
 ghost use Rattle.date_spans.specs.Extents.{years_before as before_spec};
-ghost use Rattle.written_dates.specs.ReadLaws.{is_of_calendar as of_calendar_spec};
 
 use arrayvec::ArrayVec;
 use date_texts::Calendar;
 use written_dates::{
     Era, InYear, Item, Number, Order, Reading, beside_weekday, has_year, is_half_year, is_long,
-    is_year_first, plain_of,
+    is_of_calendar, is_year_first, plain_of,
 };
 
 /// A day of a year, and what has to be so for it.
@@ -130,16 +129,6 @@ fn century(number: Number, first: u8) -> Option<Extent>
     }
     let year = 100 * (number.value - 1) + first as u32;
     Some(Extent::Years(whole_year(year), whole_year(year + 99)))
-}
-
-/// Whether a year is counted as those of the calendar.
-pub fn is_of_calendar(era: Option<Era>) -> bool
-    ensures { result ≡ of_calendar_spec era }
-{
-    match era {
-        Some(Era::Spanish) | Some(Era::Creation) => false,
-        _ => true,
-    }
 }
 
 /// Ten years, of which the first ends with 0, and not with 00, which may mean a hundred.

@@ -10,12 +10,11 @@ ghost use Rattle.date_spans.specs.FeastSides.{yearless_feast as yearless_spec};
 ghost use Rattle.written_dates.specs.Written.{church_of as church_spec, feast_of as feast_spec};
 
 use crate::extents::{
-    Extent, Signs, if_year, is_letter, is_of_calendar, plain_extent, said_day, weekday_among,
-    with_weekday,
+    Extent, Signs, if_year, is_letter, plain_extent, said_day, weekday_among, with_weekday,
 };
 use church_year::{Church, Feast, Place, Season, feast_date};
 use date_texts::Calendar;
-use written_dates::{Item, Number, Order, beside_weekday, is_long};
+use written_dates::{Item, Number, Order, beside_weekday, is_long, is_of_calendar};
 
 /// The church that reckons in a calendar.
 fn church_of(calendar: Calendar) -> Option<Church>

@@ -19,6 +19,9 @@ ghost use Rattle.date_spans.specs.Sayings.{ends_with_year as ends_spec, in_later
 ghost use Rattle.date_spans.specs.Sayings.{is_next_in_short as short_next_spec};
 ghost use Rattle.date_spans.specs.Sayings.{said_of_short as said_short_spec, short_by as short_spec};
 ghost use Rattle.date_spans.specs.Sayings.{without_about as without_spec};
+ghost use Rattle.date_spans.specs.Sayings.{are_mixed as mixed_spec, is_long_number as long_number_spec};
+ghost use Rattle.date_spans.specs.Sayings.{is_of_other_era as other_era_spec};
+ghost use Rattle.std.specs.List.{list_any};
 
 use crate::extents::{
     Extent, Signs, day_of_year, extent_of, if_year, weekday_among, with_weekday, year_in,
@@ -26,7 +29,7 @@ use crate::extents::{
 use crate::feast_sides::{bare_side, in_year_of, side_of};
 use arrayvec::ArrayVec;
 use date_texts::Calendar;
-use written_dates::{Item, Number, Order, Relation, Word, beside_weekday, is_long};
+use written_dates::{Item, Number, Order, Relation, Word, beside_weekday, is_long, is_of_calendar};
 
 /// The signs of two sides.
 #[derive(Clone, Copy)]
@@ -236,6 +239,54 @@ pub fn left_of(
     if_year(calendar, with_weekday(weekday_among(left), said))
 }
 
+/// Whether a number is long.
+fn is_long_number(item: Item) -> bool
+    ensures { result ≡ long_number_spec item }
+{
+    match item {
+        Item::Number(number) => is_long(number),
+        _ => false,
+    }
+}
+
+/// Whether a number is a year of another era than the calendar's.
+fn is_of_other_era(item: Item) -> bool
+    ensures { result ≡ other_era_spec item }
+{
+    match item {
+        Item::Number(number) => !is_of_calendar(number.year),
+        _ => false,
+    }
+}
+
+/// Whether a number among items is long.
+fn has_long_number(items: &[Item]) -> bool
+    ensures { result ≡ list_any long_number_spec items.now }
+{
+    items.iter().any(|item| is_long_number(*item))
+}
+
+/// Whether a year of another era is among items.
+fn has_other_era(items: &[Item]) -> bool
+    ensures { result ≡ list_any other_era_spec items.now }
+{
+    items.iter().any(|item| is_of_other_era(*item))
+}
+
+/// Whether the left of two sides has a year, and one of them has years of another era, but not both.
+fn are_mixed(left: &[Item], right: &[Item]) -> bool
+    ensures { result ≡ mixed_spec left.now right.now }
+{
+    if !has_long_number(left) {
+        return false;
+    }
+    if has_other_era(left) {
+        !has_other_era(right)
+    } else {
+        has_other_era(right)
+    }
+}
+
 /// From one side to the other, or between both.
 fn range_of(
     between: bool,
@@ -249,6 +300,9 @@ fn range_of(
     requires right { length right.now ≤ 16 }
     ensures { result ≡ range_spec between calendar signs order left.now right.now }
 {
+    if are_mixed(left, right) {
+        return None;
+    }
     let first = left_of(
         calendar,
         signs,

@@ -7,7 +7,7 @@ use date_texts::{Calendar, calendar_named};
 use day_numbers::Weekday;
 use std::alloc::{AllocError, Global};
 use table::SPANS;
-use written_dates::{Calendars, Choice, Meaning, Name, Names, Order, Relation, Short, Word};
+use written_dates::{Calendars, Choice, Era, Meaning, Name, Names, Order, Relation, Short, Word};
 
 /// Names: a text, what it means, and the calendars in which it does, none for all.
 const NAMES: &str = "\
@@ -49,6 +49,16 @@ u|and|
 AND|and|
 an|year|republican french
 Jahr|year|
+era|spanish|julian
+mundi|creation|julian
+September|month 9|gregorian julian
+Frühjahr|months 3-5|
+Herbst|months 9-11|
+Sommerhalbjahr|months 4-9|
+Jh|century 1|
+saec|century 0|
+s|decade|
+o D|undated|
 im||
 den||
 Adar|adar|hebrew
@@ -79,7 +89,16 @@ fn meaning_of(text: &str) -> Meaning {
     match text {
         "" => Meaning::Nothing,
         "adar" => Meaning::Adar,
-        "year" => Meaning::YearWord,
+        "year" => Meaning::YearWord(Era::Calendar),
+        "spanish" => Meaning::YearWord(Era::Spanish),
+        "creation" => Meaning::YearWord(Era::Creation),
+        "months 3-5" => Meaning::Months(3, 5),
+        "months 4-9" => Meaning::Months(4, 9),
+        "months 9-11" => Meaning::Months(9, 11),
+        "century 0" => Meaning::Century(0),
+        "century 1" => Meaning::Century(1),
+        "decade" => Meaning::Decade,
+        "undated" => Meaning::Word(Word::Undated),
         "day" => Meaning::DayWord,
         "weekday 0" => Meaning::Weekday(Weekday::Sunday),
         "weekday 1" => Meaning::Weekday(Weekday::Monday),
@@ -176,6 +195,7 @@ fn kind_in(text: &str) -> (Kind, &str) {
         ("after", Kind::After),
         ("from", Kind::From),
         ("to", Kind::Until),
+        ("undated", Kind::Undated),
     ];
     for (word, kind) in &words {
         if let Some(rest) = text.strip_prefix(*word) {

@@ -49,6 +49,8 @@ first_in (extent.Day d) year months = numbers year d.month d.day
 first_in (extent.Month y month) year months = numbers year month 1
 first_in (extent.Adar y) year months = numbers year 12 1
 first_in (extent.Year y) year months = numbers year (first_month months) 1
+first_in (extent.LastDay y month) year months = numbers year month (days_of_month months month)
+first_in (extent.PartOfYear y from to) year months = numbers year from 1
 first_in (extent.Months y from z to) year months = numbers year from 1
 first_in (extent.Years y z) year months = numbers year (first_month months) 1
 
@@ -57,6 +59,8 @@ last_in (extent.Day d) year months = numbers year d.month d.day
 last_in (extent.Month y month) year months = numbers year month (days_of_month months month)
 last_in (extent.Adar y) year months = numbers year (last_adar months) (days_of_month months (last_adar months))
 last_in (extent.Year y) year months = numbers year (last_month months) (days_of_month months (last_month months))
+last_in (extent.LastDay y month) year months = numbers year month (days_of_month months month)
+last_in (extent.PartOfYear y from to) year months = numbers year to (days_of_month months to)
 last_in (extent.Months y from z to) year months = numbers year to (days_of_month months to)
 last_in (extent.Years y z) year months = numbers year (last_month months) (days_of_month months (last_month months))
 

@@ -1,13 +1,13 @@
 -- How much of a calendar items without words say: a day, a month or a year.
-use Rattle.std.specs.Prelude.{ℕ, ◌+◌, ◌-◌, ◌*◌, ◌%◌, Bool, true, false, not, ◌&&◌, ◌||◌, ◌==◌, nat_le, nat_lt}
+use Rattle.std.specs.Prelude.{ℕ, ◌+◌, ◌-◌, ◌*◌, ◌/◌, ◌%◌, Bool, true, false, not, ◌&&◌, ◌||◌, ◌==◌, nat_le, nat_lt}
 use Rattle.std.specs.Prelude.{if◌then◌else◌, List, [], ◌∷◌, map, Option, Some, None, is_some}
 use Rattle.std.specs.List.{list_any}
 use Rattle.date_texts.specs.declared.calendar.Calendar.{Calendar}
-use Rattle.date_texts.specs.declared.calendar.Calendar.TheVariants.{Hebrew}
+use Rattle.date_texts.specs.declared.calendar.Calendar.TheVariants.{Gregorian, Hebrew, Islamic, Julian}
 use Rattle.written_dates.specs.declared.items.Number.{Number as Numeral}
 use Rattle.written_dates.specs.declared.items.Item.{Item}
-use Rattle.written_dates.specs.declared.items.Item.TheVariants.{Adar, Century, Decade, Number, Month, Months, Weekday}
-use Rattle.written_dates.specs.declared.items.Item.TheVariants.{DecadeDay}
+use Rattle.written_dates.specs.declared.items.Item.TheVariants.{Adar, Century, Decade, LastDay, Number, Month, Months, Part}
+use Rattle.written_dates.specs.declared.items.Item.TheVariants.{DecadeDay, Weekday}
 use Rattle.written_dates.specs.declared.meanings.Era.{Era}
 use Rattle.written_dates.specs.declared.meanings.Era.TheVariants as eras
 use Rattle.written_dates.specs.declared.rules.InYear.TheVariants as named
@@ -50,12 +50,37 @@ two_numbers slashed order a b =
 abbrev pub whole_year : ℕ → Numeral
 whole_year year = record { value = year; digits = 0; named = false; year = Some eras.Calendar; day = false }
 
--- the second to the thirtieth century, of which the first year ends with 00 or 01: 1700 to 1799, or 1701 to 1800
-abbrev pub century : Numeral → ℕ → Option Extent
-century n first =
-    if not (is_long n) && not n.day && nat_le 2 n.value && nat_le n.value 30
-    then Some (extent.Years (whole_year (100 * (n.value - 1) + first)) (whole_year (100 * (n.value - 1) + first + 99)))
+-- so many from the start lie before a part of some that are alike, and so many up to its end
+abbrev pub before_part : ℕ → ℕ → ℕ → ℕ
+before_part whole place parts = whole * (place - 1) / parts
+
+abbrev pub up_to_part : ℕ → ℕ → ℕ → ℕ
+up_to_part whole place parts = whole * place / parts
+
+-- one of two, three or four parts
+abbrev pub is_part : ℕ → ℕ → Bool
+is_part place parts = nat_le 1 place && nat_le place parts && nat_le 2 parts && nat_le parts 4
+
+-- a part of the second to the thirtieth century, whose first year ends with 00 or 01: 1700 to 1799, or 1701 to 1800
+abbrev pub part_of_century : ℕ → ℕ → Numeral → ℕ → Option Extent
+part_of_century place parts n first =
+    if not (is_long n) && not n.day && nat_le 2 n.value && nat_le n.value 30 && nat_le first 1
+    then Some (extent.Years
+    (whole_year (100 * (n.value - 1) + first + before_part 100 place parts))
+    (whole_year (100 * (n.value - 1) + first + up_to_part 100 place parts - 1)))
     else None
+
+abbrev pub century : Numeral → ℕ → Option Extent
+century n first = part_of_century 1 1 n first
+
+abbrev pub if_part : ℕ → ℕ → Option Extent → Option Extent
+if_part place parts said = if is_part place parts then said else None
+
+-- a part of a year of twelve months
+abbrev pub part_of_year : ℕ → ℕ → Numeral → Option Extent
+part_of_year place parts year =
+    if_part place parts
+    (if_long year (extent.PartOfYear year (before_part 12 place parts + 1) (up_to_part 12 place parts)))
 
 -- ten years, of which the first ends with 0, and not with 00, which may mean a hundred
 abbrev pub decade : Numeral → Option Extent
@@ -73,6 +98,12 @@ month_or_year slashed order (Months from to ∷ Number a ∷ []) = if_long a (ex
 month_or_year slashed order (Number a ∷ Months from to ∷ []) = if_long a (extent.Months a from a to)
 month_or_year slashed order (Century first ∷ Number n ∷ []) = century n first
 month_or_year slashed order (Number n ∷ Century first ∷ []) = century n first
+month_or_year slashed order (Part place parts ∷ Century first ∷ Number n ∷ []) =
+    if_part place parts (part_of_century place parts n first)
+month_or_year slashed order (Part place parts ∷ Number n ∷ Century first ∷ []) =
+    if_part place parts (part_of_century place parts n first)
+month_or_year slashed order (Part place parts ∷ Number a ∷ []) = part_of_year place parts a
+month_or_year slashed order (LastDay ∷ Month m ∷ Number a ∷ []) = if_long a (extent.LastDay a m)
 month_or_year slashed order (Number n ∷ Decade ∷ []) = decade n
 month_or_year slashed order (Number a ∷ Number b ∷ []) = two_numbers slashed order a b
 month_or_year slashed order items = None
@@ -138,6 +169,8 @@ year_in (extent.Day d) = d.year
 year_in (extent.Month year month) = year
 year_in (extent.Adar year) = year
 year_in (extent.Year year) = year
+year_in (extent.LastDay year month) = year
+year_in (extent.PartOfYear year from to) = year
 year_in (extent.Months year from last to) = year
 year_in (extent.Years year last) = year
 
@@ -154,7 +187,9 @@ day_of_year d year = record { year = year; month = d.month; day = d.day; adar = 
 abbrev pub from_spanish : Extent → Option Extent
 from_spanish (extent.Day d) = Some (extent.Day (day_of_year d (years_before 38 d.year)))
 from_spanish (extent.Month y month) = Some (extent.Month (years_before 38 y) month)
+from_spanish (extent.LastDay y month) = Some (extent.LastDay (years_before 38 y) month)
 from_spanish (extent.Year y) = Some (extent.Year (years_before 38 y))
+from_spanish (extent.PartOfYear y from to) = Some (extent.PartOfYear (years_before 38 y) from to)
 from_spanish (extent.Months y from z to) = Some (extent.Months (years_before 38 y) from (years_before 38 z) to)
 from_spanish said = None
 
@@ -165,6 +200,7 @@ before_creation month = if nat_le 9 month then 5_509 else 5_508
 abbrev pub from_creation : Extent → Option Extent
 from_creation (extent.Day d) = Some (extent.Day (day_of_year d (years_before (before_creation d.month) d.year)))
 from_creation (extent.Month y month) = Some (extent.Month (years_before (before_creation month) y) month)
+from_creation (extent.LastDay y month) = Some (extent.LastDay (years_before (before_creation month) y) month)
 from_creation (extent.Year y) = Some (extent.Months (years_before 5_509 y) 9 (years_before 5_508 y) 8)
 from_creation (extent.Months y from z to) =
     if before_creation from == before_creation to
@@ -177,9 +213,17 @@ in_calendar (Some eras.Spanish) said = from_spanish said
 in_calendar (Some eras.Creation) said = from_creation said
 in_calendar era said = Some said
 
--- months of one year stand in this order in it: a Hebrew year begins with the seventh
+-- each year has twelve months, and begins with the first
+abbrev pub has_twelve_months : Calendar → Bool
+has_twelve_months Gregorian = true
+has_twelve_months Julian = true
+has_twelve_months Islamic = true
+has_twelve_months calendar = false
+
+-- months of one year stand in this order in it: a Hebrew year begins with the seventh; and parts are those of twelve
 abbrev pub are_in_order : Calendar → Extent → Bool
 are_in_order Hebrew (extent.Months year from last to) = (nat_lt from 7 && nat_lt to 7) || (nat_le 7 from && nat_le 7 to)
+are_in_order calendar (extent.PartOfYear year from to) = has_twelve_months calendar
 are_in_order calendar said = true
 
 -- of a year that the calendar can have in words, and that is written whole

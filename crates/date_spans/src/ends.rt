@@ -75,7 +75,12 @@ pub fn first_of(choice: &Choice, calendar: Calendar, said: Extent) -> Option<Num
             month: 12,
             day: 1,
         }),
-        Extent::Months(_, from, _, _) => Some(Numbers {
+        Extent::LastDay(_, month) => Some(Numbers {
+            year,
+            month,
+            day: days_in(months_of(calendar, year), month) as u32,
+        }),
+        Extent::PartOfYear(_, from, _) | Extent::Months(_, from, _, _) => Some(Numbers {
             year,
             month: from,
             day: 1,
@@ -110,7 +115,7 @@ pub fn last_of(choice: &Choice, calendar: Calendar, said: Extent) -> Option<Numb
             month: said.month,
             day: said.day,
         }),
-        Extent::Month(_, month) => Some(Numbers {
+        Extent::Month(_, month) | Extent::LastDay(_, month) => Some(Numbers {
             year,
             month,
             day: days_in(months_of(calendar, year), month) as u32,
@@ -124,7 +129,7 @@ pub fn last_of(choice: &Choice, calendar: Calendar, said: Extent) -> Option<Numb
                 day: days_in(months, month) as u32,
             })
         }
-        Extent::Months(_, _, _, to) => Some(Numbers {
+        Extent::PartOfYear(_, _, to) | Extent::Months(_, _, _, to) => Some(Numbers {
             year,
             month: to,
             day: days_in(months_of(calendar, year), to) as u32,

@@ -1,6 +1,6 @@
 //! How much of a calendar items say.
 
-ghost use Rattle.std.specs.Prelude.{◌≡◌, ◌≤◌, [], true, length, map};
+ghost use Rattle.std.specs.Prelude.{◌≡◌, ◌≤◌, [], true, false, length, map, IfNone, IfSome};
 ghost use Rattle.std.specs.List.{list_any};
 ghost use Rattle.written_dates.specs.Rules.{plain_reading};
 ghost use Rattle.date_spans.specs.Extents.{are_numbers as numbers_spec};
@@ -11,6 +11,8 @@ ghost use Rattle.date_spans.specs.Extents.{month_or_year as short_spec, named_ex
 ghost use Rattle.date_spans.specs.Extents.{said_day as said_day_spec, two_numbers as two_spec, weekday_among as among_spec};
 ghost use Rattle.date_spans.specs.Extents.{with_weekday as weekday_spec, year_in as year_in_spec};
 ghost use Rattle.date_spans.specs.Extents.{century as century_spec, decade as decade_spec, whole_year as whole_spec};
+ghost use Rattle.date_spans.specs.Extents.{has_twelve_months as twelve_spec, if_part, is_part, part_of_century as part_of_century_spec};
+ghost use Rattle.date_spans.specs.Extents.{part_of_year as part_of_year_spec};
 ghost use Rattle.date_spans.specs.Extents.{are_in_order as order_spec, before_creation as before_creation_spec};
 ghost use Rattle.date_spans.specs.Extents.{day_of_year as day_of_year_spec, from_creation as creation_spec};
 ghost use Rattle.date_spans.specs.Extents.{from_spanish as spanish_spec, in_calendar as in_calendar_spec};
@@ -49,6 +51,10 @@ pub enum Extent {
     Adar(Number),
     /// A year.
     Year(Number),
+    /// The last day of a month of a year.
+    LastDay(Number, u32),
+    /// A part of a year, from a month to a month, of some that are alike.
+    PartOfYear(Number, u32, u32),
     /// From a month of a year to a month of the same one or of the next.
     Months(Number, u32, Number, u32),
     /// From a year to a year.
@@ -120,15 +126,71 @@ fn whole_year(year: u32) -> Number
     }
 }
 
-/// The second to the thirtieth century, of which the first year ends with 00 or 01.
-fn century(number: Number, first: u8) -> Option<Extent>
-    ensures { result ≡ century_spec number first }
+/// Some that are alike, of a year or a century.
+#[derive(Clone, Copy)]
+struct Parts {
+    /// The place of one among them.
+    place: u32,
+    /// How many they are.
+    count: u32,
+}
+
+/// The whole as its only part.
+const WHOLE: Parts = Parts { place: 1, count: 1 };
+
+/// One of two, three or four parts.
+fn parts_of(place: u8, count: u8) -> Option<Parts>
+    ensures some { IfSome result (λ parts. (is_part place count ≡ true) × (parts.place ≡ place) × (parts.count ≡ count)
+        × (1 ≤ place) × (place ≤ count) × (count ≤ 4)) }
+    ensures none { IfNone result (is_part place count ≡ false) }
 {
-    if is_long(number) || number.day || number.value < 2 || number.value > 30 {
+    if place < 1 || place > count || count < 2 || count > 4 {
+        return None;
+    }
+    Some(Parts {
+        place: place as u32,
+        count: count as u32,
+    })
+}
+
+/// A part of the second to the thirtieth century, whose first year ends with 00 or 01.
+fn part_of_century(parts: Parts, number: Number, first: u8) -> Option<Extent>
+    requires place { 1 ≤ parts.place }
+    requires count { parts.place ≤ parts.count }
+    requires few { parts.count ≤ 4 }
+    ensures { result ≡ part_of_century_spec parts.place parts.count number first }
+{
+    if is_long(number) || number.day || number.value < 2 || number.value > 30 || first > 1 {
         return None;
     }
     let year = 100 * (number.value - 1) + first as u32;
-    Some(Extent::Years(whole_year(year), whole_year(year + 99)))
+    let before = 100 * (parts.place - 1) / parts.count;
+    let up_to = 100 * parts.place / parts.count;
+    Some(Extent::Years(whole_year(year + before), whole_year(year + up_to - 1)))
+}
+
+/// A century.
+fn century(number: Number, first: u8) -> Option<Extent>
+    ensures { result ≡ century_spec number first }
+{
+    part_of_century(WHOLE, number, first)
+}
+
+/// One of the parts of a century.
+fn century_part(place: u8, count: u8, number: Number, first: u8) -> Option<Extent>
+    ensures { result ≡ if_part place count (part_of_century_spec place count number first) }
+{
+    part_of_century(parts_of(place, count)?, number, first)
+}
+
+/// A part of a year of twelve months.
+fn part_of_year(place: u8, count: u8, year: Number) -> Option<Extent>
+    ensures { result ≡ part_of_year_spec place count year }
+{
+    let parts = parts_of(place, count)?;
+    let from = 12 * (parts.place - 1) / parts.count + 1;
+    let to = 12 * parts.place / parts.count;
+    if_long(year, Extent::PartOfYear(year, from, to))
 }
 
 /// Ten years, of which the first ends with 0, and not with 00, which may mean a hundred.
@@ -166,6 +228,20 @@ fn month_or_year(slashed: bool, order: Order, items: &[Item]) -> Option<Extent>
         [Item::Number(a), Item::Months(from, to)] => part_of(*a, *from, *to),
         [Item::Century(first), Item::Number(n)] => century(*n, *first),
         [Item::Number(n), Item::Century(first)] => century(*n, *first),
+        [
+            Item::Part(place, parts),
+            Item::Century(first),
+            Item::Number(n),
+        ] => { century_part(*place, *parts, *n, *first) }
+        [
+            Item::Part(place, parts),
+            Item::Number(n),
+            Item::Century(first),
+        ] => { century_part(*place, *parts, *n, *first) }
+        [Item::Part(place, parts), Item::Number(a)] => part_of_year(*place, *parts, *a),
+        [Item::LastDay, Item::Month(m), Item::Number(a)] => {
+            if_long(*a, Extent::LastDay(*a, *m as u32))
+        }
         [Item::Number(n), Item::Decade] => decade(*n),
         [Item::Number(a), Item::Number(b)] => two_numbers(slashed, order, *a, *b),
         _ => None,
@@ -349,6 +425,8 @@ pub fn year_in(said: Extent) -> Number
         Extent::Month(year, _) => year,
         Extent::Adar(year) => year,
         Extent::Year(year) => year,
+        Extent::LastDay(year, _) => year,
+        Extent::PartOfYear(year, _, _) => year,
         Extent::Months(year, _, _, _) => year,
         Extent::Years(year, _) => year,
     }
@@ -387,7 +465,11 @@ fn from_spanish(said: Extent) -> Option<Extent>
     match said {
         Extent::Day(day) => Some(Extent::Day(day_of_year(day, years_before(38, day.year)))),
         Extent::Month(year, month) => Some(Extent::Month(years_before(38, year), month)),
+        Extent::LastDay(year, month) => Some(Extent::LastDay(years_before(38, year), month)),
         Extent::Year(year) => Some(Extent::Year(years_before(38, year))),
+        Extent::PartOfYear(year, from, to) => {
+            Some(Extent::PartOfYear(years_before(38, year), from, to))
+        }
         Extent::Months(year, from, last, to) => Some(Extent::Months(
             years_before(38, year),
             from,
@@ -415,6 +497,10 @@ fn from_creation(said: Extent) -> Option<Extent>
             Some(Extent::Day(day_of_year(day, year)))
         }
         Extent::Month(year, month) => Some(Extent::Month(
+            years_before(before_creation(month), year),
+            month,
+        )),
+        Extent::LastDay(year, month) => Some(Extent::LastDay(
             years_before(before_creation(month), year),
             month,
         )),
@@ -450,7 +536,17 @@ fn in_calendar(era: Option<Era>, said: Extent) -> Option<Extent>
     }
 }
 
-/// Whether months of one year stand in this order in it.
+/// Whether each year of a calendar has twelve months, and begins with the first.
+fn has_twelve_months(calendar: Calendar) -> bool
+    ensures { result ≡ twelve_spec calendar }
+{
+    matches!(
+        calendar,
+        Calendar::Gregorian | Calendar::Julian | Calendar::Islamic
+    )
+}
+
+/// Whether months of one year stand in this order in it; and parts are those of twelve.
 fn are_in_order(calendar: Calendar, said: Extent) -> bool
     ensures { result ≡ order_spec calendar said }
 {
@@ -458,6 +554,7 @@ fn are_in_order(calendar: Calendar, said: Extent) -> bool
         (Calendar::Hebrew, Extent::Months(_, from, _, to)) => {
             (from < 7 && to < 7) || (from >= 7 && to >= 7)
         }
+        (_, Extent::PartOfYear(_, _, _)) => has_twelve_months(calendar),
         _ => true,
     }
 }

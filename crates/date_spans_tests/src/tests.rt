@@ -59,6 +59,12 @@ Jh|century 1|
 saec|century 0|
 s|decade|
 o D|undated|
+Anfang|part 1/3|
+Mitte|part 2/3|
+Ende|part 3/3|
+1 Hälfte|part 1/2|
+4 Viertel|part 4/4|
+Ultimo|last day|
 im||
 den||
 Adar|adar|hebrew
@@ -97,6 +103,12 @@ fn meaning_of(text: &str) -> Meaning {
         "months 9-11" => Meaning::Months(9, 11),
         "century 0" => Meaning::Century(0),
         "century 1" => Meaning::Century(1),
+        "part 1/2" => Meaning::Part(1, 2),
+        "part 1/3" => Meaning::Part(1, 3),
+        "part 2/3" => Meaning::Part(2, 3),
+        "part 3/3" => Meaning::Part(3, 3),
+        "part 4/4" => Meaning::Part(4, 4),
+        "last day" => Meaning::LastDay,
         "decade" => Meaning::Decade,
         "undated" => Meaning::Word(Word::Undated),
         "day" => Meaning::DayWord,

@@ -52,6 +52,10 @@ pub enum Item {
     DayWord,
     /// A part of a year, from a month to a month.
     Months(u8, u8),
+    /// A part of a year or a century, by its place among so many that are alike.
+    Part(u8, u8),
+    /// The last day of a month.
+    LastDay,
     /// A century, whose first year ends with 00 or 01.
     Century(u8),
     /// Ten years.
@@ -205,6 +209,8 @@ fn item_of(meaning: Meaning) -> Option<Item>
         Meaning::YearWord(era) => Some(Item::YearWord(era)),
         Meaning::DayWord => Some(Item::DayWord),
         Meaning::Months(first, last) => Some(Item::Months(first, last)),
+        Meaning::Part(place, parts) => Some(Item::Part(place, parts)),
+        Meaning::LastDay => Some(Item::LastDay),
         Meaning::Century(first) => Some(Item::Century(first)),
         Meaning::Decade => Some(Item::Decade),
         Meaning::Mark(mark) => Some(Item::Mark(mark)),

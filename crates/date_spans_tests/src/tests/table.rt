@@ -49,6 +49,26 @@ vor 18. Jh.||1700-12-31|before
 um 1790s|1790-1-1|1799-12-31|about
 1790s bis 1810s|1790-1-1|1819-12-31|
 1800s|=|=|unread
+Anfang 1790|1790-1-1|1790-4-30|
+Mitte 1790|1790-5-1|1790-8-31|
+Ende 1790|1790-9-1|1790-12-31|
+1. Hälfte 1790|1790-1-1|1790-6-30|
+4. Viertel 1790|1790-10-1|1790-12-31|
+Anfang 18. Jh.|1701-1-1|1733-12-31|
+Mitte 18. Jh.|1734-1-1|1766-12-31|
+Ende 18. Jh.|1767-1-1|1800-12-31|
+1. Hälfte 18. Jh.|1701-1-1|1750-12-31|
+4. Viertel 18. saec.|1775-1-1|1799-12-31|
+Anfang Jh. XVIII|1701-1-1|1733-12-31|
+Anfang Mai 1790|=|=|unread
+1790 Anfang|=|=|unread
+Anfang - Mitte 1790|1790-1-1|1790-8-31|
+Ultimo März 1763|1763-3-31|1763-3-31|
+Ultimo Februar 1764|1764-2-29|1764-2-29|
+Ultimo März 63|=|=|unread
+Ultimo 3. März 1763|=|=|unread
+bis Ultimo März 1763||1763-3-31|to
+vor Ultimo März 1763||1763-03-30|before
 1795s|=|=|unread
 o. D.|||undated
 o. D.?|||undated uncertain
@@ -269,6 +289,9 @@ vor era 1381||1342-12-31|before
 Frühjahr era 1381|1343-3-1|1343-5-31|
 era 1461|=|=|unread
 7157 mundi|1648-9-1|1649-8-31|
+Ultimo Feb 7157 mundi|1649-2-28|1649-2-28|
+Anfang 7157 mundi|=|=|unread
+Anfang era 1381|1343-1-1|1343-4-30|
 mundi 7157|1648-9-1|1649-8-31|
 Mai 7157 mundi|1649-5-1|1649-5-31|
 September 7157 mundi|1648-9-1|1648-9-30|
@@ -347,6 +370,8 @@ nach an VI|0007-01-01||after
 #hebrew day refuse refuse
 Frühjahr 5507|5507-3-1|5507-5-30|
 Sommerhalbjahr 5507|=|=|unread
+Anfang 5507|=|=|unread
+Ultimo Tischri 5507|5507-7-30|5507-7-30|
 Tischri 5507|5507-7-1|5507-7-30|
 5507|5507-7-1|5507-6-29|
 Adar II 5603|5603-13-1|5603-13-29|

@@ -11,7 +11,7 @@ use Rattle.written_dates.specs.declared.written.Choice.{Choice}
 use Rattle.date_spans.specs.declared.ends.Numbers.{Numbers}
 use Rattle.date_spans.specs.declared.extents.Extent.{Extent}
 use Rattle.date_spans.specs.declared.extents.Extent.TheVariants as extent
-use Rattle.date_spans.specs.Ends.{HasDay, first_in, last_in, year_of, numbers}
+use Rattle.date_spans.specs.Ends.{HasDay, first_in, last_in, last_year_in, year_of, numbers}
 use Rattle.date_spans.specs.Laws.{HasEnds, SaidMonthIsExact, SaidYearIsExact, SaidIsForwards}
 use Rattle.date_spans.specs.Months.{months_by, months_in, months_of, first_month, last_month}
 use Rattle.date_spans.specs.Extents.{year_in}
@@ -144,7 +144,7 @@ first_at choice calendar said year n k e h month day is =
     (mapped (λ (y : ℕ). first_in said y (months_of calendar y)) _ year h.first e h.first_is ∙ is) h.begins
 
 last_at : (choice : Choice) (calendar : Calendar) (said : Extent) (year : ℕ) (n k : ℤ)
-    → year_of choice calendar (year_in said) ≡ Some year → HasEnds choice calendar said n k
+    → year_of choice calendar (last_year_in said) ≡ Some year → HasEnds choice calendar said n k
     → (month day : ℕ) → last_in said year (months_of calendar year) ≡ numbers year month day
     → (a : Ymd) × IsAt (reckoning calendar) a year month day k
 last_at choice calendar said year n k e h month day is =

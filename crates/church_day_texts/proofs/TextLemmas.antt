@@ -30,7 +30,10 @@ use Rattle.written_dates.specs.Signs.{bare, begins_with_dash, has_minus, has_oth
 use Rattle.written_dates.specs.Sums.{found_items}
 use Rattle.written_dates.specs.Tokens.{Piece, tokens}
 use Rattle.written_dates.specs.Written.{agrees, answer, date_of, dated, if_agreed, is_half_year, items_answer}
-use Rattle.written_dates.specs.Written.{dated_text, short_rule, unless_turned, written}
+use Rattle.written_dates.specs.Written.{counted_by, dated_text, lacks_month, short_rule, unless_turned, written}
+use Rattle.written_dates.specs.Items.{is_of_calendar}
+use Rattle.written_dates.specs.declared.meanings.Era.{Era}
+use Rattle.written_dates.specs.declared.meanings.Era.TheVariants as eras
 use Rattle.written_dates.proofs.TimeLemmas.{dated_whole, read_dated}
 use Rattle.church_days.specs.DayNames.{DayName, day_names}
 use Rattle.church_days.specs.Names.{FallsOn}
@@ -47,13 +50,30 @@ feast_found church year feast place date is =
     ∙ sym (date_found church year (placed place (feast_day church year feast)) date is.is_dated.is_date
     is.is_dated.of_day is.is_dated.of_year is.is_dated.in_range)
 
+-- a year of the calendar is counted as it stands, and has a feast
+has_feasts : (era : Option Era) (feast : Festival) (place : Place) → is_of_calendar era ≡ true
+    → lacks_month era (Feast feast place) ≡ false
+has_feasts None feast place e = refl
+has_feasts (Some eras.Calendar) feast place e = refl
+has_feasts (Some eras.Spanish) feast place e = absurd (cc)
+has_feasts (Some eras.Creation) feast place e = absurd (cc)
+
+as_it_stands : (era : Option Era) (year : ℕ) (feast : Festival) (place : Place) → is_of_calendar era ≡ true
+    → counted_by era year (Feast feast place) ≡ year
+as_it_stands None year feast place e = refl
+as_it_stands (Some eras.Calendar) year feast place e = refl
+as_it_stands (Some eras.Spanish) year feast place e = absurd (cc)
+as_it_stands (Some eras.Creation) year feast place e = absurd (cc)
+
 -- the date of a year that is kept
 kept_date : (choice : Choice) (church : Church) (year : Numeral) (feast : Festival) (place : Place) (m d : ℕ)
     → short_rule choice (calendar_of church) year ≡ Keep → is_half_year (calendar_of church) year ≡ false
-    → feast_date_in church year.value feast place ≡ Some (m, d)
+    → is_of_calendar year.year ≡ true → feast_date_in church year.value feast place ≡ Some (m, d)
     → date_of choice (calendar_of church) (Some (Civil year (Feast feast place))) ≡ Date year.value m d
-kept_date choice Julian year feast place m d kept whole found = rw (kept, whole, found) refl
-kept_date choice Gregorian year feast place m d kept whole found = rw (kept, whole, found) refl
+kept_date choice Julian year feast place m d kept whole plain found =
+    rw (kept, whole, has_feasts year.year feast place plain, as_it_stands year.year year.value feast place plain, found) refl
+kept_date choice Gregorian year feast place m d kept whole plain found =
+    rw (kept, whole, has_feasts year.year feast place plain, as_it_stands year.year year.value feast place plain, found) refl
 
 agreed_date : (calendar : Calendar) (found : List Item) (a : Answer) (y m d : ℕ) → a ≡ Date y m d
     → list_all (agrees calendar y m d) found ≡ true → if_agreed calendar found a ≡ Date y m d
@@ -94,7 +114,8 @@ names_read_back choice church names text name date year falls own words says =
     omega (arith, signed_arith, says.of_year, falls.1.is_dated.of_year) in
     let found = feast_found church says.year.value name.feast name.place date
     (subst (λ (y : ℕ). IsFeastDate church y name.feast name.place date) of_feast falls.1) in
-    let day = kept_date choice church says.year name.feast name.place date.month date.day says.kept says.whole found in
+    let day = kept_date choice church says.year name.feast name.place date.month date.day says.kept says.whole
+    says.of_calendar found in
     let said = plain_answer choice (calendar_of church) names text says.found words.plain says.has
     ∙ civil_answer choice church (tokens 0 text) says.found _ says.says
     ∙ agreed_date (calendar_of church) says.found _ says.year.value date.month date.day day says.agreed in

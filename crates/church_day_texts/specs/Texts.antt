@@ -17,6 +17,7 @@ use Rattle.written_dates.specs.Rules.{civil_reading}
 use Rattle.written_dates.specs.Signs.{bare, begins_with_dash, has_minus, has_other, runs_behind_minus, three_runs}
 use Rattle.written_dates.specs.Sums.{found_items}
 use Rattle.written_dates.specs.Tokens.{tokens}
+use Rattle.written_dates.specs.Items.{is_of_calendar}
 use Rattle.written_dates.specs.Written.{agrees, dated, is_half_year, short_rule, unless_turned, written}
 use Rattle.church_days.specs.DayNames.{DayName}
 use Rattle.church_days.specs.Names.{FallsOn}
@@ -26,7 +27,7 @@ calendar_of churches.Julian = Julian
 calendar_of churches.Gregorian = Gregorian
 
 -- a text says the day of a name in the year of a date, by these names: what it says is the name's feast in this year,
--- which is written whole, and any weekday in it is that of the date
+-- which is one of the calendar and written whole, and any weekday in it is that of the date
 pub record SaysName (choice : Choice) (calendar : Calendar) (names : List Name) (text : List ℕ) (name : DayName)
     (date : Ymd) : Type 0 where
   pub found : List Item
@@ -34,6 +35,7 @@ pub record SaysName (choice : Choice) (calendar : Calendar) (names : List Name) 
   pub has : found_items calendar names text ≡ Some found
   pub says : civil_reading (tokens 0 text) choice.order found ≡ Some (Civil year (Feast name.feast name.place))
   pub of_year : date.year ≡ pos year.value
+  pub of_calendar : is_of_calendar year.year ≡ true
   pub kept : short_rule choice calendar year ≡ Keep
   pub whole : is_half_year calendar year ≡ false
   pub agreed : list_all (agrees calendar year.value date.month date.day) found ≡ true

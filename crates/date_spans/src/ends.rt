@@ -7,7 +7,9 @@ ghost use Rattle.date_spans.specs.Ends.{AreEnds, HasDay, IfBeside, IfInOrder, Is
 ghost use Rattle.date_spans.specs.Ends.{agrees_beside as beside_spec, all_hold as all_spec, day_in_year as in_year_spec};
 ghost use Rattle.date_spans.specs.Ends.{date_text as text_spec, first_of as first_spec, holds as holds_spec};
 ghost use Rattle.date_spans.specs.Ends.{if_held as held_spec, last_of as last_spec, step, year_of as year_spec};
-ghost use Rattle.date_spans.specs.Ends.{last_year_in as last_year_spec};
+ghost use Rattle.date_spans.specs.Ends.{last_year_in as last_year_spec, numbers as numbers_spec};
+ghost use Rattle.date_spans.specs.Months.{months_of as months_spec};
+ghost use Rattle.day_numbers.specs.Rules.{days_of_month};
 
 use crate::extents::{Extent, SaidDay, year_in};
 use crate::months::{days_in, first_month, has_two_adars, last_adar, last_month, months_of};
@@ -54,43 +56,41 @@ pub fn year_of(choice: &Choice, calendar: Calendar, year: Number) -> Option<u32>
     }
 }
 
+/// A date by its numbers.
+fn date_on(year: u32, month: u32, day: u32) -> Numbers
+    ensures { result ≡ numbers_spec year month day }
+{
+    Numbers { year, month, day }
+}
+
+/// The last date of a month of a year.
+fn month_end(calendar: Calendar, year: u32, month: u32) -> Numbers
+    requires { year ≤ 99_999 }
+    ensures { result ≡ numbers_spec year month (days_of_month (months_spec calendar year) month) }
+{
+    Numbers {
+        year,
+        month,
+        day: days_in(months_of(calendar, year), month) as u32,
+    }
+}
+
 /// The first date of what is said.
 pub fn first_of(choice: &Choice, calendar: Calendar, said: Extent) -> Option<Numbers>
     ensures { result ≡ first_spec choice.now calendar said }
 {
     let year = year_of(choice, calendar, year_in(said))?;
-    match said {
-        Extent::Day(said) => Some(Numbers {
-            year,
-            month: said.month,
-            day: said.day,
-        }),
-        Extent::Month(_, month) => Some(Numbers {
-            year,
-            month,
-            day: 1,
-        }),
-        Extent::Adar(_) => Some(Numbers {
-            year,
-            month: 12,
-            day: 1,
-        }),
-        Extent::LastDay(_, month) => Some(Numbers {
-            year,
-            month,
-            day: days_in(months_of(calendar, year), month) as u32,
-        }),
-        Extent::PartOfYear(_, from, _) | Extent::Months(_, from, _, _) => Some(Numbers {
-            year,
-            month: from,
-            day: 1,
-        }),
-        Extent::Year(_) | Extent::Years(_, _) => Some(Numbers {
-            year,
-            month: first_month(months_of(calendar, year)) as u32,
-            day: 1,
-        }),
-    }
+    let first = match said {
+        Extent::Day(said) => date_on(year, said.month, said.day),
+        Extent::LastDay(_, month) => month_end(calendar, year, month),
+        Extent::Month(_, month) => date_on(year, month, 1),
+        Extent::Adar(_) => date_on(year, 12, 1),
+        Extent::PartOfYear(_, from, _) | Extent::Months(_, from, _, _) => date_on(year, from, 1),
+        Extent::Year(_) | Extent::Years(_, _) => {
+            date_on(year, first_month(months_of(calendar, year)) as u32, 1)
+        }
+    };
+    Some(first)
 }
 
 /// The year of the last day of what is said.
@@ -109,41 +109,22 @@ pub fn last_of(choice: &Choice, calendar: Calendar, said: Extent) -> Option<Numb
     ensures { result ≡ last_spec choice.now calendar said }
 {
     let year = year_of(choice, calendar, last_year_in(said))?;
-    match said {
-        Extent::Day(said) => Some(Numbers {
-            year,
-            month: said.month,
-            day: said.day,
-        }),
-        Extent::Month(_, month) | Extent::LastDay(_, month) => Some(Numbers {
-            year,
-            month,
-            day: days_in(months_of(calendar, year), month) as u32,
-        }),
+    let last = match said {
+        Extent::Day(said) => date_on(year, said.month, said.day),
+        Extent::Month(_, month) | Extent::LastDay(_, month) => month_end(calendar, year, month),
         Extent::Adar(_) => {
-            let months = months_of(calendar, year);
-            let month = last_adar(months) as u32;
-            Some(Numbers {
-                year,
-                month,
-                day: days_in(months, month) as u32,
-            })
+            let month = last_adar(months_of(calendar, year)) as u32;
+            month_end(calendar, year, month)
         }
-        Extent::PartOfYear(_, _, to) | Extent::Months(_, _, _, to) => Some(Numbers {
-            year,
-            month: to,
-            day: days_in(months_of(calendar, year), to) as u32,
-        }),
+        Extent::PartOfYear(_, _, to) | Extent::Months(_, _, _, to) => {
+            month_end(calendar, year, to)
+        }
         Extent::Year(_) | Extent::Years(_, _) => {
-            let months = months_of(calendar, year);
-            let month = last_month(months) as u32;
-            Some(Numbers {
-                year,
-                month,
-                day: days_in(months, month) as u32,
-            })
+            let month = last_month(months_of(calendar, year)) as u32;
+            month_end(calendar, year, month)
         }
-    }
+    };
+    Some(last)
 }
 
 /// Whether what stands beside a day is so of the date.

@@ -8,8 +8,8 @@ abbrev pub is_bare : Meaning → Bool
 is_bare meaning.Nothing = true
 is_bare meaning.DayWord = true
 is_bare meaning.Adar = true
-is_bare meaning.Decade = true
 is_bare meaning.LastDay = true
+is_bare meaning.Decade = true
 is_bare other = false
 
 -- it is said with numbers, of which there are some

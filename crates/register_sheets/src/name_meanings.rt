@@ -6,7 +6,7 @@ ghost use Rattle.date_texts.specs.Calendars.{calendar_name};
 ghost use Rattle.date_texts.specs.Names.{IsNamed};
 ghost use Rattle.date_texts.specs.declared.calendar.Calendar.{Calendar as CalendarValue};
 ghost use Rattle.register_sheets.specs.MeaningViews.{is_bare, is_counted, is_named};
-ghost use Rattle.register_sheets.specs.NameMeanings.{AreMonths, AreParts, era_name};
+ghost use Rattle.register_sheets.specs.NameMeanings.{AreMonths, IsPart, era_name};
 ghost use Rattle.register_sheets.specs.NameMeanings.{IsNumberIn, IsWordAndNumber, Says, SaysCalendar, SaysChange};
 ghost use Rattle.written_dates.specs.declared.fields.CalendarMeaning.{CalendarMeaning as CalendarMeaningValue};
 ghost use Rattle.register_sheets.specs.NameMeanings.{SaysMeaning, mark_name, relation_name, season_name, weekday_name, word_name};
@@ -92,14 +92,14 @@ fn months_said(field: &str) -> Option<(u8, u8)>
     Some((first as u8, last as u8))
 }
 
-/// The place of a part and how many there are, by `part 1/3` and the like.
+/// The place of a part, and the number of parts, that `part 1/3` and the like say.
 fn part_said(field: &str) -> Option<(u8, u8)>
-    ensures some { IfSome result (λ part. AreParts field.now part.0 part.1) }
-    ensures none { result ≡ None → (place parts : ℕ) → ¬ AreParts field.now place parts }
+    ensures some { IfSome result (λ part. IsPart field.now part.0 part.1) }
+    ensures none { result ≡ None → (place parts : ℕ) → ¬ IsPart field.now place parts }
 {
     let (place, parts) = field.strip_prefix("part ")?.split_once('/')?;
-    let place = number_said(place, 1, 4)?;
-    let parts = number_said(parts, place.max(2), 4)?;
+    let parts = number_said(parts, 2, 4)?;
+    let place = number_said(place, 1, parts)?;
     Some((place as u8, parts as u8))
 }
 
@@ -202,8 +202,8 @@ fn bare_said(field: &str) -> Option<Meaning>
         "" => Some(Meaning::Nothing),
         "day" => Some(Meaning::DayWord),
         "month 12-13" => Some(Meaning::Adar),
-        "decade" => Some(Meaning::Decade),
         "last day" => Some(Meaning::LastDay),
+        "decade" => Some(Meaning::Decade),
         _ => None,
     }
 }

@@ -5,8 +5,8 @@ const { readFileSync } = require("fs");
 const { join } = require("path");
 const { dateIn, dayOf, monthsOf, placed, sundayOf } = require("./day_counts.cjs");
 const {
-  added, bareOf, byYear, formOf, hasMixedSigns, hasOther, isBeside, isDecadeDay, isHalfYear, isLong, isOnWeekday, itemsOf,
-  ofThree, withoutTime, written,
+  added, bareOf, byYear, counted, formOf, hasMixedSigns, hasOther, isBeside, isDecadeDay, isHalfYear, isLong, isOnWeekday,
+  isOtherEra, itemsOf, ofThree, withoutTime, written,
 } = require("./reading.cjs");
 
 const { calendars } = JSON.parse(readFileSync(join(__dirname, "..", "crates", "register_facts", "stdout"), "utf8"));
@@ -24,9 +24,36 @@ const signsBetween = text => (text.replace(/^[^0-9]*|[^0-9]*$/g, "").match(patte
   .map(it => pattern(`[${DASH}]`).test(it) ? "-" : it);
 const barsOf = text => (text.match(pattern(`[/${DASH}]`, "g")) || []).length;
 
-// ---- how much items say: `{year, from, to, day, beside}`, where a month is from one to another, and a day stands in it
+// ---- how much items say: `{year, from, to, day, beside}`, where a month is from one to another, and a day stands in it; a
+// part of a year `isPart` too, and `years` is how many years there are of a century or ten years
 
-const isOneLetter = ({ isYear, digits, value }) => !isYear && digits === 0 && [100, 500, 1000].includes(value);
+const isOneLetter = ({ era, digits, value }) => era === undefined && digits === 0 && [100, 500, 1000].includes(value);
+
+// A part of a year, from a month to a month. None of a year that begins in September has its last month before its first.
+function partOf({ months: [from, to] }, year) {
+  return year.era === "creation" && from < 9 && to >= 9 ? null : { year, from, to, isPart: true };
+}
+
+// A century, by a number that counts neither years nor days: from 100 of its years on, or from the year behind it.
+function centuryOf({ century }, number) {
+  if (isLong(number) || number.isDay || number.value < 2 || number.value > 30) return null;
+  return { year: { value: 100 * (number.value - 1) + century, digits: 4 }, years: 100 };
+}
+
+const tensOf = year => year.value % 10 === 0 && year.value % 100 !== 0 && !isOtherEra(year.era) ? { year, years: 10 } : null;
+
+// What two items say of which one is a part of a year, a century or ten years.
+function period(items) {
+  const [a, b] = items;
+  switch (formOf(items)) {
+    case "pn": return partOf(a, b);
+    case "np": return partOf(b, a);
+    case "cn": return centuryOf(a, b);
+    case "nc": return centuryOf(b, a);
+    case "nz": return tensOf(a);
+    default: return null;
+  }
+}
 
 function plain(items, { order, slashed, mixed }) {
   const months = items.map(it => it.adar ? { month: 12 } : it), isAdar = items.some(it => it.adar);
@@ -42,6 +69,7 @@ function plain(items, { order, slashed, mixed }) {
       return small(a) ? { year: b, from: a.value, to: a.value } : null;
     case "nnn": if (mixed) return null;
   }
+  if (items.length === 2) return period(items);
   const three = ofThree("", order, months);
   if (three === null) return null;
   const { month: number, day } = three.find();
@@ -50,12 +78,13 @@ function plain(items, { order, slashed, mixed }) {
 
 // A feast, or a Sunday by its number, in a year that is never short: the day on which it is, where a church reckons.
 function ofFeast(items, year, { calendar, isDual }) {
-  const [a, b] = items, form = formOf(items), isWhole = year.value >= 1 && (year.value >= 100 || year.digits >= 3);
-  if (isDual || !isWhole || year.value > 9999 || !["gregorian", "julian"].includes(calendar)) return null;
+  const form = formOf(items), isWhole = year.value >= 1 && (year.value >= 100 || year.digits >= 3), inYear = counted(year);
+  if (isDual || !isWhole || inYear === null || inYear > 9999 || !["gregorian", "julian"].includes(calendar)) return null;
+  const [a, b] = items;
   const feast = form === "ns" && !isLong(a) && !a.isDay ? { sunday: [b.season, a.value] } : form === "f" ? a.feast : null;
   if (feast === null) return null;
-  const found = feast.sunday ? sundayOf(calendar, year.value, ...feast.sunday) : placed(calendar, year.value, feast.day);
-  const date = found === null ? null : dateIn(calendar, year.value, found);
+  const found = feast.sunday ? sundayOf(calendar, inYear, ...feast.sunday) : placed(calendar, inYear, feast.day);
+  const date = found === null ? null : dateIn(calendar, inYear, found);
   return date === null ? null : { year, from: date.month, to: date.month, day: date.day };
 }
 
@@ -74,8 +103,8 @@ function extent(items, beside, by) {
 // What is said, where its year is long and one that the calendar can have, and a weekday beside it is that of a day.
 function checked(found, beside, by) {
   if (found === null || !isLong(found.year) || isOneLetter(found.year) || beside && !found.day && found.day !== 0) return null;
-  const isNone = REPUBLICAN.includes(by.calendar) && found.year.value > 99 || isHalfYear(found.year, by.calendar);
-  return isNone ? null : { ...found, beside };
+  const inRepublic = counted(found.year, found.from ?? 9) <= 99 || !REPUBLICAN.includes(by.calendar);
+  return !inRepublic || isHalfYear(found.year, by.calendar) ? null : { ...found, beside };
 }
 
 const own = (items, by) => { const { beside, rest } = parted(items); return extent(rest, beside, by); };
@@ -108,6 +137,7 @@ function byWords(items, single, double) {
   if (first === undefined) return null;
   if (first.relation === "before" || first.relation === "after") return alone(first.relation);
   if (isWord(first, "to")) return alone("to");
+  if (isWord(first, "undated")) return rest.length === 0 ? { kind: "undated" } : null;
   if (isWord(first, "and")) return null;
   const between = isWord(first, "between"), whole = between || isWord(first, "from") ? rest : items;
   const at = whole.findIndex(it => isWord(it, "to") || between && isWord(it, "and"));
@@ -144,13 +174,17 @@ function wideSides(text) {
 
 // ---- dual years
 
+// Two years can be those of a day, a month or a year, and of one in September to December only where years begin then.
+const canBeDual = ({ year, years, isPart, from }) =>
+  year.value < 99999 && !isPart && !years && (year.era !== "creation" || from === undefined);
+
 function dualSides(text, names, by) {
   const cut = ONLY_SLASH.exec(text);
   if (cut === null) return null;
   const before = sideItems(cut[1], names), behind = sideItems(cut[2], names);
   if (before === null || behind === null || formOf(behind) !== "n") return null;
   const left = own(withoutAbout(before), { ...by, slashed: false, mixed: hasMixedSigns(cut[1]), isDual: true });
-  if (left === null || left.year.value >= 99999) return null;
+  if (left === null || !canBeDual(left)) return null;
   const [next] = behind, later = left.year.value + 1;
   const isNext = next.value === later || next.digits === 2 && next.value === later % 100;
   return isNext ? { left, later: { ...left.year, value: later } } : null;
@@ -171,7 +205,7 @@ function ofOldYear(text, names, by) {
   const before = sideItems(cut[1], names), behind = sideItems(cut[2], names), ending = before && endOf(before);
   if (!ending || !isLong(ending) || behind === null || formOf(behind) !== "n") return null;
   const left = own(withoutAbout(before), { ...by, slashed: false, mixed: hasMixedSigns(cut[1]), isDual: true });
-  if (left === null || left.from === undefined || left.year.value >= 99999) return null;
+  if (left === null || left.from === undefined || !canBeDual(left)) return null;
   const [{ digits, value }] = behind, later = String(left.year.value + 1), old = String(left.year.value);
   const isShort = digits === 1 ? later === old.slice(0, -1) + value : digits === 2 && Number(later.slice(-2)) === value;
   return isShort ? ofDual({ left, later: { ...left.year, value: Number(later) } }, by.calendar) : null;
@@ -179,10 +213,11 @@ function ofOldYear(text, names, by) {
 
 // ---- the days
 
-// The year by the rule for short ones; null where it is refused or too large.
-function yearOf({ year }, calendar, choice) {
-  const found = byYear(year, choice, calendar);
-  return found === null || found > 99999 ? null : found;
+// The year by the rule for short ones, in which what is said begins; null where it is refused or too large. A year from the
+// creation of the world begins in September.
+function yearOf({ year, from, years = 1 }, calendar, choice) {
+  const found = byYear(year, choice, calendar, from ?? 9);
+  return found === null || found + years - 1 > 99999 ? null : found;
 }
 
 const monthsIn = (calendar, year) => calendar === "gregorian" && year === 0
@@ -191,12 +226,15 @@ const daysOf = (calendar, year, month) => (monthsIn(calendar, year).find(([numbe
 
 function ends(said, calendar, year) {
   if (said.day !== undefined) return Array(2).fill([year, said.from, said.day]);
+  if (said.isPart) return [[year, said.from, 1], [year, said.to, daysOf(calendar, year, said.to)]];
   if (said.from !== undefined) {
     const last = said.to !== said.from && daysOf(calendar, year, said.to) > 0 ? said.to : said.from;
     return [[year, said.from, 1], [year, last, daysOf(calendar, year, last)]];
   }
-  const months = monthsIn(calendar, year), [first] = months[0] || [0], [last, days] = months[months.length - 1] || [0, 0];
-  return [[year, first, 1], [year, last, days]];
+  if (said.year.era === "creation") return [[year, 9, 1], [year + 1, 8, daysOf(calendar, year + 1, 8)]];
+  const later = year + (said.years ?? 1) - 1, [first] = monthsIn(calendar, year)[0] || [0];
+  const [last, days] = monthsIn(calendar, later).at(-1) || [0, 0];
+  return [[year, first, 1], [later, last, days]];
 }
 
 // Whether a day is on the weekday beside it, and in no Adar of which there are two.
@@ -223,6 +261,7 @@ function beside(calendar, date, step) {
 }
 
 function datesOf({ kind, first, last }, calendar, choice) {
+  if (kind === "undated") return ["", ""];
   const years = [first, last].map(it => yearOf(it, calendar, choice));
   if (![first, last].every((it, i) => isSo(it, calendar, years[i]))) return null;
   const from = years[0] === null ? null : ends(first, calendar, years[0])[0];

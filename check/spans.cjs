@@ -125,9 +125,9 @@ const isWord = (item, ...words) => item !== undefined && words.includes(item.wor
 const withoutAbout = items => isWord(items[0], "about") ? items.slice(1) : items;
 const one = (kind, said) => said === null ? null : { kind, first: said, last: said };
 // Two years of which a word for the years of another era stands beside one alone say nothing: the other may be of it too.
-const eraOf = ({ year: { era } }) => isOtherEra(era) ? era : "";
+const isOfOther = ({ year }) => isOtherEra(year.era);
 const two = (kind, first, last) =>
-  first === null || last === null || eraOf(first) !== eraOf(last) ? null : { kind, first, last };
+  first === null || last === null || isOfOther(first) !== isOfOther(last) ? null : { kind, first, last };
 
 function range(kind, left, right, byLeft, shared, byRight) {
   const bare = withoutAbout(right);

@@ -6,441 +6,442 @@ pub use first_half::FIRST_HALF;
 
 /// The other half of the list.
 pub const SECOND_HALF: &str = "\
-Oktav,octave,gregorian julian\noctave of,octave,gregorian julian\nin crastino,morrow,gregorian julian\ncrastino,morrow,\
-gregorian julian\nmorrow of,morrow,gregorian julian\nOstern,easter 0,gregorian julian\nOstersonntag,easter 0,gregorian \
-julian\nOstertag,easter 0,gregorian julian\nPascha,easter 0,gregorian julian\nPaschae,easter 0,gregorian julian\nPasche\
-,easter 0,gregorian julian\nResurrectionis Domini,easter 0,gregorian julian\nEaster,easter 0,gregorian julian\nEaster D\
-ay,easter 0,gregorian julian\nEaster Sunday,easter 0,gregorian julian\nPâques,easter 0,gregorian julian\nOstermontag,e\
-aster 1,gregorian julian\nEaster Monday,easter 1,gregorian julian\nlundi de Pâques,easter 1,gregorian julian\nOsterdie\
-nstag,easter 2,gregorian julian\nEaster Tuesday,easter 2,gregorian julian\nSeptuagesima,easter -63,gregorian julian\nSe\
-ptuagesimae,easter -63,gregorian julian\nSeptuagésime,easter -63,gregorian julian\nCircumdederunt,easter -63,gregoria\
-n julian\nSexagesima,easter -56,gregorian julian\nSexagesimae,easter -56,gregorian julian\nExsurge,easter -56,gregoria\
-n julian\nExurge,easter -56,gregorian julian\nQuinquagesima,easter -49,gregorian julian\nQuinquagesimae,easter -49,greg\
-orian julian\nEstomihi,easter -49,gregorian julian\nEsto mihi,easter -49,gregorian julian\nHerrenfastnacht,easter -49,g\
-regorian julian\nFastnachtsdienstag,easter -47,gregorian julian\nShrove Tuesday,easter -47,gregorian julian\nMardi gras\
-,easter -47,gregorian julian\nAschermittwoch,easter -46,gregorian julian\ndies Cinerum,easter -46,gregorian julian\nCin\
-erum,easter -46,gregorian julian\nAsh Wednesday,easter -46,gregorian julian\nmercredi des Cendres,easter -46,gregorian \
-julian\nInvocavit,easter -42,gregorian julian\nInvocabit,easter -42,gregorian julian\nQuadragesima,easter -42,gregoria\
-n julian\nReminiscere,easter -35,gregorian julian\nOculi,easter -28,gregorian julian\nLaetare,easter -21,gregorian juli\
-an\nLetare,easter -21,gregorian julian\nLätare,easter -21,gregorian julian\nJudica,easter -14,gregorian julian\nIudica\
-,easter -14,gregorian julian\nPalmarum,easter -7,gregorian julian\nPalmsonntag,easter -7,gregorian julian\nPalm Sunday,\
-easter -7,gregorian julian\ndimanche des Rameaux,easter -7,gregorian julian\nRameaux,easter -7,gregorian julian\nGründ\
-onnerstag,easter -3,gregorian julian\nCoena Domini,easter -3,gregorian julian\nCoenae Domini,easter -3,gregorian julian\
-\nCene Domini,easter -3,gregorian julian\nMaundy Thursday,easter -3,gregorian julian\nJeudi saint,easter -3,gregorian j\
-ulian\nKarfreitag,easter -2,gregorian julian\nCharfreitag,easter -2,gregorian julian\nParasceve,easter -2,gregorian jul\
-ian\nGood Friday,easter -2,gregorian julian\nVendredi saint,easter -2,gregorian julian\nKarsamstag,easter -1,gregorian \
-julian\nSabbatum sanctum,easter -1,gregorian julian\nQuasimodogeniti,easter 7,gregorian julian\nQuasi modo geniti,easte\
-r 7,gregorian julian\nQuasimodo,easter 7,gregorian julian\nLow Sunday,easter 7,gregorian julian\nMisericordias Domini,e\
-aster 14,gregorian julian\nMisericordia Domini,easter 14,gregorian julian\nJubilate,easter 21,gregorian julian\nIubilat\
-e,easter 21,gregorian julian\nCantate,easter 28,gregorian julian\nKantate,easter 28,gregorian julian\nRogate,easter 35,\
-gregorian julian\nVocem jucunditatis,easter 35,gregorian julian\nRogation Sunday,easter 35,gregorian julian\nHimmelfahr\
-t,easter 39,gregorian julian\nChristi Himmelfahrt,easter 39,gregorian julian\nAuffahrt,easter 39,gregorian julian\nAsce\
-nsionis Domini,easter 39,gregorian julian\nAscensionis,easter 39,gregorian julian\nAscension Day,easter 39,gregorian ju\
-lian\nAscension,easter 39,gregorian julian\nExaudi,easter 42,gregorian julian\nPfingsten,easter 49,gregorian julian\nPf\
-ingstsonntag,easter 49,gregorian julian\nPentecostes,easter 49,gregorian julian\nPentecoste,easter 49,gregorian julian\
-\nPentecost,easter 49,gregorian julian\nWhitsunday,easter 49,gregorian julian\nWhit Sunday,easter 49,gregorian julian\n\
-Pentecôte,easter 49,gregorian julian\nPfingstmontag,easter 50,gregorian julian\nWhit Monday,easter 50,gregorian julian\
-\nTrinitatis,easter 56,gregorian julian\nTrin,easter 56,gregorian julian\nTrinity Sunday,easter 56,gregorian julian\nTr\
-inity,easter 56,gregorian julian\nTrinité,easter 56,gregorian julian\nFronleichnam,easter 60,gregorian julian\nCorpori\
-s Christi,easter 60,gregorian julian\nCorpus Christi,easter 60,gregorian julian\nFête-Dieu,easter 60,gregorian julian\
-\nAdvent,sundays advent,gregorian julian\nAdventus,sundays advent,gregorian julian\nAdventus Domini,sundays advent,greg\
-orian julian\nAdv,sundays advent,gregorian julian\nAdventssonntag,sundays advent,gregorian julian\nSunday in Advent,sun\
-days advent,gregorian julian\ndimanche de l'Avent,sundays advent,gregorian julian\nFastensonntag,sundays lent,gregoria\
-n julian\nQuadragesimae,sundays lent,gregorian julian\nSunday in Lent,sundays lent,gregorian julian\nAd te levavi,sunda\
-y advent 1,gregorian julian\nPopulus Sion,sunday advent 2,gregorian julian\nGaudete,sunday advent 3,gregorian julian\nR\
-orate,sunday advent 4,gregorian julian\nAdvent Sunday,sunday advent 1,gregorian julian\nNeujahr,feast 1-1,gregorian jul\
-ian\nCircumcisionis Domini,feast 1-1,gregorian julian\nCircumcisionis,feast 1-1,gregorian julian\nEpiphaniae,feast 1-6,\
-gregorian julian\nEpiphanie,feast 1-6,gregorian julian\nEpiphanias,feast 1-6,gregorian julian\nEpiph,feast 1-6,gregoria\
-n julian\nEpiphany,feast 1-6,gregorian julian\nTrium Regum,feast 1-6,gregorian julian\nDreikönig,feast 1-6,gregorian j\
-ulian\nHeilige Drei Könige,feast 1-6,gregorian julian\nFabiani et Sebastiani,feast 1-20,gregorian julian\nAgnetis,feas\
-t 1-21,gregorian julian\nVincentii,feast 1-22,gregorian julian\nConversionis Pauli,feast 1-25,gregorian julian\nPauli B\
-ekehrung,feast 1-25,gregorian julian\nLichtmess,feast 2-2,gregorian julian\nMariä Lichtmess,feast 2-2,gregorian julian\
-\nPurificationis Mariae,feast 2-2,gregorian julian\nPurificationis,feast 2-2,gregorian julian\nCandlemas,feast 2-2,greg\
-orian julian\nChandeleur,feast 2-2,gregorian julian\nBlasii,feast 2-3,gregorian julian\nAgathae,feast 2-5,gregorian jul\
-ian\nValentini,feast 2-14,gregorian julian\nCathedra Petri,feast 2-22,gregorian julian\nPetri Stuhlfeier,feast 2-22,gre\
-gorian julian\nMatthiae,feast 3-1 -5,gregorian julian\nMathie,feast 3-1 -5,gregorian julian\nGertrudis,feast 3-17,grego\
-rian julian\nBenedicti,feast 3-21,gregorian julian\nAnnunciationis Mariae,feast 3-25,gregorian julian\nAnnuntiationis M\
-ariae,feast 3-25,gregorian julian\nMariä Verkündigung,feast 3-25,gregorian julian\nLady Day,feast 3-25,gregorian juli\
-an\nAnnonciation,feast 3-25,gregorian julian\nTiburtii et Valeriani,feast 4-14,gregorian julian\nMarci,feast 4-25,grego\
-rian julian\nPhilippi et Jacobi,feast 5-1,gregorian julian\nWalpurgis,feast 5-1,gregorian julian\nWalburgis,feast 5-1,g\
-regorian julian\nInventionis crucis,feast 5-3,gregorian julian\nKreuzauffindung,feast 5-3,gregorian julian\nUrbani,feas\
-t 5-25,gregorian julian\nViti,feast 6-15,gregorian julian\nJohannistag,feast 6-24,gregorian julian\nJohannis Baptistae,\
-feast 6-24,gregorian julian\nJohannis Baptiste,feast 6-24,gregorian julian\nNativitatis Johannis Baptistae,feast 6-24,g\
-regorian julian\nMidsummer Day,feast 6-24,gregorian julian\nla Saint-Jean,feast 6-24,gregorian julian\nJohannis et Paul\
-i,feast 6-26,gregorian julian\nPetri et Pauli,feast 6-29,gregorian julian\nPeter und Paul,feast 6-29,gregorian julian\n\
-Visitationis Mariae,feast 7-2,gregorian julian\nMariä Heimsuchung,feast 7-2,gregorian julian\nKiliani,feast 7-8,gregor\
-ian julian\nDivisionis apostolorum,feast 7-15,gregorian julian\nMariae Magdalenae,feast 7-22,gregorian julian\nMarie Ma\
-gdalene,feast 7-22,gregorian julian\nJacobi,feast 7-25,gregorian julian\nJakobi,feast 7-25,gregorian julian\nAnnae,feas\
-t 7-26,gregorian julian\nPetri ad vincula,feast 8-1,gregorian julian\nPetri Kettenfeier,feast 8-1,gregorian julian\nLam\
-mas,feast 8-1,gregorian julian\nLaurentii,feast 8-10,gregorian julian\nAssumptionis Mariae,feast 8-15,gregorian julian\
-\nMariä Himmelfahrt,feast 8-15,gregorian julian\nAssomption,feast 8-15,gregorian julian\nBartholomaei,feast 8-24,grego\
-rian julian\nBartholomäi,feast 8-24,gregorian julian\nBartholomei,feast 8-24,gregorian julian\nDecollationis Johannis,\
-feast 8-29,gregorian julian\nAegidii,feast 9-1,gregorian julian\nEgidii,feast 9-1,gregorian julian\nNativitatis Mariae,\
-feast 9-8,gregorian julian\nMariä Geburt,feast 9-8,gregorian julian\nExaltationis crucis,feast 9-14,gregorian julian\n\
-Kreuzerhöhung,feast 9-14,gregorian julian\nHoly Cross Day,feast 9-14,gregorian julian\nLamberti,feast 9-17,gregorian j\
-ulian\nMatthaei,feast 9-21,gregorian julian\nMatthäi,feast 9-21,gregorian julian\nMauritii,feast 9-22,gregorian julian\
-\nMichaelis,feast 9-29,gregorian julian\nMichael,feast 9-29,gregorian julian\nMichaelmas,feast 9-29,gregorian julian\nS\
-aint-Michel,feast 9-29,gregorian julian\nRemigii,feast 10-1,gregorian julian\nFrancisci,feast 10-4,gregorian julian\nDi\
-onysii,feast 10-9,gregorian julian\nGalli,feast 10-16,gregorian julian\nLucae,feast 10-18,gregorian julian\nUndecim mil\
-ium virginum,feast 10-21,gregorian julian\nCrispini et Crispiniani,feast 10-25,gregorian julian\nSimonis et Judae,feas\
-t 10-28,gregorian julian\nSimonis et Jude,feast 10-28,gregorian julian\nAllerheiligen,feast 11-1,gregorian julian\nOmni\
-um Sanctorum,feast 11-1,gregorian julian\nAll Saints,feast 11-1,gregorian julian\nToussaint,feast 11-1,gregorian julian\
-\nAllerseelen,feast 11-2,gregorian julian\nAnimarum,feast 11-2,gregorian julian\nAll Souls,feast 11-2,gregorian julian\
-\nLeonhardi,feast 11-6,gregorian julian\nMartini,feast 11-11,gregorian julian\nMartinmas,feast 11-11,gregorian julian\n\
-Saint-Martin,feast 11-11,gregorian julian\nElisabethae,feast 11-19,gregorian julian\nPraesentationis Mariae,feast 11-21\
-,gregorian julian\nCaeciliae,feast 11-22,gregorian julian\nClementis,feast 11-23,gregorian julian\nCatharinae,feast 11-\
-25,gregorian julian\nKatharinae,feast 11-25,gregorian julian\nKatherine,feast 11-25,gregorian julian\nAndreae,feast 11-\
-30,gregorian julian\nAndree,feast 11-30,gregorian julian\nBarbarae,feast 12-4,gregorian julian\nNicolai,feast 12-6,greg\
-orian julian\nNikolai,feast 12-6,gregorian julian\nConceptionis Mariae,feast 12-8,gregorian julian\nMariä Empfängnis,\
-feast 12-8,gregorian julian\nLuciae,feast 12-13,gregorian julian\nLucie,feast 12-13,gregorian julian\nThomae,feast 12-2\
-1,gregorian julian\nThome,feast 12-21,gregorian julian\nHeiligabend,feast 12-24,gregorian julian\nWeihnachten,feast 12-\
-25,gregorian julian\nNativitatis Domini,feast 12-25,gregorian julian\nNativitatis Christi,feast 12-25,gregorian julian\
-\nNativitatis,feast 12-25,gregorian julian\nChristmas,feast 12-25,gregorian julian\nChristmas Day,feast 12-25,gregoria\
-n julian\nNoël,feast 12-25,gregorian julian\nStephani,feast 12-26,gregorian julian\nJohannis Evangelistae,feast 12-27,\
-gregorian julian\nInnocentum,feast 12-28,gregorian julian\nUnschuldige Kinder,feast 12-28,gregorian julian\nSilvestri,f\
-east 12-31,gregorian julian\nSilvester,feast 12-31,gregorian julian\nPurificationis Mariae virginis,feast 2-2,gregoria\
-n julian\nPurificationis Marie virginis,feast 2-2,gregorian julian\nPurificationis Marie,feast 2-2,gregorian julian\nPu\
-rificationis beatae Mariae,feast 2-2,gregorian julian\nPurificationis beate Marie,feast 2-2,gregorian julian\nPurificat\
-ionis beatae Mariae virginis,feast 2-2,gregorian julian\nPurificationis beate Marie virginis,feast 2-2,gregorian julian\
-\nPurificationis B M V,feast 2-2,gregorian julian\nAnnunciationis Mariae virginis,feast 3-25,gregorian julian\nAnnuncia\
-tionis Marie virginis,feast 3-25,gregorian julian\nAnnunciationis Marie,feast 3-25,gregorian julian\nAnnunciationis bea\
-tae Mariae,feast 3-25,gregorian julian\nAnnunciationis beate Marie,feast 3-25,gregorian julian\nAnnunciationis beatae M\
-ariae virginis,feast 3-25,gregorian julian\nAnnunciationis beate Marie virginis,feast 3-25,gregorian julian\nAnnunciati\
-onis B M V,feast 3-25,gregorian julian\nAnnuntiationis Mariae virginis,feast 3-25,gregorian julian\nAnnuntiationis Mari\
-e virginis,feast 3-25,gregorian julian\nAnnuntiationis Marie,feast 3-25,gregorian julian\nAnnuntiationis beatae Mariae,\
-feast 3-25,gregorian julian\nAnnuntiationis beate Marie,feast 3-25,gregorian julian\nAnnuntiationis beatae Mariae virgi\
-nis,feast 3-25,gregorian julian\nAnnuntiationis beate Marie virginis,feast 3-25,gregorian julian\nAnnuntiationis B M V,\
-feast 3-25,gregorian julian\nVisitationis Mariae virginis,feast 7-2,gregorian julian\nVisitationis Marie virginis,feas\
-t 7-2,gregorian julian\nVisitationis Marie,feast 7-2,gregorian julian\nVisitationis beatae Mariae,feast 7-2,gregorian j\
-ulian\nVisitationis beate Marie,feast 7-2,gregorian julian\nVisitationis beatae Mariae virginis,feast 7-2,gregorian jul\
-ian\nVisitationis beate Marie virginis,feast 7-2,gregorian julian\nVisitationis B M V,feast 7-2,gregorian julian\nAssum\
-ptionis Mariae virginis,feast 8-15,gregorian julian\nAssumptionis Marie virginis,feast 8-15,gregorian julian\nAssumptio\
-nis Marie,feast 8-15,gregorian julian\nAssumptionis beatae Mariae,feast 8-15,gregorian julian\nAssumptionis beate Marie\
-,feast 8-15,gregorian julian\nAssumptionis beatae Mariae virginis,feast 8-15,gregorian julian\nAssumptionis beate Mari\
-e virginis,feast 8-15,gregorian julian\nAssumptionis B M V,feast 8-15,gregorian julian\nNativitatis Mariae virginis,fea\
-st 9-8,gregorian julian\nNativitatis Marie virginis,feast 9-8,gregorian julian\nNativitatis Marie,feast 9-8,gregorian j\
-ulian\nNativitatis beatae Mariae,feast 9-8,gregorian julian\nNativitatis beate Marie,feast 9-8,gregorian julian\nNativi\
-tatis beatae Mariae virginis,feast 9-8,gregorian julian\nNativitatis beate Marie virginis,feast 9-8,gregorian julian\nN\
-ativitatis B M V,feast 9-8,gregorian julian\nConceptionis Mariae virginis,feast 12-8,gregorian julian\nConceptionis Mar\
-ie virginis,feast 12-8,gregorian julian\nConceptionis Marie,feast 12-8,gregorian julian\nConceptionis beatae Mariae,fea\
-st 12-8,gregorian julian\nConceptionis beate Marie,feast 12-8,gregorian julian\nConceptionis beatae Mariae virginis,fea\
-st 12-8,gregorian julian\nConceptionis beate Marie virginis,feast 12-8,gregorian julian\nConceptionis B M V,feast 12-8,\
-gregorian julian\nÉpiphanie,feast 1-6,gregorian julian\nTheophaniae,feast 1-6,gregorian julian\nEpiphaniae Domini,feas\
-t 1-6,gregorian julian\nEpiphanie Domini,feast 1-6,gregorian julian\nThomae martyris,feast 12-29,gregorian julian\nThom\
-e martyris,feast 12-29,gregorian julian\nStephani protomartyris,feast 12-26,gregorian julian\nMichaelistag,feast 9-29,g\
-regorian julian\nMartinstag,feast 11-11,gregorian julian\nMartinitag,feast 11-11,gregorian julian\nWeihnachtstag,feast \
-12-25,gregorian julian\nChristtag,feast 12-25,gregorian julian\nPaschatis,easter 0,gregorian julian\nPaschatos,easter 0\
-,gregorian julian\nPfingsttag,easter 49,gregorian julian\nHimmelfahrtstag,easter 39,gregorian julian\nFronleichnamstag,\
-easter 60,gregorian julian\nChristmas Eve,feast 12-24,gregorian julian\nNew Year's Day,feast 1-1,gregorian julian\nNew \
-Year’s Day,feast 1-1,gregorian julian\nNeujahrstag,feast 1-1,gregorian julian\nInnocentium,feast 12-28,gregorian juli\
-an\ninfra octavam,after,gregorian julian\nEpiphaniam,feast 1-6,gregorian julian\nEpiphania Domini,feast 1-6,gregorian j\
-ulian\nNativitas Domini,feast 12-25,gregorian julian\nCircumcisio Domini,feast 1-1,gregorian julian\nferia secunda Pasc\
-hae,easter 1,gregorian julian\nferia tertia Paschae,easter 2,gregorian julian\nAscensio Domini,easter 39,gregorian juli\
-an\nferia secunda Pentecostes,easter 50,gregorian julian\nferia tertia Pentecostes,easter 51,gregorian julian\nConversi\
-o Pauli,feast 1-25,gregorian julian\nPurificatio Mariae,feast 2-2,gregorian julian\nAnnuntiatio Mariae,feast 3-25,grego\
-rian julian\nInventio crucis,feast 5-3,gregorian julian\nNativitas Johannis Baptistae,feast 6-24,gregorian julian\nVisi\
-tatio Mariae,feast 7-2,gregorian julian\nDivisio apostolorum,feast 7-15,gregorian julian\nAssumptio Mariae,feast 8-15,g\
-regorian julian\nDecollatio Johannis,feast 8-29,gregorian julian\nNativitas Mariae,feast 9-8,gregorian julian\nExaltati\
-o crucis,feast 9-14,gregorian julian\nPraesentatio Mariae,feast 11-21,gregorian julian\nConceptio Mariae,feast 12-8,gre\
-gorian julian\nante,,roman\nante diem,,roman\na,,roman\nden,,\nder,,\ndes,,\ndem,,\nam,,\nvom,,\nim,,\nin,,\nanno,year,\
-\nanno domini,year,\nao,year,\nAD,year,\nA D,year,\nthe,,\nof,,\non,,\nday,day,\nle,,\nla,,\ndu,,\nde,,\nl'an,year,\nl\
-’an,year,\nan,year,\nannée,year,\nl'année,year,\nl’année,year,\nen,,\nil,,\ndel,,\ndell'anno,year,\ndell’anno,\
-year,\nel,,\ndía,day,\ndel año,year,\naño,year,\ndnia,day,\nroku,year,\nr,year,\ndne,day,\ndie,day,\nde dato,,\nvan,\
-,\nhet,,\n1 er,1,\nère,,\nere,,\nème,,\neme,,\nre,,\nst,,\nnd,,\nrd,,\nth,,\nte,,\nter,,gregorian julian hebrew islam\
-ic french republican\nsten,,\nste,,\ntes,,\nens,,\nº,,\nª,,\ne,,\nster,,\nyear,year,\nyear of our Lord,year,\nof our \
-Lord,year,\nour Lord,year,\nJahr,year,\nJahre,year,\nJahres,year,\nnach Christi Geburt,year,\nn Chr,year,\nanno Dni,yea\
-r,\nanno salutis,year,\nanni,year,\nannus,year,\nAo Dni,year,\nA°,year,\nAº,year,\njaar,year,\njaer,year,\ndo ano,yea\
-r,\nano,year,\nannée de grâce,year,\nl'an de grâce,year,\nl’an de grâce,year,\nl'an de grace,year,\nl’an de gra\
-ce,year,\nгода,year,\nгод,year,\nгоду,year,\nгодъ,year,\nгода от Рождества Христов\
-а,year,\nг,year,\nлета,year,\når,year,\naar,year,\nár,year,\nAnno Christi,year,\nnell'anno,year,\nnell’anno,y\
-ear,\nго,,\nого,,\nye,,\njour de,day,\nдня,day,\nчисла,day,\ndag,day,\nTag des,day,\ndì,day,\na dì,day,\
-\nadì,day,\naddì,day,\nde la République,,french republican\nde la Republique,,french republican\nde la République f\
-rançaise,,french republican\nde la République francaise,,french republican\nde la République françoise,,french repu\
-blican\nde la Republique francaise,,french republican\nde la Republique françoise,,french republican\nde la Republiqu\
-e francoise,,french republican\nde la République une et indivisible,,french republican\nde la République française u\
-ne et indivisible,,french republican\nder Republik,,french republican\nder fränkischen Republik,,french republican\nde\
-r französischen Republik,,french republican\nder fränk. Republik,,french republican\nder frz. Republik,,french republ\
-ican\nrépublicain,,french republican\nrépublicaine,,french republican\nde l'ère républicaine,,french republican\nd\
-e l’ère républicaine,,french republican\nfestum,,gregorian julian\nfesti,,gregorian julian\nfest,,gregorian julian\
-\nfeast of,,gregorian julian\nfête de,,gregorian julian\ndivi,,gregorian julian\ndivae,,gregorian julian\nbeate,,grego\
-rian julian\nsancte,,gregorian julian\nfesto,,gregorian julian\nin festo,,gregorian julian\nin die,day,gregorian julian\
-\nS Agnetis,feast 1-21,gregorian julian\nS Vincentii,feast 1-22,gregorian julian\nS Blasii,feast 2-3,gregorian julian\n\
-S Agathae,feast 2-5,gregorian julian\nS Valentini,feast 2-14,gregorian julian\nS Matthiae,feast 3-1 -5,gregorian julian\
-\nS Mathie,feast 3-1 -5,gregorian julian\nS Gertrudis,feast 3-17,gregorian julian\nS Benedicti,feast 3-21,gregorian jul\
-ian\nS Marci,feast 4-25,gregorian julian\nS Urbani,feast 5-25,gregorian julian\nS Viti,feast 6-15,gregorian julian\nS J\
-ohannis Baptistae,feast 6-24,gregorian julian\nS Johannis Baptiste,feast 6-24,gregorian julian\nS Petri et Pauli,feast \
-6-29,gregorian julian\nS Johannis et Pauli,feast 6-26,gregorian julian\nS Kiliani,feast 7-8,gregorian julian\nS Mariae \
-Magdalenae,feast 7-22,gregorian julian\nS Marie Magdalene,feast 7-22,gregorian julian\nS Jacobi,feast 7-25,gregorian ju\
-lian\nS Jakobi,feast 7-25,gregorian julian\nS Annae,feast 7-26,gregorian julian\nS Laurentii,feast 8-10,gregorian julia\
-n\nS Bartholomaei,feast 8-24,gregorian julian\nS Bartholomei,feast 8-24,gregorian julian\nS Decollationis Johannis,feas\
-t 8-29,gregorian julian\nS Aegidii,feast 9-1,gregorian julian\nS Egidii,feast 9-1,gregorian julian\nS Lamberti,feast 9-\
-17,gregorian julian\nS Matthaei,feast 9-21,gregorian julian\nS Mauritii,feast 9-22,gregorian julian\nS Michaelis,feast \
-9-29,gregorian julian\nS Michael,feast 9-29,gregorian julian\nS Remigii,feast 10-1,gregorian julian\nS Francisci,feast \
-10-4,gregorian julian\nS Dionysii,feast 10-9,gregorian julian\nS Galli,feast 10-16,gregorian julian\nS Lucae,feast 10-1\
-8,gregorian julian\nS Simonis et Judae,feast 10-28,gregorian julian\nS Leonhardi,feast 11-6,gregorian julian\nS Martini\
-,feast 11-11,gregorian julian\nS Elisabethae,feast 11-19,gregorian julian\nS Caeciliae,feast 11-22,gregorian julian\nS \
-Clementis,feast 11-23,gregorian julian\nS Catharinae,feast 11-25,gregorian julian\nS Katharinae,feast 11-25,gregorian j\
-ulian\nS Andreae,feast 11-30,gregorian julian\nS Andree,feast 11-30,gregorian julian\nS Barbarae,feast 12-4,gregorian j\
-ulian\nS Nicolai,feast 12-6,gregorian julian\nS Nikolai,feast 12-6,gregorian julian\nS Luciae,feast 12-13,gregorian jul\
-ian\nS Lucie,feast 12-13,gregorian julian\nS Thomae,feast 12-21,gregorian julian\nS Thome,feast 12-21,gregorian julian\
-\nS Stephani,feast 12-26,gregorian julian\nS Johannis Evangelistae,feast 12-27,gregorian julian\nS Thomae martyris,feas\
-t 12-29,gregorian julian\nS Thome martyris,feast 12-29,gregorian julian\nS Silvestri,feast 12-31,gregorian julian\nS Ph\
-ilippi et Jacobi,feast 5-1,gregorian julian\nS Walpurgis,feast 5-1,gregorian julian\nO S,,julian\na St,,julian\nalten S\
-tils,,julian\nold style,,julian\nN S,,gregorian\nn St,,gregorian\nneuen Stils,,gregorian\nnew style,,gregorian\nSankt,,\
-gregorian julian\nsancti,,gregorian julian\nsanctae,,gregorian julian\nbeati,,gregorian julian\nbeatae,,gregorian julia\
-n\napostoli,,gregorian julian\napostolorum,,gregorian julian\nevangelistae,,gregorian julian\narchangeli,,gregorian jul\
-ian\nten jare,year,\nJan y,month 1,gregorian julian\nJan ry,month 1,gregorian julian\nFeb y,month 2,gregorian julian\nF\
-eb ry,month 2,gregorian julian\nMch,month 3,gregorian julian\nAp'l,month 4,gregorian julian\nAp’l,month 4,gregorian j\
-ulian\nAp l,month 4,gregorian julian\nAug't,month 8,gregorian julian\nAug’t,month 8,gregorian julian\nAug t,month 8,g\
-regorian julian\nSept'r,month 9,gregorian julian\nSept’r,month 9,gregorian julian\nSept r,month 9,gregorian julian\nS\
-ep'r,month 9,gregorian julian\nSep’r,month 9,gregorian julian\nSep r,month 9,gregorian julian\nOct'r,month 10,gregori\
-an julian\nOct’r,month 10,gregorian julian\nOct r,month 10,gregorian julian\nNov'r,month 11,gregorian julian\nNov’r\
-,month 11,gregorian julian\nNov r,month 11,gregorian julian\nDec'r,month 12,gregorian julian\nDec’r,month 12,gregoria\
-n julian\nDec r,month 12,gregorian julian\nJanuarie,month 1,gregorian julian\nJanuarye,month 1,gregorian julian\nFebrua\
-rie,month 2,gregorian julian\nFebruarye,month 2,gregorian julian\nMarche,month 3,gregorian julian\nAprill,month 4,grego\
-rian julian\nMaye,month 5,gregorian julian\nMaie,month 5,gregorian julian\nIune,month 6,gregorian julian\nIuly,month 7,\
-gregorian julian\nIulie,month 7,gregorian julian\nJulie,month 7,gregorian julian\nJulye,month 7,gregorian julian\nAugus\
-te,month 8,gregorian julian\nSeptemb,month 9,gregorian julian\nOctob,month 10,gregorian julian\nNovemb,month 11,gregori\
-an julian\nDecemb,month 12,gregorian julian\nLord's Day,weekday 0,\nLord’s Day,weekday 0,\nLords Day,weekday 0,\nWeds\
-,weekday 3,\nWednes,weekday 3,\nJanuario,month 1,gregorian julian\nIanuario,month 1,gregorian julian\nFebruario,month 2\
-,gregorian julian\nMartio,month 3,gregorian julian\nAprili,month 4,gregorian julian\nIunio,month 6,gregorian julian\nIu\
-lio,month 7,gregorian julian\nAugusto,month 8,gregorian julian\nSeptembri,month 9,gregorian julian\n7bri,month 9,gregor\
-ian julian\nVII bris,month 9,gregorian julian\nOctobri,month 10,gregorian julian\n8bri,month 10,gregorian julian\nVIII \
-bris,month 10,gregorian julian\nNovembri,month 11,gregorian julian\n9bri,month 11,gregorian julian\nIX bris,month 11,gr\
-egorian julian\nDecembri,month 12,gregorian julian\n10bri,month 12,gregorian julian\nXbri,month 12,gregorian julian\nX \
-bris,month 12,gregorian julian\nX ber,month 12,gregorian julian\nX bre,month 12,gregorian julian\nIanuar,month 1,gregor\
-ian julian\nSeptembr,month 9,gregorian julian\nNovembr,month 11,gregorian julian\nDecembr,month 12,gregorian julian\ndi\
-e Solis,weekday 0,\ndies Solis,weekday 0,\nferia II,weekday 1,\nfer 2,weekday 1,\nfer II,weekday 1,\nferia III,weekday \
-2,\nfer 3,weekday 2,\nfer III,weekday 2,\nferia IV,weekday 3,\nferia IIII,weekday 3,\nfer 4,weekday 3,\nfer IV,weekday \
-3,\nferia V,weekday 4,\nfer 5,weekday 4,\nfer V,weekday 4,\nferia VI,weekday 5,\nfer 6,weekday 5,\nfer VI,weekday 5,\ns\
-abbati,weekday 6,\nsabbathi,weekday 6,\ndie Sabbathi,weekday 6,\nsabbatho,weekday 6,\nіануарій,month 1,gregoria\
-n julian\nіануарія,month 1,gregorian julian\nянуарій,month 1,gregorian julian\nянуарія,month 1,gr\
-egorian julian\nфев,month 2,gregorian julian\nфевруарій,month 2,gregorian julian\nфевруарія,month \
-2,gregorian julian\nмартъ,month 3,gregorian julian\nаприлій,month 4,gregorian julian\nаприлія,month \
-4,gregorian julian\nмаій,month 5,gregorian julian\nмаія,month 5,gregorian julian\nмаия,month 5,gregorian ju\
-lian\nмайя,month 5,gregorian julian\nіуній,month 6,gregorian julian\nіунія,month 6,gregorian julian\nию\
-ния,month 6,gregorian julian\nіюн,month 6,gregorian julian\nіулій,month 7,gregorian julian\nіулія,mont\
-h 7,gregorian julian\nиюлия,month 7,gregorian julian\nіюл,month 7,gregorian julian\nавгустъ,month 8,greg\
-orian julian\nсептемврій,month 9,gregorian julian\nсептемврія,month 9,gregorian julian\nсен,mont\
-h 9,gregorian julian\nсентебря,month 9,gregorian julian\nоктоврій,month 10,gregorian julian\nоктов\
-рія,month 10,gregorian julian\nоктебря,month 10,gregorian julian\nноемврій,month 11,gregorian julian\
-\nноемврія,month 11,gregorian julian\nноя,month 11,gregorian julian\nдекемврій,month 12,gregorian j\
-ulian\nдекемврія,month 12,gregorian julian\nвоскресеніе,weekday 0,\nвоскресение,weekday \
-0,\nвоскр,weekday 0,\nвс,weekday 0,\nпонедѣльникъ,weekday 1,\nпонедѣльник,weekday 1,\nп\
-н,weekday 1,\nвторникъ,weekday 2,\nвт,weekday 2,\nсреду,weekday 3,\nсереду,weekday 3,\nср,weekd\
-ay 3,\nчетвергъ,weekday 4,\nчетвертокъ,weekday 4,\nчт,weekday 4,\nпятницу,weekday 5,\nпят\
-окъ,weekday 5,\nпт,weekday 5,\nсубботу,weekday 6,\nсб,weekday 6,\nсїчень,month 1,gregorian julian\n\
-сїчня,month 1,gregorian julian\nмарець,month 3,gregorian julian\nмарця,month 3,gregorian julian\nкві\
-,month 4,gregorian julian\nцвітень,month 4,gregorian julian\nцвітня,month 4,gregorian julian\nтра,mont\
-h 5,gregorian julian\nчер,month 6,gregorian julian\nжов,month 10,gregorian julian\nлис,month 11,gregorian juli\
-an\nгру,month 12,gregorian julian\nнеділю,weekday 0,\nнд,weekday 0,\nп'ятниця,weekday 5,\nп’ятн\
-иця,weekday 5,\nп'ятницю,weekday 5,\nп’ятницю,weekday 5,\nпʼятницю,weekday 5,\nсуботу,\
-weekday 6,\nJanuárius,month 1,gregorian julian\nFebruárius,month 2,gregorian julian\nMártius,month 3,gregorian julia\
-n\nMárczius,month 3,gregorian julian\nMártzius,month 3,gregorian julian\nMarcius,month 3,gregorian julian\nDeczember,\
-month 12,gregorian julian\nDeczber,month 12,gregorian julian\njanuár hó,month 1,gregorian julian\njanuár hava,month \
-1,gregorian julian\njanuár havának,month 1,gregorian julian\nfebruár hó,month 2,gregorian julian\nfebruár hava,mon\
-th 2,gregorian julian\nfebruár havának,month 2,gregorian julian\nmárcius hó,month 3,gregorian julian\nmárcius hava\
-,month 3,gregorian julian\nmárcius havának,month 3,gregorian julian\náprilis hó,month 4,gregorian julian\náprilis \
-hava,month 4,gregorian julian\náprilis havának,month 4,gregorian julian\nmájus hó,month 5,gregorian julian\nmájus \
-hava,month 5,gregorian julian\nmájus havának,month 5,gregorian julian\njúnius hó,month 6,gregorian julian\njúnius \
-hava,month 6,gregorian julian\njúnius havának,month 6,gregorian julian\njúlius hó,month 7,gregorian julian\njúliu\
-s hava,month 7,gregorian julian\njúlius havának,month 7,gregorian julian\naugusztus hó,month 8,gregorian julian\naug\
-usztus hava,month 8,gregorian julian\naugusztus havának,month 8,gregorian julian\nszeptember hó,month 9,gregorian jul\
-ian\nszeptember hava,month 9,gregorian julian\nszeptember havának,month 9,gregorian julian\noktóber hó,month 10,greg\
-orian julian\noktóber hava,month 10,gregorian julian\noktóber havának,month 10,gregorian julian\nnovember hó,month \
-11,gregorian julian\nnovember hava,month 11,gregorian julian\nnovember havának,month 11,gregorian julian\ndecember hó\
-,month 12,gregorian julian\ndecember hava,month 12,gregorian julian\ndecember havának,month 12,gregorian julian\nBoldo\
-gasszony hava,month 1,gregorian julian\nBöjtelő hava,month 2,gregorian julian\nBöjtmás hava,month 3,gregorian julia\
-n\nSzent György hava,month 4,gregorian julian\nPünkösd hava,month 5,gregorian julian\nSzent Iván hava,month 6,grego\
-rian julian\nSzent Jakab hava,month 7,gregorian julian\nKisasszony hava,month 8,gregorian julian\nSzent Mihály hava,mo\
-nth 9,gregorian julian\nMindszent hava,month 10,gregorian julian\nSzent András hava,month 11,gregorian julian\nKarács\
-ony hava,month 12,gregorian julian\nvasarnap,weekday 0,\nhétfőn,weekday 1,\nhetfo,weekday 1,\nhétf,weekday 1,\nkedde\
-n,weekday 2,\nszerdán,weekday 3,\nszerdan,weekday 3,\ncsütörtökön,weekday 4,\ncsutortok,weekday 4,\ncsüt,weekday \
-4,\npénteken,weekday 5,\npentek,weekday 5,\npént,weekday 5,\nszombaton,weekday 6,\nszomb,weekday 6,\nJaneyro,month 1,\
-gregorian julian\nJanro,month 1,gregorian julian\nJan ro,month 1,gregorian julian\nFevereyro,month 2,gregorian julian\n\
-Fevro,month 2,gregorian julian\nFev ro,month 2,gregorian julian\nmarso,month 3,gregorian julian\nSeptembro,month 9,greg\
-orian julian\n7bro,month 9,gregorian julian\nSetbro,month 9,gregorian julian\nOctubro,month 10,gregorian julian\n8bro,m\
-onth 10,gregorian julian\nOutbro,month 10,gregorian julian\n9bro,month 11,gregorian julian\nNovbro,month 11,gregorian j\
-ulian\nDecembro,month 12,gregorian julian\n10bro,month 12,gregorian julian\nXbro,month 12,gregorian julian\nDezbro,mont\
-h 12,gregorian julian\nmês de janeiro,month 1,gregorian julian\nmez de janeiro,month 1,gregorian julian\ndo mês de ja\
-neiro,month 1,gregorian julian\ndo mez de janeiro,month 1,gregorian julian\nmês de fevereiro,month 2,gregorian julian\
-\nmez de fevereiro,month 2,gregorian julian\ndo mês de fevereiro,month 2,gregorian julian\ndo mez de fevereiro,month 2\
-,gregorian julian\nmês de março,month 3,gregorian julian\nmez de março,month 3,gregorian julian\ndo mês de março,m\
-onth 3,gregorian julian\ndo mez de março,month 3,gregorian julian\nmês de abril,month 4,gregorian julian\nmez de abri\
-l,month 4,gregorian julian\ndo mês de abril,month 4,gregorian julian\ndo mez de abril,month 4,gregorian julian\nmês d\
-e maio,month 5,gregorian julian\nmez de maio,month 5,gregorian julian\ndo mês de maio,month 5,gregorian julian\ndo me\
-z de maio,month 5,gregorian julian\nmês de junho,month 6,gregorian julian\nmez de junho,month 6,gregorian julian\ndo m\
-ês de junho,month 6,gregorian julian\ndo mez de junho,month 6,gregorian julian\nmês de julho,month 7,gregorian julian\
-\nmez de julho,month 7,gregorian julian\ndo mês de julho,month 7,gregorian julian\ndo mez de julho,month 7,gregorian j\
-ulian\nmês de agosto,month 8,gregorian julian\nmez de agosto,month 8,gregorian julian\ndo mês de agosto,month 8,grego\
-rian julian\ndo mez de agosto,month 8,gregorian julian\nmês de setembro,month 9,gregorian julian\nmez de setembro,mont\
-h 9,gregorian julian\ndo mês de setembro,month 9,gregorian julian\ndo mez de setembro,month 9,gregorian julian\nmês d\
-e outubro,month 10,gregorian julian\nmez de outubro,month 10,gregorian julian\ndo mês de outubro,month 10,gregorian ju\
-lian\ndo mez de outubro,month 10,gregorian julian\nmês de novembro,month 11,gregorian julian\nmez de novembro,month 11\
-,gregorian julian\ndo mês de novembro,month 11,gregorian julian\ndo mez de novembro,month 11,gregorian julian\nmês d\
-e dezembro,month 12,gregorian julian\nmez de dezembro,month 12,gregorian julian\ndo mês de dezembro,month 12,gregoria\
-n julian\ndo mez de dezembro,month 12,gregorian julian\nseg,weekday 1,\n2ª feira,weekday 1,\nterca-feira,weekday 2,\n3\
-ª feira,weekday 2,\nqua,weekday 3,\n4ª feira,weekday 3,\nqui,weekday 4,\n5ª feira,weekday 4,\n6ª feira,weekday 5,\n\
-sáb,weekday 6,\nsabado,weekday 6,\nsab,weekday 6,\nenº,month 1,gregorian julian\nen.º,month 1,gregorian julian\nhene\
-ro,month 1,gregorian julian\nfebº,month 2,gregorian julian\nhebrero,month 2,gregorian julian\nfebro,month 2,gregorian \
-julian\nmço,month 3,gregorian julian\nmzo,month 3,gregorian julian\nabl,month 4,gregorian julian\njunº,month 6,gregor\
-ian julian\njulº,month 7,gregorian julian\nagto,month 8,gregorian julian\nagº,month 8,gregorian julian\nag to,month 8\
-,gregorian julian\nseptbre,month 9,gregorian julian\nsetbre,month 9,gregorian julian\noctbre,month 10,gregorian julian\
-\notubre,month 10,gregorian julian\nnobiembre,month 11,gregorian julian\nnovbre,month 11,gregorian julian\nnovre,month \
-11,gregorian julian\ndiziembre,month 12,gregorian julian\ndeziembre,month 12,gregorian julian\ndicbre,month 12,gregoria\
-n julian\ndizbre,month 12,gregorian julian\ndel mes de enero,month 1,gregorian julian\ndel mes de febrero,month 2,grego\
-rian julian\ndel mes de marzo,month 3,gregorian julian\ndel mes de abril,month 4,gregorian julian\ndel mes de mayo,mont\
-h 5,gregorian julian\ndel mes de junio,month 6,gregorian julian\ndel mes de julio,month 7,gregorian julian\ndel mes de \
-agosto,month 8,gregorian julian\ndel mes de septiembre,month 9,gregorian julian\ndel mes de octubre,month 10,gregorian \
-julian\ndel mes de noviembre,month 11,gregorian julian\ndel mes de diciembre,month 12,gregorian julian\nmié,weekday 3,\
-\nmiercoles,weekday 3,\nmie,weekday 3,\njue,weekday 4,\nvie,weekday 5,\nKânunusani,month 1,gregorian julian\nKanunusan\
-i,month 1,gregorian julian\nKânun-ı sani,month 1,gregorian julian\nKanun-ı sani,month 1,gregorian julian\nİkincikâ\
-nun,month 1,gregorian julian\nİkinci Kânun,month 1,gregorian julian\nSonkânun,month 1,gregorian julian\nSonkanun,mon\
-th 1,gregorian julian\nKânunisani,month 1,gregorian julian\nsubat,month 2,gregorian julian\nNİSAN,month 4,gregorian j\
-ulian\nmayis,month 5,gregorian julian\nHAZİRAN,month 6,gregorian julian\nagustos,month 8,gregorian julian\neylul,mont\
-h 9,gregorian julian\nEylûl,month 9,gregorian julian\nEKİM,month 10,gregorian julian\nTeşrinievvel,month 10,gregoria\
-n julian\nTeşrin-i evvel,month 10,gregorian julian\nTesrinievvel,month 10,gregorian julian\nBirinciteşrin,month 10,gr\
-egorian julian\nBirinci Teşrin,month 10,gregorian julian\nİlkteşrin,month 10,gregorian julian\nkasim,month 11,gregor\
-ian julian\nTeşrinisani,month 11,gregorian julian\nTeşrin-i sani,month 11,gregorian julian\nTesrinisani,month 11,greg\
-orian julian\nİkinciteşrin,month 11,gregorian julian\nİkinci Teşrin,month 11,gregorian julian\nSonteşrin,month 11,\
-gregorian julian\nSontesrin,month 11,gregorian julian\naralik,month 12,gregorian julian\nKânunuevvel,month 12,gregoria\
-n julian\nKanunuevvel,month 12,gregorian julian\nKânun-ı evvel,month 12,gregorian julian\nKanun-ı evvel,month 12,gre\
-gorian julian\nBirincikânun,month 12,gregorian julian\nBirinci Kânun,month 12,gregorian julian\nİlkkânun,month 12,g\
-regorian julian\nKânunievvel,month 12,gregorian julian\nPaz,weekday 0,\nPzt,weekday 1,\nsali,weekday 2,\nÇar,weekday \
-3,\ncarsamba,weekday 3,\npersembe,weekday 4,\nCmt,weekday 6,\nPazar günü,weekday 0,\nPazartesi günü,weekday 1,\nSal\
-ı günü,weekday 2,\nÇarşamba günü,weekday 3,\nPerşembe günü,weekday 4,\nCuma günü,weekday 5,\nCumartesi gün\
-ü,weekday 6,\nΙανουαριος,month 1,gregorian julian\nΦεβρουαριος,month 2,gregorian julian\nΜαρτ\
-ιος,month 3,gregorian julian\nΑπριλιος,month 4,gregorian julian\nΜαιος,month 5,gregorian julian\nΙου\
-νιος,month 6,gregorian julian\nΙουλιος,month 7,gregorian julian\nΑυγουστος,month 8,gregorian julian\
-\nΣεπτεμβριος,month 9,gregorian julian\nΟκτωβριος,month 10,gregorian julian\nΝοεμβριος,mon\
-th 11,gregorian julian\nΔεκεμβριος,month 12,gregorian julian\nΙανουαριου,month 1,gregorian julian\n\
-Φεβρουαριου,month 2,gregorian julian\nΜαρτιου,month 3,gregorian julian\nΑπριλιου,month 4,greg\
-orian julian\nΜαιου,month 5,gregorian julian\nΙουνιου,month 6,gregorian julian\nΙουλιου,month 7,greg\
-orian julian\nΑυγουστου,month 8,gregorian julian\nΣεπτεμβριου,month 9,gregorian julian\nΟκτωβ\
-ριου,month 10,gregorian julian\nΝοεμβριου,month 11,gregorian julian\nΔεκεμβριου,month 12,gregori\
-an julian\nἸανουάριος,month 1,gregorian julian\nἸανουαρίου,month 1,gregorian julian\nἈπρίλ\
-ιος,month 4,gregorian julian\nἈπριλίου,month 4,gregorian julian\nΜάϊος,month 5,gregorian julian\nἸο\
-ύνιος,month 6,gregorian julian\nἸουνίου,month 6,gregorian julian\nἸούλιος,month 7,gregorian julian\
-\nἸουλίου,month 7,gregorian julian\nΑὔγουστος,month 8,gregorian julian\nΑὐγούστου,month 8,g\
-regorian julian\nὈκτώβριος,month 10,gregorian julian\nὈκτωβρίου,month 10,gregorian julian\nΓενά\
-ρης,month 1,gregorian julian\nΓενάρη,month 1,gregorian julian\nΦλεβάρης,month 2,gregorian julian\nΦλ\
-εβάρη,month 2,gregorian julian\nΜάρτης,month 3,gregorian julian\nΜάρτη,month 3,gregorian julian\nΑπρ\
-ίλης,month 4,gregorian julian\nΑπρίλη,month 4,gregorian julian\nΜάης,month 5,gregorian julian\nΜάη,mon\
-th 5,gregorian julian\nΙούνης,month 6,gregorian julian\nΙούνη,month 6,gregorian julian\nΙούλης,month 7\
-,gregorian julian\nΙούλη,month 7,gregorian julian\nΣεπτέμβρης,month 9,gregorian julian\nΣεπτέμβρ\
-η,month 9,gregorian julian\nΟκτώβρης,month 10,gregorian julian\nΟκτώβρη,month 10,gregorian julian\nΝο\
-έμβρης,month 11,gregorian julian\nΝοέμβρη,month 11,gregorian julian\nΔεκέμβρης,month 12,gregoria\
-n julian\nΔεκέμβρη,month 12,gregorian julian\nΓεναρης,month 1,gregorian julian\nΓεναρη,month 1,gre\
-gorian julian\nΦλεβαρης,month 2,gregorian julian\nΦλεβαρη,month 2,gregorian julian\nΜαρτης,month 3\
-,gregorian julian\nΜαρτη,month 3,gregorian julian\nΑπριλης,month 4,gregorian julian\nΑπριλη,month 4,g\
-regorian julian\nΜαης,month 5,gregorian julian\nΜαη,month 5,gregorian julian\nΙουνης,month 6,gregorian jul\
-ian\nΙουνη,month 6,gregorian julian\nΙουλης,month 7,gregorian julian\nΙουλη,month 7,gregorian julian\n\
-Σεπτεμβρης,month 9,gregorian julian\nΣεπτεμβρη,month 9,gregorian julian\nΟκτωβρης,month 10,g\
-regorian julian\nΟκτωβρη,month 10,gregorian julian\nΝοεμβρης,month 11,gregorian julian\nΝοεμβρη,m\
-onth 11,gregorian julian\nΔεκεμβρης,month 12,gregorian julian\nΔεκεμβρη,month 12,gregorian julian\nἸ\
-αν,month 1,gregorian julian\nΦεβρ,month 2,gregorian julian\nΜάρ,month 3,gregorian julian\nΜαρτ,month 3,gre\
-gorian julian\nἈπρ,month 4,gregorian julian\nΜάι,month 5,gregorian julian\nΜαϊ,month 5,gregorian julian\nΜα\
-ι,month 5,gregorian julian\nΙούν,month 6,gregorian julian\nἸουν,month 6,gregorian julian\nΙούλ,month 7,gr\
-egorian julian\nἸουλ,month 7,gregorian julian\nΑύγ,month 8,gregorian julian\nΑὐγ,month 8,gregorian julian\n\
-Σεπτ,month 9,gregorian julian\nὈκτ,month 10,gregorian julian\nΟκτωβρ,month 10,gregorian julian\nΝοέ,mo\
-nth 11,gregorian julian\nΝοεμβρ,month 11,gregorian julian\nΔεκεμβρ,month 12,gregorian julian\nΚυριακ\
-η,weekday 0,\nΔευτερα,weekday 1,\nΤριτη,weekday 2,\nΤεταρτη,weekday 3,\nΠεμπτη,weekday 4,\nΠ\
-αρασκευη,weekday 5,\nΣαββατο,weekday 6,\nΚυρ,weekday 0,\nΚυριακήν,weekday 0,\nΔευ,weekday \
-1,\nΔευτέραν,weekday 1,\nΤρί,weekday 2,\nΤρι,weekday 2,\nΤρίτην,weekday 2,\nΤετ,weekday 3,\nΤε\
-τάρτην,weekday 3,\nΠέμ,weekday 4,\nΠεμ,weekday 4,\nΠέμπτην,weekday 4,\nΠαρ,weekday 5,\nΠαρασ\
-κευήν,weekday 5,\nΣάβ,weekday 6,\nΣαβ,weekday 6,\nΣάββατον,weekday 6,\ntammi,month 1,gregorian julia\
-n\ntammik,month 1,gregorian julian\ntammikuun,month 1,gregorian julian\nhelmi,month 2,gregorian julian\nhelmik,month 2,\
-gregorian julian\nhelmikuun,month 2,gregorian julian\nmaalis,month 3,gregorian julian\nmaalisk,month 3,gregorian julian\
-\nmaaliskuun,month 3,gregorian julian\nhuhti,month 4,gregorian julian\nhuhtik,month 4,gregorian julian\nhuhtikuun,mont\
-h 4,gregorian julian\ntouko,month 5,gregorian julian\ntoukok,month 5,gregorian julian\ntoukokuun,month 5,gregorian juli\
-an\nkesä,month 6,gregorian julian\nkesäk,month 6,gregorian julian\nkesäkuun,month 6,gregorian julian\nheinä,month 7\
-,gregorian julian\nheinäk,month 7,gregorian julian\nheinäkuun,month 7,gregorian julian\nelo,month 8,gregorian julian\
-\nelok,month 8,gregorian julian\nelokuun,month 8,gregorian julian\nsyys,month 9,gregorian julian\nsyysk,month 9,gregori\
-an julian\nsyyskuun,month 9,gregorian julian\nloka,month 10,gregorian julian\nlokak,month 10,gregorian julian\nlokakuun\
-,month 10,gregorian julian\nmarras,month 11,gregorian julian\nmarrask,month 11,gregorian julian\nmarraskuun,month 11,gr\
-egorian julian\njoulu,month 12,gregorian julian\njouluk,month 12,gregorian julian\njoulukuun,month 12,gregorian julian\
-\nkesakuu,month 6,gregorian julian\nkesakuuta,month 6,gregorian julian\nkesakuun,month 6,gregorian julian\nheinakuu,mon\
-th 7,gregorian julian\nheinakuuta,month 7,gregorian julian\nheinakuun,month 7,gregorian julian\nsu,weekday 0,\nsunnunta\
-ina,weekday 0,\nmaanantaina,weekday 1,\ntiistaina,weekday 2,\nke,weekday 3,\nkeskiviikkona,weekday 3,\ntorstaina,weekda\
-y 4,\npe,weekday 5,\nperjantaina,weekday 5,\nlauantaina,weekday 6,\nsön,weekday 0,\nsöndagen,weekday 0,\nsondag,weekd\
-ay 0,\nmån,weekday 1,\nmåndagen,weekday 1,\ntis,weekday 2,\ntisdagen,weekday 2,\nons,weekday 3,\nonsdagen,weekday 3,\
-\ntors,weekday 4,\ntorsdagen,weekday 4,\nthorsdag,weekday 4,\nfre,weekday 5,\nfredagen,weekday 5,\nlör,weekday 6,\nlö\
-rdagen,weekday 6,\nlordag,weekday 6,\nsøn,weekday 0,\nsøndagen,weekday 0,\nsundag,weekday 0,\nman,weekday 1,\nmandage\
-n,weekday 1,\ntirs,weekday 2,\ntirsdagen,weekday 2,\ntysdag,weekday 2,\ntys,weekday 2,\ntor,weekday 4,\nlør,weekday 6,\
-\nlørdagen,weekday 6,\nløverdag,weekday 6,\nlaurdag,weekday 6,\nlau,weekday 6,\nniedz,weekday 0,\npon,weekday 1,\nwt,\
-weekday 2,\nśr,weekday 3,\ngio,weekday 4,\nczw,weekday 4,\nčt,weekday 4,\npt,weekday 5,\npá,weekday 5,\nsob,weekday \
-6,\nsze,weekday 3,\nçrş,weekday 3,\ncs,weekday 4,\nprş,weekday 4,\nszo,weekday 6,\ncts,weekday 6,\nέτος,year,\n\
-έτους,year,\nἔτος,year,\nἔτους,year,\nvuonna,year,\névi,year,\név,year,\nesztendő,year,\nesztendőbe\
-n,year,\nроку,year,\nрік,year,\nyılı,year,\npäivänä,day,\npäivä,day,\npäivää,day,\nnapján,day,\nnapja\
-,day,\nnapjan,day,\nnap,day,\nчислѣ,day,\nчисле,day,\ndias,day,\ndia,day,\nр,year,\nera vulgaris,year,\nera\
-e vulgaris,year,\naerae vulgaris,year,\naera vulgaris,year,\naera christiana,year,\nera christiana,year,\naerae christi\
-anae,year,\nera volgare,year,\ndell'era volgare,year,\ndell’era volgare,year,\nera cristiana,year,\ndell'era cristian\
-a,year,\ndell’era cristiana,year,\nde la era cristiana,year,\nera cristã,year,\nda era cristã,year,\nera vulgar,yea\
-r,\nde la era vulgar,year,\nnuestra era,year,\nde nuestra era,year,\nère vulgaire,year,\nde l'ère vulgaire,year,\nde \
-l’ère vulgaire,year,\nl'ère vulgaire,year,\nl’ère vulgaire,year,\nère chrétienne,year,\nde l'ère chrétienne,\
-year,\nde l’ère chrétienne,year,\nof the Christian era,year,\nChristian era,year,\ncommon era,year,\nvulgar era,yea\
-r,\nunserer Zeitrechnung,year,\nchristlicher Zeitrechnung,year,\nnach christlicher Zeitrechnung,year,\nera,year spanish\
-,julian\nla era,year spanish,julian\nen la era,year spanish,julian\nera de César,year spanish,julian\nera de Cesar,yea\
-r spanish,julian\nla era de César,year spanish,julian\nla era de Cesar,year spanish,julian\nera de Caesar,year spanish\
-,julian\nera Cesaris,year spanish,julian\nera Caesaris,year spanish,julian\nera hispánica,year spanish,julian\nera his\
-panica,year spanish,julian\nera española,year spanish,julian\nera espanola,year spanish,julian\nera hispana,year spani\
-sh,julian\naera,year spanish,julian\naera hispanica,year spanish,julian\naera Hispaniae,year spanish,julian\nsub era,ye\
-ar spanish,julian\nin era,year spanish,julian\nin aera,year spanish,julian\nsub aera,year spanish,julian\nna era de Cé\
-sar,year spanish,julian\nna era de Cesar,year spanish,julian\nna era,year spanish,julian\nот сотворения м\
-ира,year creation,julian\nот с. м.,year creation,julian\nот создания мира,year creation,julian\nо\
-т сотв. мира,year creation,julian\nот с. мира,year creation,julian\nотъ сотворенія мір\
-а,year creation,julian\nотъ сотворения міра,year creation,julian\nотъ сотворенія мир\
-а,year creation,julian\nот сотворенія міра,year creation,julian\nотъ сотворения мира,\
-year creation,julian\nотъ созданія міра,year creation,julian\nотъ созданія мира,year crea\
-tion,julian\nотъ создания мира,year creation,julian\nотъ с. м.,year creation,julian\nсотворе\
-ния мира,year creation,julian\nсотворенія міра,year creation,julian\nот бытия мира,yea\
-r creation,julian\nотъ бытія міра,year creation,julian\nот миросоздания,year creation,julian\
-\nлета от сотворения мира,year creation,julian\nлета от создания мира,year creati\
-on,julian\nлета от с. м.,year creation,julian\nлето от сотворения мира,year creation,julian\
-\nлѣта отъ сотворенія міра,year creation,julian\nлѣта отъ созданія міра,year cr\
-eation,julian\nвід створення світу,year creation,julian\nвід сотворення світу,year c\
-reation,julian\nαπό κτίσεως κόσμου,year creation,julian\nἀπὸ κτίσεως κόσμου,year crea\
-tion,julian\nαπό κτίσεως του κόσμου,year creation,julian\nén,,\nán,,\njén,,\nik,,\ndik,,\nikén,,\
-\ndikén,,\nkén,,\nkán,,\nй,,\nое,,\nаго,,\nην,,\nης,,\nτη,,\nτῇ,,\nτην,,\nτὴν,,\nτου,,\nτ\
-οῦ,,\naos,,\nв воскресенье,weekday 0,\nвъ воскресенье,weekday 0,\nвъ воскресені\
-е,weekday 0,\nв понедельник,weekday 1,\nвъ понедѣльникъ,weekday 1,\nво вторник,week\
-day 2,\nво вторникъ,weekday 2,\nв среду,weekday 3,\nвъ среду,weekday 3,\nв середу,weekda\
-y 3,\nвъ середу,weekday 3,\nв четверг,weekday 4,\nвъ четвергъ,weekday 4,\nв пятницу,w\
-eekday 5,\nвъ пятницу,weekday 5,\nв субботу,weekday 6,\nвъ субботу,weekday 6,\ngregor.,gregor\
-ian,\ngregor,gregorian,\ngrég.,gregorian,\ngrég,gregorian,\nst. n.,gregorian,\nst.n.,gregorian,\nst. nov.,gregorian,\
-\nst. novi,gregorian,\nstili novi,gregorian,\nstyli novi,gregorian,\nnovo stilo,gregorian,\nnovo stylo,gregorian,\ngreg\
-orianska kalendern,gregorian,\nnya stilen,gregorian,\nny stil,gregorian,\nnya stil,gregorian,\ngregorianske kalender,gr\
-egorian,\nden gregorianske kalender,gregorian,\nden gregorianske kalenderen,gregorian,\ngregorianske,gregorian,\ngregor\
-iaaninen,gregorian,\ngregoriaaninen kalenteri,gregorian,\nuutta lukua,gregorian,\nuusi luku,gregorian,\nGergely-naptár\
-,gregorian,\nGergely-féle naptár,gregorian,\ngergely-féle,gregorian,\nGergely-naptár szerint,gregorian,\núj naptá\
-r,gregorian,\ncalendário gregoriano,gregorian,\nestilo novo,gregorian,\nmiladi,gregorian,\nmilâdî,gregorian,\nmilad\
-î,gregorian,\nmiladi takvim,gregorian,\nGregoryen,gregorian,\nGregoryen takvimi,gregorian,\nΓρηγοριανό,grego\
-rian,\nΓρηγοριανό ημερολόγιο,gregorian,\nΓρηγοριανόν,gregorian,\nνέο ημερολόγ\
-ιο,gregorian,\nνέον ἡμερολόγιον,gregorian,\nν. ημ.,gregorian,\nν.ημ.,gregorian,\nн.ст.,grego\
-rian,\nнов. ст.,gregorian,\nн. стиль,gregorian,\nновый ст.,gregorian,\nнового стиля,gregor\
-ian,\nноваго стиля,gregorian,\nгригорианский календарь,gregorian,\nгригор.,grego\
-rian,\nгригоріанський,gregorian,\nгригоріанський календар,gregorian,\nновий с\
-тиль,gregorian,\nнового стилю,gregorian,\nза новим стилем,gregorian,\ngregorianus,gregorian\
-,\ncalendarium Gregorianum,gregorian,\nst. v.,julian,\nst.v.,julian,\nst. vet.,julian,\nst. veteris,julian,\nstili vete\
-ris,julian,\nstyli veteris,julian,\nstilo veteri,julian,\nstylo vetere,julian,\nveteri stilo,julian,\nveteri stylo,juli\
-an,\nv. st.,julian,\nO. St.,julian,\njulianska kalendern,julian,\ngamla stilen,julian,\ngammal stil,julian,\ngamla stil\
-,julian,\ngammel stil,julian,\njulianske kalender,julian,\nden julianske kalender,julian,\nden julianske kalenderen,jul\
-ian,\njulianske,julian,\njuliaaninen,julian,\njuliaaninen kalenteri,julian,\nvanhaa lukua,julian,\nvanha luku,julian,\n\
-Julianus,julian,\nJulianus-naptár,julian,\nJulián-naptár,julian,\nJulián-naptár szerint,julian,\nónaptár,julian,\
-\nó-naptár,julian,\nrégi naptár,julian,\ncalendário juliano,julian,\nestilo antigo,julian,\nestilo velho,julian,\n\
-estilo viejo,julian,\nviejo estilo,julian,\nJülyen,julian,\nJülyen takvimi,julian,\nJulyen,julian,\nΙουλιανό,\
-julian,\nΙουλιανό ημερολόγιο,julian,\nΙουλιανόν,julian,\nπαλαιό ημερολόγιο,j\
-ulian,\nπαλαιόν ἡμερολόγιον,julian,\nπαλιό ημερολόγιο,julian,\nπ. ημ.,julian,\nπ.\
-ημ.,julian,\nс. ст.,julian,\nс.ст.,julian,\nст.ст.,julian,\nстар. ст.,julian,\nст. стиль,julia\
-n,\nс. стиль,julian,\nстарого стиля,julian,\nстараго стиля,julian,\nюлианский к\
-алендарь,julian,\nюл.,julian,\nюліанський,julian,\nюліанський календар,julian,\n\
-старий стиль,julian,\nстарого стилю,julian,\nза старим стилем,julian,\ncalendariu\
-m Julianum,julian,\nеврейский,hebrew,\nиудейский,hebrew,\nевр.,hebrew,\nєврейський,hebre\
-w,\nhéber,hebrew,\nzsidó,hebrew,\nhebraico,hebrew,\njudaico,hebrew,\ncalendário hebraico,hebrew,\ncalendario hebreo,\
-hebrew,\ncalendario judío,hebrew,\nİbrani,hebrew,\nMusevi,hebrew,\nMusevî,hebrew,\nΕβραϊκό,hebrew,\nἙβρα\
-ϊκό,hebrew,\nΙουδαϊκό,hebrew,\nheprealainen,hebrew,\njuutalainen,hebrew,\nhebreisk,hebrew,\nhebreiska,hebrew\
-,\njudisk,hebrew,\njudiska,hebrew,\nhebraisk,hebrew,\nhebraiske,hebrew,\njødisk,hebrew,\njødiske,hebrew,\nhebraicus,h\
-ebrew,\njudaicus,hebrew,\nмусульманский,islamic,\nисламский,islamic,\nхиджра,islamic,\nхи\
+in crastino,morrow,gregorian julian\ncrastino,morrow,gregorian julian\nmorrow of,morrow,gregorian julian\nOstern,easte\
+r 0,gregorian julian\nOstersonntag,easter 0,gregorian julian\nOstertag,easter 0,gregorian julian\nPascha,easter 0,grego\
+rian julian\nPaschae,easter 0,gregorian julian\nPasche,easter 0,gregorian julian\nResurrectionis Domini,easter 0,gregor\
+ian julian\nEaster,easter 0,gregorian julian\nEaster Day,easter 0,gregorian julian\nEaster Sunday,easter 0,gregorian ju\
+lian\nPâques,easter 0,gregorian julian\nOstermontag,easter 1,gregorian julian\nEaster Monday,easter 1,gregorian julian\
+\nlundi de Pâques,easter 1,gregorian julian\nOsterdienstag,easter 2,gregorian julian\nEaster Tuesday,easter 2,gregoria\
+n julian\nSeptuagesima,easter -63,gregorian julian\nSeptuagesimae,easter -63,gregorian julian\nSeptuagésime,easter -63\
+,gregorian julian\nCircumdederunt,easter -63,gregorian julian\nSexagesima,easter -56,gregorian julian\nSexagesimae,east\
+er -56,gregorian julian\nExsurge,easter -56,gregorian julian\nExurge,easter -56,gregorian julian\nQuinquagesima,easter \
+-49,gregorian julian\nQuinquagesimae,easter -49,gregorian julian\nEstomihi,easter -49,gregorian julian\nEsto mihi,easte\
+r -49,gregorian julian\nHerrenfastnacht,easter -49,gregorian julian\nFastnachtsdienstag,easter -47,gregorian julian\nSh\
+rove Tuesday,easter -47,gregorian julian\nMardi gras,easter -47,gregorian julian\nAschermittwoch,easter -46,gregorian j\
+ulian\ndies Cinerum,easter -46,gregorian julian\nCinerum,easter -46,gregorian julian\nAsh Wednesday,easter -46,gregoria\
+n julian\nmercredi des Cendres,easter -46,gregorian julian\nInvocavit,easter -42,gregorian julian\nInvocabit,easter -42\
+,gregorian julian\nQuadragesima,easter -42,gregorian julian\nReminiscere,easter -35,gregorian julian\nOculi,easter -28,\
+gregorian julian\nLaetare,easter -21,gregorian julian\nLetare,easter -21,gregorian julian\nLätare,easter -21,gregoria\
+n julian\nJudica,easter -14,gregorian julian\nIudica,easter -14,gregorian julian\nPalmarum,easter -7,gregorian julian\n\
+Palmsonntag,easter -7,gregorian julian\nPalm Sunday,easter -7,gregorian julian\ndimanche des Rameaux,easter -7,gregoria\
+n julian\nRameaux,easter -7,gregorian julian\nGründonnerstag,easter -3,gregorian julian\nCoena Domini,easter -3,gregor\
+ian julian\nCoenae Domini,easter -3,gregorian julian\nCene Domini,easter -3,gregorian julian\nMaundy Thursday,easter -3\
+,gregorian julian\nJeudi saint,easter -3,gregorian julian\nKarfreitag,easter -2,gregorian julian\nCharfreitag,easter -2\
+,gregorian julian\nParasceve,easter -2,gregorian julian\nGood Friday,easter -2,gregorian julian\nVendredi saint,easter \
+-2,gregorian julian\nKarsamstag,easter -1,gregorian julian\nSabbatum sanctum,easter -1,gregorian julian\nQuasimodogenit\
+i,easter 7,gregorian julian\nQuasi modo geniti,easter 7,gregorian julian\nQuasimodo,easter 7,gregorian julian\nLow Sund\
+ay,easter 7,gregorian julian\nMisericordias Domini,easter 14,gregorian julian\nMisericordia Domini,easter 14,gregorian \
+julian\nJubilate,easter 21,gregorian julian\nIubilate,easter 21,gregorian julian\nCantate,easter 28,gregorian julian\nK\
+antate,easter 28,gregorian julian\nRogate,easter 35,gregorian julian\nVocem jucunditatis,easter 35,gregorian julian\nRo\
+gation Sunday,easter 35,gregorian julian\nHimmelfahrt,easter 39,gregorian julian\nChristi Himmelfahrt,easter 39,gregori\
+an julian\nAuffahrt,easter 39,gregorian julian\nAscensionis Domini,easter 39,gregorian julian\nAscensionis,easter 39,gr\
+egorian julian\nAscension Day,easter 39,gregorian julian\nAscension,easter 39,gregorian julian\nExaudi,easter 42,gregor\
+ian julian\nPfingsten,easter 49,gregorian julian\nPfingstsonntag,easter 49,gregorian julian\nPentecostes,easter 49,greg\
+orian julian\nPentecoste,easter 49,gregorian julian\nPentecost,easter 49,gregorian julian\nWhitsunday,easter 49,gregori\
+an julian\nWhit Sunday,easter 49,gregorian julian\nPentecôte,easter 49,gregorian julian\nPfingstmontag,easter 50,grego\
+rian julian\nWhit Monday,easter 50,gregorian julian\nTrinitatis,easter 56,gregorian julian\nTrin,easter 56,gregorian ju\
+lian\nTrinity Sunday,easter 56,gregorian julian\nTrinity,easter 56,gregorian julian\nTrinité,easter 56,gregorian julia\
+n\nFronleichnam,easter 60,gregorian julian\nCorporis Christi,easter 60,gregorian julian\nCorpus Christi,easter 60,grego\
+rian julian\nFête-Dieu,easter 60,gregorian julian\nAdvent,sundays advent,gregorian julian\nAdventus,sundays advent,gre\
+gorian julian\nAdventus Domini,sundays advent,gregorian julian\nAdv,sundays advent,gregorian julian\nAdventssonntag,sun\
+days advent,gregorian julian\nSunday in Advent,sundays advent,gregorian julian\ndimanche de l'Avent,sundays advent,greg\
+orian julian\nFastensonntag,sundays lent,gregorian julian\nQuadragesimae,sundays lent,gregorian julian\nSunday in Lent,\
+sundays lent,gregorian julian\nAd te levavi,sunday advent 1,gregorian julian\nPopulus Sion,sunday advent 2,gregorian ju\
+lian\nGaudete,sunday advent 3,gregorian julian\nRorate,sunday advent 4,gregorian julian\nAdvent Sunday,sunday advent 1,\
+gregorian julian\nNeujahr,feast 1-1,gregorian julian\nCircumcisionis Domini,feast 1-1,gregorian julian\nCircumcisionis,\
+feast 1-1,gregorian julian\nEpiphaniae,feast 1-6,gregorian julian\nEpiphanie,feast 1-6,gregorian julian\nEpiphanias,fea\
+st 1-6,gregorian julian\nEpiph,feast 1-6,gregorian julian\nEpiphany,feast 1-6,gregorian julian\nTrium Regum,feast 1-6,g\
+regorian julian\nDreikönig,feast 1-6,gregorian julian\nHeilige Drei Könige,feast 1-6,gregorian julian\nFabiani et Seb\
+astiani,feast 1-20,gregorian julian\nAgnetis,feast 1-21,gregorian julian\nVincentii,feast 1-22,gregorian julian\nConver\
+sionis Pauli,feast 1-25,gregorian julian\nPauli Bekehrung,feast 1-25,gregorian julian\nLichtmess,feast 2-2,gregorian ju\
+lian\nMariä Lichtmess,feast 2-2,gregorian julian\nPurificationis Mariae,feast 2-2,gregorian julian\nPurificationis,fea\
+st 2-2,gregorian julian\nCandlemas,feast 2-2,gregorian julian\nChandeleur,feast 2-2,gregorian julian\nBlasii,feast 2-3,\
+gregorian julian\nAgathae,feast 2-5,gregorian julian\nValentini,feast 2-14,gregorian julian\nCathedra Petri,feast 2-22,\
+gregorian julian\nPetri Stuhlfeier,feast 2-22,gregorian julian\nMatthiae,feast 3-1 -5,gregorian julian\nMathie,feast 3-\
+1 -5,gregorian julian\nGertrudis,feast 3-17,gregorian julian\nBenedicti,feast 3-21,gregorian julian\nAnnunciationis Mar\
+iae,feast 3-25,gregorian julian\nAnnuntiationis Mariae,feast 3-25,gregorian julian\nMariä Verkündigung,feast 3-25,gre\
+gorian julian\nLady Day,feast 3-25,gregorian julian\nAnnonciation,feast 3-25,gregorian julian\nTiburtii et Valeriani,fe\
+ast 4-14,gregorian julian\nMarci,feast 4-25,gregorian julian\nPhilippi et Jacobi,feast 5-1,gregorian julian\nWalpurgis,\
+feast 5-1,gregorian julian\nWalburgis,feast 5-1,gregorian julian\nInventionis crucis,feast 5-3,gregorian julian\nKreuza\
+uffindung,feast 5-3,gregorian julian\nUrbani,feast 5-25,gregorian julian\nViti,feast 6-15,gregorian julian\nJohannistag\
+,feast 6-24,gregorian julian\nJohannis Baptistae,feast 6-24,gregorian julian\nJohannis Baptiste,feast 6-24,gregorian ju\
+lian\nNativitatis Johannis Baptistae,feast 6-24,gregorian julian\nMidsummer Day,feast 6-24,gregorian julian\nla Saint-J\
+ean,feast 6-24,gregorian julian\nJohannis et Pauli,feast 6-26,gregorian julian\nPetri et Pauli,feast 6-29,gregorian jul\
+ian\nPeter und Paul,feast 6-29,gregorian julian\nVisitationis Mariae,feast 7-2,gregorian julian\nMariä Heimsuchung,fea\
+st 7-2,gregorian julian\nKiliani,feast 7-8,gregorian julian\nDivisionis apostolorum,feast 7-15,gregorian julian\nMaria\
+e Magdalenae,feast 7-22,gregorian julian\nMarie Magdalene,feast 7-22,gregorian julian\nJacobi,feast 7-25,gregorian juli\
+an\nJakobi,feast 7-25,gregorian julian\nAnnae,feast 7-26,gregorian julian\nPetri ad vincula,feast 8-1,gregorian julian\
+\nPetri Kettenfeier,feast 8-1,gregorian julian\nLammas,feast 8-1,gregorian julian\nLaurentii,feast 8-10,gregorian julia\
+n\nAssumptionis Mariae,feast 8-15,gregorian julian\nMariä Himmelfahrt,feast 8-15,gregorian julian\nAssomption,feast 8-\
+15,gregorian julian\nBartholomaei,feast 8-24,gregorian julian\nBartholomäi,feast 8-24,gregorian julian\nBartholomei,fe\
+ast 8-24,gregorian julian\nDecollationis Johannis,feast 8-29,gregorian julian\nAegidii,feast 9-1,gregorian julian\nEgid\
+ii,feast 9-1,gregorian julian\nNativitatis Mariae,feast 9-8,gregorian julian\nMariä Geburt,feast 9-8,gregorian julian\
+\nExaltationis crucis,feast 9-14,gregorian julian\nKreuzerhöhung,feast 9-14,gregorian julian\nHoly Cross Day,feast 9-1\
+4,gregorian julian\nLamberti,feast 9-17,gregorian julian\nMatthaei,feast 9-21,gregorian julian\nMatthäi,feast 9-21,gre\
+gorian julian\nMauritii,feast 9-22,gregorian julian\nMichaelis,feast 9-29,gregorian julian\nMichael,feast 9-29,gregoria\
+n julian\nMichaelmas,feast 9-29,gregorian julian\nSaint-Michel,feast 9-29,gregorian julian\nRemigii,feast 10-1,gregoria\
+n julian\nFrancisci,feast 10-4,gregorian julian\nDionysii,feast 10-9,gregorian julian\nGalli,feast 10-16,gregorian juli\
+an\nLucae,feast 10-18,gregorian julian\nUndecim milium virginum,feast 10-21,gregorian julian\nCrispini et Crispiniani,f\
+east 10-25,gregorian julian\nSimonis et Judae,feast 10-28,gregorian julian\nSimonis et Jude,feast 10-28,gregorian julia\
+n\nAllerheiligen,feast 11-1,gregorian julian\nOmnium Sanctorum,feast 11-1,gregorian julian\nAll Saints,feast 11-1,grego\
+rian julian\nToussaint,feast 11-1,gregorian julian\nAllerseelen,feast 11-2,gregorian julian\nAnimarum,feast 11-2,gregor\
+ian julian\nAll Souls,feast 11-2,gregorian julian\nLeonhardi,feast 11-6,gregorian julian\nMartini,feast 11-11,gregoria\
+n julian\nMartinmas,feast 11-11,gregorian julian\nSaint-Martin,feast 11-11,gregorian julian\nElisabethae,feast 11-19,gr\
+egorian julian\nPraesentationis Mariae,feast 11-21,gregorian julian\nCaeciliae,feast 11-22,gregorian julian\nClementis,\
+feast 11-23,gregorian julian\nCatharinae,feast 11-25,gregorian julian\nKatharinae,feast 11-25,gregorian julian\nKatheri\
+ne,feast 11-25,gregorian julian\nAndreae,feast 11-30,gregorian julian\nAndree,feast 11-30,gregorian julian\nBarbarae,fe\
+ast 12-4,gregorian julian\nNicolai,feast 12-6,gregorian julian\nNikolai,feast 12-6,gregorian julian\nConceptionis Maria\
+e,feast 12-8,gregorian julian\nMariä Empfängnis,feast 12-8,gregorian julian\nLuciae,feast 12-13,gregorian julian\nLuc\
+ie,feast 12-13,gregorian julian\nThomae,feast 12-21,gregorian julian\nThome,feast 12-21,gregorian julian\nHeiligabend,f\
+east 12-24,gregorian julian\nWeihnachten,feast 12-25,gregorian julian\nNativitatis Domini,feast 12-25,gregorian julian\
+\nNativitatis Christi,feast 12-25,gregorian julian\nNativitatis,feast 12-25,gregorian julian\nChristmas,feast 12-25,gre\
+gorian julian\nChristmas Day,feast 12-25,gregorian julian\nNoël,feast 12-25,gregorian julian\nStephani,feast 12-26,gre\
+gorian julian\nJohannis Evangelistae,feast 12-27,gregorian julian\nInnocentum,feast 12-28,gregorian julian\nUnschuldig\
+e Kinder,feast 12-28,gregorian julian\nSilvestri,feast 12-31,gregorian julian\nSilvester,feast 12-31,gregorian julian\n\
+Purificationis Mariae virginis,feast 2-2,gregorian julian\nPurificationis Marie virginis,feast 2-2,gregorian julian\nPu\
+rificationis Marie,feast 2-2,gregorian julian\nPurificationis beatae Mariae,feast 2-2,gregorian julian\nPurificationis \
+beate Marie,feast 2-2,gregorian julian\nPurificationis beatae Mariae virginis,feast 2-2,gregorian julian\nPurificationi\
+s beate Marie virginis,feast 2-2,gregorian julian\nPurificationis B M V,feast 2-2,gregorian julian\nAnnunciationis Mari\
+ae virginis,feast 3-25,gregorian julian\nAnnunciationis Marie virginis,feast 3-25,gregorian julian\nAnnunciationis Mari\
+e,feast 3-25,gregorian julian\nAnnunciationis beatae Mariae,feast 3-25,gregorian julian\nAnnunciationis beate Marie,fea\
+st 3-25,gregorian julian\nAnnunciationis beatae Mariae virginis,feast 3-25,gregorian julian\nAnnunciationis beate Mari\
+e virginis,feast 3-25,gregorian julian\nAnnunciationis B M V,feast 3-25,gregorian julian\nAnnuntiationis Mariae virgini\
+s,feast 3-25,gregorian julian\nAnnuntiationis Marie virginis,feast 3-25,gregorian julian\nAnnuntiationis Marie,feast 3-\
+25,gregorian julian\nAnnuntiationis beatae Mariae,feast 3-25,gregorian julian\nAnnuntiationis beate Marie,feast 3-25,gr\
+egorian julian\nAnnuntiationis beatae Mariae virginis,feast 3-25,gregorian julian\nAnnuntiationis beate Marie virginis,\
+feast 3-25,gregorian julian\nAnnuntiationis B M V,feast 3-25,gregorian julian\nVisitationis Mariae virginis,feast 7-2,g\
+regorian julian\nVisitationis Marie virginis,feast 7-2,gregorian julian\nVisitationis Marie,feast 7-2,gregorian julian\
+\nVisitationis beatae Mariae,feast 7-2,gregorian julian\nVisitationis beate Marie,feast 7-2,gregorian julian\nVisitatio\
+nis beatae Mariae virginis,feast 7-2,gregorian julian\nVisitationis beate Marie virginis,feast 7-2,gregorian julian\nVi\
+sitationis B M V,feast 7-2,gregorian julian\nAssumptionis Mariae virginis,feast 8-15,gregorian julian\nAssumptionis Mar\
+ie virginis,feast 8-15,gregorian julian\nAssumptionis Marie,feast 8-15,gregorian julian\nAssumptionis beatae Mariae,fea\
+st 8-15,gregorian julian\nAssumptionis beate Marie,feast 8-15,gregorian julian\nAssumptionis beatae Mariae virginis,fea\
+st 8-15,gregorian julian\nAssumptionis beate Marie virginis,feast 8-15,gregorian julian\nAssumptionis B M V,feast 8-15,\
+gregorian julian\nNativitatis Mariae virginis,feast 9-8,gregorian julian\nNativitatis Marie virginis,feast 9-8,gregoria\
+n julian\nNativitatis Marie,feast 9-8,gregorian julian\nNativitatis beatae Mariae,feast 9-8,gregorian julian\nNativitat\
+is beate Marie,feast 9-8,gregorian julian\nNativitatis beatae Mariae virginis,feast 9-8,gregorian julian\nNativitatis b\
+eate Marie virginis,feast 9-8,gregorian julian\nNativitatis B M V,feast 9-8,gregorian julian\nConceptionis Mariae virgi\
+nis,feast 12-8,gregorian julian\nConceptionis Marie virginis,feast 12-8,gregorian julian\nConceptionis Marie,feast 12-8\
+,gregorian julian\nConceptionis beatae Mariae,feast 12-8,gregorian julian\nConceptionis beate Marie,feast 12-8,gregoria\
+n julian\nConceptionis beatae Mariae virginis,feast 12-8,gregorian julian\nConceptionis beate Marie virginis,feast 12-8\
+,gregorian julian\nConceptionis B M V,feast 12-8,gregorian julian\nÉpiphanie,feast 1-6,gregorian julian\nTheophaniae,f\
+east 1-6,gregorian julian\nEpiphaniae Domini,feast 1-6,gregorian julian\nEpiphanie Domini,feast 1-6,gregorian julian\nT\
+homae martyris,feast 12-29,gregorian julian\nThome martyris,feast 12-29,gregorian julian\nStephani protomartyris,feast \
+12-26,gregorian julian\nMichaelistag,feast 9-29,gregorian julian\nMartinstag,feast 11-11,gregorian julian\nMartinitag,f\
+east 11-11,gregorian julian\nWeihnachtstag,feast 12-25,gregorian julian\nChristtag,feast 12-25,gregorian julian\nPascha\
+tis,easter 0,gregorian julian\nPaschatos,easter 0,gregorian julian\nPfingsttag,easter 49,gregorian julian\nHimmelfahrts\
+tag,easter 39,gregorian julian\nFronleichnamstag,easter 60,gregorian julian\nChristmas Eve,feast 12-24,gregorian julian\
+\nNew Year's Day,feast 1-1,gregorian julian\nNew Year’s Day,feast 1-1,gregorian julian\nNeujahrstag,feast 1-1,gregori\
+an julian\nInnocentium,feast 12-28,gregorian julian\ninfra octavam,after,gregorian julian\nEpiphaniam,feast 1-6,gregori\
+an julian\nEpiphania Domini,feast 1-6,gregorian julian\nNativitas Domini,feast 12-25,gregorian julian\nCircumcisio Domi\
+ni,feast 1-1,gregorian julian\nferia secunda Paschae,easter 1,gregorian julian\nferia tertia Paschae,easter 2,gregoria\
+n julian\nAscensio Domini,easter 39,gregorian julian\nferia secunda Pentecostes,easter 50,gregorian julian\nferia terti\
+a Pentecostes,easter 51,gregorian julian\nConversio Pauli,feast 1-25,gregorian julian\nPurificatio Mariae,feast 2-2,gre\
+gorian julian\nAnnuntiatio Mariae,feast 3-25,gregorian julian\nInventio crucis,feast 5-3,gregorian julian\nNativitas Jo\
+hannis Baptistae,feast 6-24,gregorian julian\nVisitatio Mariae,feast 7-2,gregorian julian\nDivisio apostolorum,feast 7-\
+15,gregorian julian\nAssumptio Mariae,feast 8-15,gregorian julian\nDecollatio Johannis,feast 8-29,gregorian julian\nNat\
+ivitas Mariae,feast 9-8,gregorian julian\nExaltatio crucis,feast 9-14,gregorian julian\nPraesentatio Mariae,feast 11-21\
+,gregorian julian\nConceptio Mariae,feast 12-8,gregorian julian\nante,,roman\nante diem,,roman\na,,roman\nden,,\nder,,\
+\ndes,,\ndem,,\nam,,\nvom,,\nim,,\nin,,\nanno,year,\nanno domini,year,\nao,year,\nAD,year,\nA D,year,\nthe,,\nof,,\non,\
+,\nday,day,\nle,,\nla,,\ndu,,\nde,,\nl'an,year,\nl’an,year,\nan,year,\nannée,year,\nl'année,year,\nl’année,year,\
+\nen,,\nil,,\ndel,,\ndell'anno,year,\ndell’anno,year,\nel,,\ndía,day,\ndel año,year,\naño,year,\ndnia,day,\nroku,y\
+ear,\nr,year,\ndne,day,\ndie,day,\nde dato,,\nvan,,\nhet,,\n1 er,1,\nère,,\nere,,\nème,,\neme,,\nre,,\nst,,\nnd,,\nrd\
+,,\nth,,\nte,,\nter,,gregorian julian hebrew islamic french republican\nsten,,\nste,,\ntes,,\nens,,\nº,,\nª,,\ne,,\ns\
+ter,,\nyear,year,\nyear of our Lord,year,\nof our Lord,year,\nour Lord,year,\nJahr,year,\nJahre,year,\nJahres,year,\nna\
+ch Christi Geburt,year,\nn Chr,year,\nanno Dni,year,\nanno salutis,year,\nanni,year,\nannus,year,\nAo Dni,year,\nA°,ye\
+ar,\nAº,year,\njaar,year,\njaer,year,\ndo ano,year,\nano,year,\nannée de grâce,year,\nl'an de grâce,year,\nl’an d\
+e grâce,year,\nl'an de grace,year,\nl’an de grace,year,\nгода,year,\nгод,year,\nгоду,year,\nгодъ,year\
+,\nгода от Рождества Христова,year,\nг,year,\når,year,\naar,year,\nár,year,\nAnno Christi,yea\
+r,\nnell'anno,year,\nnell’anno,year,\nго,,\nого,,\nye,,\njour de,day,\nдня,day,\nчисла,day,\ndag,day,\nT\
+ag des,day,\ndì,day,\na dì,day,\nadì,day,\naddì,day,\nde la République,,french republican\nde la Republique,,frenc\
+h republican\nde la République française,,french republican\nde la République francaise,,french republican\nde la R\
+épublique françoise,,french republican\nde la Republique francaise,,french republican\nde la Republique françoise,,f\
+rench republican\nde la Republique francoise,,french republican\nde la République une et indivisible,,french republica\
+n\nde la République française une et indivisible,,french republican\nder Republik,,french republican\nder fränkische\
+n Republik,,french republican\nder französischen Republik,,french republican\nder fränk. Republik,,french republican\
+\nder frz. Republik,,french republican\nrépublicain,,french republican\nrépublicaine,,french republican\nde l'ère r\
+épublicaine,,french republican\nde l’ère républicaine,,french republican\nfestum,,gregorian julian\nfesti,,gregori\
+an julian\nfest,,gregorian julian\nfeast of,,gregorian julian\nfête de,,gregorian julian\ndivi,,gregorian julian\ndiva\
+e,,gregorian julian\nbeate,,gregorian julian\nsancte,,gregorian julian\nfesto,,gregorian julian\nin festo,,gregorian ju\
+lian\nin die,day,gregorian julian\nS Agnetis,feast 1-21,gregorian julian\nS Vincentii,feast 1-22,gregorian julian\nS Bl\
+asii,feast 2-3,gregorian julian\nS Agathae,feast 2-5,gregorian julian\nS Valentini,feast 2-14,gregorian julian\nS Matth\
+iae,feast 3-1 -5,gregorian julian\nS Mathie,feast 3-1 -5,gregorian julian\nS Gertrudis,feast 3-17,gregorian julian\nS B\
+enedicti,feast 3-21,gregorian julian\nS Marci,feast 4-25,gregorian julian\nS Urbani,feast 5-25,gregorian julian\nS Viti\
+,feast 6-15,gregorian julian\nS Johannis Baptistae,feast 6-24,gregorian julian\nS Johannis Baptiste,feast 6-24,gregoria\
+n julian\nS Petri et Pauli,feast 6-29,gregorian julian\nS Johannis et Pauli,feast 6-26,gregorian julian\nS Kiliani,feas\
+t 7-8,gregorian julian\nS Mariae Magdalenae,feast 7-22,gregorian julian\nS Marie Magdalene,feast 7-22,gregorian julian\
+\nS Jacobi,feast 7-25,gregorian julian\nS Jakobi,feast 7-25,gregorian julian\nS Annae,feast 7-26,gregorian julian\nS La\
+urentii,feast 8-10,gregorian julian\nS Bartholomaei,feast 8-24,gregorian julian\nS Bartholomei,feast 8-24,gregorian jul\
+ian\nS Decollationis Johannis,feast 8-29,gregorian julian\nS Aegidii,feast 9-1,gregorian julian\nS Egidii,feast 9-1,gre\
+gorian julian\nS Lamberti,feast 9-17,gregorian julian\nS Matthaei,feast 9-21,gregorian julian\nS Mauritii,feast 9-22,gr\
+egorian julian\nS Michaelis,feast 9-29,gregorian julian\nS Michael,feast 9-29,gregorian julian\nS Remigii,feast 10-1,gr\
+egorian julian\nS Francisci,feast 10-4,gregorian julian\nS Dionysii,feast 10-9,gregorian julian\nS Galli,feast 10-16,gr\
+egorian julian\nS Lucae,feast 10-18,gregorian julian\nS Simonis et Judae,feast 10-28,gregorian julian\nS Leonhardi,feas\
+t 11-6,gregorian julian\nS Martini,feast 11-11,gregorian julian\nS Elisabethae,feast 11-19,gregorian julian\nS Caecilia\
+e,feast 11-22,gregorian julian\nS Clementis,feast 11-23,gregorian julian\nS Catharinae,feast 11-25,gregorian julian\nS \
+Katharinae,feast 11-25,gregorian julian\nS Andreae,feast 11-30,gregorian julian\nS Andree,feast 11-30,gregorian julian\
+\nS Barbarae,feast 12-4,gregorian julian\nS Nicolai,feast 12-6,gregorian julian\nS Nikolai,feast 12-6,gregorian julian\
+\nS Luciae,feast 12-13,gregorian julian\nS Lucie,feast 12-13,gregorian julian\nS Thomae,feast 12-21,gregorian julian\n\
+S Thome,feast 12-21,gregorian julian\nS Stephani,feast 12-26,gregorian julian\nS Johannis Evangelistae,feast 12-27,greg\
+orian julian\nS Thomae martyris,feast 12-29,gregorian julian\nS Thome martyris,feast 12-29,gregorian julian\nS Silvestr\
+i,feast 12-31,gregorian julian\nS Philippi et Jacobi,feast 5-1,gregorian julian\nS Walpurgis,feast 5-1,gregorian julian\
+\nO S,,julian\na St,,julian\nalten Stils,,julian\nold style,,julian\nN S,,gregorian\nn St,,gregorian\nneuen Stils,,greg\
+orian\nnew style,,gregorian\nSankt,,gregorian julian\nsancti,,gregorian julian\nsanctae,,gregorian julian\nbeati,,grego\
+rian julian\nbeatae,,gregorian julian\napostoli,,gregorian julian\napostolorum,,gregorian julian\nevangelistae,,gregori\
+an julian\narchangeli,,gregorian julian\nten jare,year,\nJan y,month 1,gregorian julian\nJan ry,month 1,gregorian julia\
+n\nFeb y,month 2,gregorian julian\nFeb ry,month 2,gregorian julian\nMch,month 3,gregorian julian\nAp'l,month 4,gregoria\
+n julian\nAp’l,month 4,gregorian julian\nAp l,month 4,gregorian julian\nAug't,month 8,gregorian julian\nAug’t,mont\
+h 8,gregorian julian\nAug t,month 8,gregorian julian\nSept'r,month 9,gregorian julian\nSept’r,month 9,gregorian julia\
+n\nSept r,month 9,gregorian julian\nSep'r,month 9,gregorian julian\nSep’r,month 9,gregorian julian\nSep r,month 9,gre\
+gorian julian\nOct'r,month 10,gregorian julian\nOct’r,month 10,gregorian julian\nOct r,month 10,gregorian julian\nNov\
+'r,month 11,gregorian julian\nNov’r,month 11,gregorian julian\nNov r,month 11,gregorian julian\nDec'r,month 12,gregor\
+ian julian\nDec’r,month 12,gregorian julian\nDec r,month 12,gregorian julian\nJanuarie,month 1,gregorian julian\nJanu\
+arye,month 1,gregorian julian\nFebruarie,month 2,gregorian julian\nFebruarye,month 2,gregorian julian\nMarche,month 3,g\
+regorian julian\nAprill,month 4,gregorian julian\nMaye,month 5,gregorian julian\nMaie,month 5,gregorian julian\nIune,mo\
+nth 6,gregorian julian\nIuly,month 7,gregorian julian\nIulie,month 7,gregorian julian\nJulie,month 7,gregorian julian\n\
+Julye,month 7,gregorian julian\nAuguste,month 8,gregorian julian\nSeptemb,month 9,gregorian julian\nOctob,month 10,greg\
+orian julian\nNovemb,month 11,gregorian julian\nDecemb,month 12,gregorian julian\nLord's Day,weekday 0,\nLord’s Day,w\
+eekday 0,\nLords Day,weekday 0,\nWeds,weekday 3,\nWednes,weekday 3,\nJanuario,month 1,gregorian julian\nIanuario,month \
+1,gregorian julian\nFebruario,month 2,gregorian julian\nMartio,month 3,gregorian julian\nAprili,month 4,gregorian julia\
+n\nIunio,month 6,gregorian julian\nIulio,month 7,gregorian julian\nAugusto,month 8,gregorian julian\nSeptembri,month 9,\
+gregorian julian\n7bri,month 9,gregorian julian\nVII bris,month 9,gregorian julian\nOctobri,month 10,gregorian julian\n\
+8bri,month 10,gregorian julian\nVIII bris,month 10,gregorian julian\nNovembri,month 11,gregorian julian\n9bri,month 11,\
+gregorian julian\nIX bris,month 11,gregorian julian\nDecembri,month 12,gregorian julian\n10bri,month 12,gregorian julia\
+n\nXbri,month 12,gregorian julian\nX bris,month 12,gregorian julian\nX ber,month 12,gregorian julian\nX bre,month 12,gr\
+egorian julian\nIanuar,month 1,gregorian julian\nSeptembr,month 9,gregorian julian\nNovembr,month 11,gregorian julian\n\
+Decembr,month 12,gregorian julian\ndie Solis,weekday 0,\ndies Solis,weekday 0,\nferia II,weekday 1,\nfer 2,weekday 1,\n\
+fer II,weekday 1,\nferia III,weekday 2,\nfer 3,weekday 2,\nfer III,weekday 2,\nferia IV,weekday 3,\nferia IIII,weekday \
+3,\nfer 4,weekday 3,\nfer IV,weekday 3,\nferia V,weekday 4,\nfer 5,weekday 4,\nfer V,weekday 4,\nferia VI,weekday 5,\nf\
+er 6,weekday 5,\nfer VI,weekday 5,\nsabbati,weekday 6,\nsabbathi,weekday 6,\ndie Sabbathi,weekday 6,\nsabbatho,weekday \
+6,\nіануарій,month 1,gregorian julian\nіануарія,month 1,gregorian julian\nянуарій,month 1,gregor\
+ian julian\nянуарія,month 1,gregorian julian\nфев,month 2,gregorian julian\nфевруарій,month 2,gregor\
+ian julian\nфевруарія,month 2,gregorian julian\nмартъ,month 3,gregorian julian\nаприлій,month 4,gr\
+egorian julian\nаприлія,month 4,gregorian julian\nмаій,month 5,gregorian julian\nмаія,month 5,gregorian \
+julian\nмаия,month 5,gregorian julian\nмайя,month 5,gregorian julian\nіуній,month 6,gregorian julian\nіу\
+нія,month 6,gregorian julian\nиюния,month 6,gregorian julian\nіюн,month 6,gregorian julian\nіулій,mont\
+h 7,gregorian julian\nіулія,month 7,gregorian julian\nиюлия,month 7,gregorian julian\nіюл,month 7,gregoria\
+n julian\nавгустъ,month 8,gregorian julian\nсептемврій,month 9,gregorian julian\nсептемврія,\
+month 9,gregorian julian\nсен,month 9,gregorian julian\nсентебря,month 9,gregorian julian\nоктоврій,\
+month 10,gregorian julian\nоктоврія,month 10,gregorian julian\nоктебря,month 10,gregorian julian\nное\
+мврій,month 11,gregorian julian\nноемврія,month 11,gregorian julian\nноя,month 11,gregorian julian\nд\
+екемврій,month 12,gregorian julian\nдекемврія,month 12,gregorian julian\nвоскресеніе,weekda\
+y 0,\nвоскресение,weekday 0,\nвоскр,weekday 0,\nвс,weekday 0,\nпонедѣльникъ,weekday 1,\n\
+понедѣльник,weekday 1,\nпн,weekday 1,\nвторникъ,weekday 2,\nвт,weekday 2,\nсреду,weekday 3,\
+\nсереду,weekday 3,\nср,weekday 3,\nчетвергъ,weekday 4,\nчетвертокъ,weekday 4,\nчт,weekday \
+4,\nпятницу,weekday 5,\nпятокъ,weekday 5,\nпт,weekday 5,\nсубботу,weekday 6,\nсб,weekday 6,\nс\
+їчень,month 1,gregorian julian\nсїчня,month 1,gregorian julian\nмарець,month 3,gregorian julian\nмар\
+ця,month 3,gregorian julian\nкві,month 4,gregorian julian\nцвітень,month 4,gregorian julian\nцвітня,m\
+onth 4,gregorian julian\nтра,month 5,gregorian julian\nчер,month 6,gregorian julian\nжов,month 10,gregorian ju\
+lian\nлис,month 11,gregorian julian\nгру,month 12,gregorian julian\nнеділю,weekday 0,\nнд,weekday 0,\nп'\
+ятниця,weekday 5,\nп’ятниця,weekday 5,\nп'ятницю,weekday 5,\nп’ятницю,weekday 5,\nпʼя\
+тницю,weekday 5,\nсуботу,weekday 6,\nJanuárius,month 1,gregorian julian\nFebruárius,month 2,gregorian juli\
+an\nMártius,month 3,gregorian julian\nMárczius,month 3,gregorian julian\nMártzius,month 3,gregorian julian\nMarcius,\
+month 3,gregorian julian\nDeczember,month 12,gregorian julian\nDeczber,month 12,gregorian julian\njanuár hó,month 1,g\
+regorian julian\njanuár hava,month 1,gregorian julian\njanuár havának,month 1,gregorian julian\nfebruár hó,month 2\
+,gregorian julian\nfebruár hava,month 2,gregorian julian\nfebruár havának,month 2,gregorian julian\nmárcius hó,mon\
+th 3,gregorian julian\nmárcius hava,month 3,gregorian julian\nmárcius havának,month 3,gregorian julian\náprilis hó\
+,month 4,gregorian julian\náprilis hava,month 4,gregorian julian\náprilis havának,month 4,gregorian julian\nmájus h\
+ó,month 5,gregorian julian\nmájus hava,month 5,gregorian julian\nmájus havának,month 5,gregorian julian\njúnius h\
+ó,month 6,gregorian julian\njúnius hava,month 6,gregorian julian\njúnius havának,month 6,gregorian julian\njúlius \
+hó,month 7,gregorian julian\njúlius hava,month 7,gregorian julian\njúlius havának,month 7,gregorian julian\nauguszt\
+us hó,month 8,gregorian julian\naugusztus hava,month 8,gregorian julian\naugusztus havának,month 8,gregorian julian\n\
+szeptember hó,month 9,gregorian julian\nszeptember hava,month 9,gregorian julian\nszeptember havának,month 9,gregoria\
+n julian\noktóber hó,month 10,gregorian julian\noktóber hava,month 10,gregorian julian\noktóber havának,month 10,g\
+regorian julian\nnovember hó,month 11,gregorian julian\nnovember hava,month 11,gregorian julian\nnovember havának,mon\
+th 11,gregorian julian\ndecember hó,month 12,gregorian julian\ndecember hava,month 12,gregorian julian\ndecember havá\
+nak,month 12,gregorian julian\nBoldogasszony hava,month 1,gregorian julian\nBöjtelő hava,month 2,gregorian julian\nB\
+öjtmás hava,month 3,gregorian julian\nSzent György hava,month 4,gregorian julian\nPünkösd hava,month 5,gregorian j\
+ulian\nSzent Iván hava,month 6,gregorian julian\nSzent Jakab hava,month 7,gregorian julian\nKisasszony hava,month 8,gr\
+egorian julian\nSzent Mihály hava,month 9,gregorian julian\nMindszent hava,month 10,gregorian julian\nSzent András ha\
+va,month 11,gregorian julian\nKarácsony hava,month 12,gregorian julian\nvasarnap,weekday 0,\nhétfőn,weekday 1,\nhetf\
+o,weekday 1,\nhétf,weekday 1,\nkedden,weekday 2,\nszerdán,weekday 3,\nszerdan,weekday 3,\ncsütörtökön,weekday 4,\
+\ncsutortok,weekday 4,\ncsüt,weekday 4,\npénteken,weekday 5,\npentek,weekday 5,\npént,weekday 5,\nszombaton,weekday \
+6,\nszomb,weekday 6,\nJaneyro,month 1,gregorian julian\nJanro,month 1,gregorian julian\nJan ro,month 1,gregorian julian\
+\nFevereyro,month 2,gregorian julian\nFevro,month 2,gregorian julian\nFev ro,month 2,gregorian julian\nmarso,month 3,gr\
+egorian julian\nSeptembro,month 9,gregorian julian\n7bro,month 9,gregorian julian\nSetbro,month 9,gregorian julian\nOct\
+ubro,month 10,gregorian julian\n8bro,month 10,gregorian julian\nOutbro,month 10,gregorian julian\n9bro,month 11,gregori\
+an julian\nNovbro,month 11,gregorian julian\nDecembro,month 12,gregorian julian\n10bro,month 12,gregorian julian\nXbro,\
+month 12,gregorian julian\nDezbro,month 12,gregorian julian\nmês de janeiro,month 1,gregorian julian\nmez de janeiro,m\
+onth 1,gregorian julian\ndo mês de janeiro,month 1,gregorian julian\ndo mez de janeiro,month 1,gregorian julian\nmês \
+de fevereiro,month 2,gregorian julian\nmez de fevereiro,month 2,gregorian julian\ndo mês de fevereiro,month 2,gregoria\
+n julian\ndo mez de fevereiro,month 2,gregorian julian\nmês de março,month 3,gregorian julian\nmez de março,month 3,\
+gregorian julian\ndo mês de março,month 3,gregorian julian\ndo mez de março,month 3,gregorian julian\nmês de abril,\
+month 4,gregorian julian\nmez de abril,month 4,gregorian julian\ndo mês de abril,month 4,gregorian julian\ndo mez de a\
+bril,month 4,gregorian julian\nmês de maio,month 5,gregorian julian\nmez de maio,month 5,gregorian julian\ndo mês de \
+maio,month 5,gregorian julian\ndo mez de maio,month 5,gregorian julian\nmês de junho,month 6,gregorian julian\nmez de \
+junho,month 6,gregorian julian\ndo mês de junho,month 6,gregorian julian\ndo mez de junho,month 6,gregorian julian\nm\
+ês de julho,month 7,gregorian julian\nmez de julho,month 7,gregorian julian\ndo mês de julho,month 7,gregorian julian\
+\ndo mez de julho,month 7,gregorian julian\nmês de agosto,month 8,gregorian julian\nmez de agosto,month 8,gregorian ju\
+lian\ndo mês de agosto,month 8,gregorian julian\ndo mez de agosto,month 8,gregorian julian\nmês de setembro,month 9,g\
+regorian julian\nmez de setembro,month 9,gregorian julian\ndo mês de setembro,month 9,gregorian julian\ndo mez de sete\
+mbro,month 9,gregorian julian\nmês de outubro,month 10,gregorian julian\nmez de outubro,month 10,gregorian julian\ndo \
+mês de outubro,month 10,gregorian julian\ndo mez de outubro,month 10,gregorian julian\nmês de novembro,month 11,grego\
+rian julian\nmez de novembro,month 11,gregorian julian\ndo mês de novembro,month 11,gregorian julian\ndo mez de novemb\
+ro,month 11,gregorian julian\nmês de dezembro,month 12,gregorian julian\nmez de dezembro,month 12,gregorian julian\nd\
+o mês de dezembro,month 12,gregorian julian\ndo mez de dezembro,month 12,gregorian julian\nseg,weekday 1,\n2ª feira,w\
+eekday 1,\nterca-feira,weekday 2,\n3ª feira,weekday 2,\nqua,weekday 3,\n4ª feira,weekday 3,\nqui,weekday 4,\n5ª feir\
+a,weekday 4,\n6ª feira,weekday 5,\nsáb,weekday 6,\nsabado,weekday 6,\nsab,weekday 6,\nenº,month 1,gregorian julian\n\
+en.º,month 1,gregorian julian\nhenero,month 1,gregorian julian\nfebº,month 2,gregorian julian\nhebrero,month 2,gregor\
+ian julian\nfebro,month 2,gregorian julian\nmço,month 3,gregorian julian\nmzo,month 3,gregorian julian\nabl,month 4,gr\
+egorian julian\njunº,month 6,gregorian julian\njulº,month 7,gregorian julian\nagto,month 8,gregorian julian\nagº,mon\
+th 8,gregorian julian\nag to,month 8,gregorian julian\nseptbre,month 9,gregorian julian\nsetbre,month 9,gregorian julia\
+n\noctbre,month 10,gregorian julian\notubre,month 10,gregorian julian\nnobiembre,month 11,gregorian julian\nnovbre,mont\
+h 11,gregorian julian\nnovre,month 11,gregorian julian\ndiziembre,month 12,gregorian julian\ndeziembre,month 12,gregori\
+an julian\ndicbre,month 12,gregorian julian\ndizbre,month 12,gregorian julian\ndel mes de enero,month 1,gregorian julia\
+n\ndel mes de febrero,month 2,gregorian julian\ndel mes de marzo,month 3,gregorian julian\ndel mes de abril,month 4,gre\
+gorian julian\ndel mes de mayo,month 5,gregorian julian\ndel mes de junio,month 6,gregorian julian\ndel mes de julio,mo\
+nth 7,gregorian julian\ndel mes de agosto,month 8,gregorian julian\ndel mes de septiembre,month 9,gregorian julian\nde\
+l mes de octubre,month 10,gregorian julian\ndel mes de noviembre,month 11,gregorian julian\ndel mes de diciembre,month \
+12,gregorian julian\nmié,weekday 3,\nmiercoles,weekday 3,\nmie,weekday 3,\njue,weekday 4,\nvie,weekday 5,\nKânunusani\
+,month 1,gregorian julian\nKanunusani,month 1,gregorian julian\nKânun-ı sani,month 1,gregorian julian\nKanun-ı sani,\
+month 1,gregorian julian\nİkincikânun,month 1,gregorian julian\nİkinci Kânun,month 1,gregorian julian\nSonkânun,mo\
+nth 1,gregorian julian\nSonkanun,month 1,gregorian julian\nKânunisani,month 1,gregorian julian\nsubat,month 2,gregoria\
+n julian\nNİSAN,month 4,gregorian julian\nmayis,month 5,gregorian julian\nHAZİRAN,month 6,gregorian julian\nagustos,m\
+onth 8,gregorian julian\neylul,month 9,gregorian julian\nEylûl,month 9,gregorian julian\nEKİM,month 10,gregorian juli\
+an\nTeşrinievvel,month 10,gregorian julian\nTeşrin-i evvel,month 10,gregorian julian\nTesrinievvel,month 10,gregoria\
+n julian\nBirinciteşrin,month 10,gregorian julian\nBirinci Teşrin,month 10,gregorian julian\nİlkteşrin,month 10,gre\
+gorian julian\nkasim,month 11,gregorian julian\nTeşrinisani,month 11,gregorian julian\nTeşrin-i sani,month 11,gregori\
+an julian\nTesrinisani,month 11,gregorian julian\nİkinciteşrin,month 11,gregorian julian\nİkinci Teşrin,month 11,gr\
+egorian julian\nSonteşrin,month 11,gregorian julian\nSontesrin,month 11,gregorian julian\naralik,month 12,gregorian ju\
+lian\nKânunuevvel,month 12,gregorian julian\nKanunuevvel,month 12,gregorian julian\nKânun-ı evvel,month 12,gregoria\
+n julian\nKanun-ı evvel,month 12,gregorian julian\nBirincikânun,month 12,gregorian julian\nBirinci Kânun,month 12,gr\
+egorian julian\nİlkkânun,month 12,gregorian julian\nKânunievvel,month 12,gregorian julian\nPaz,weekday 0,\nPzt,weekd\
+ay 1,\nsali,weekday 2,\nÇar,weekday 3,\ncarsamba,weekday 3,\npersembe,weekday 4,\nCmt,weekday 6,\nPazar günü,weekda\
+y 0,\nPazartesi günü,weekday 1,\nSalı günü,weekday 2,\nÇarşamba günü,weekday 3,\nPerşembe günü,weekday 4,\n\
+Cuma günü,weekday 5,\nCumartesi günü,weekday 6,\nΙανουαριος,month 1,gregorian julian\nΦεβρουαρι\
+ος,month 2,gregorian julian\nΜαρτιος,month 3,gregorian julian\nΑπριλιος,month 4,gregorian julian\nΜα\
+ιος,month 5,gregorian julian\nΙουνιος,month 6,gregorian julian\nΙουλιος,month 7,gregorian julian\nΑυ\
+γουστος,month 8,gregorian julian\nΣεπτεμβριος,month 9,gregorian julian\nΟκτωβριος,month 10,g\
+regorian julian\nΝοεμβριος,month 11,gregorian julian\nΔεκεμβριος,month 12,gregorian julian\nΙανο\
+υαριου,month 1,gregorian julian\nΦεβρουαριου,month 2,gregorian julian\nΜαρτιου,month 3,gregoria\
+n julian\nΑπριλιου,month 4,gregorian julian\nΜαιου,month 5,gregorian julian\nΙουνιου,month 6,gregor\
+ian julian\nΙουλιου,month 7,gregorian julian\nΑυγουστου,month 8,gregorian julian\nΣεπτεμβριο\
+υ,month 9,gregorian julian\nΟκτωβριου,month 10,gregorian julian\nΝοεμβριου,month 11,gregorian julian\
+\nΔεκεμβριου,month 12,gregorian julian\nἸανουάριος,month 1,gregorian julian\nἸανουαρίου\
+,month 1,gregorian julian\nἈπρίλιος,month 4,gregorian julian\nἈπριλίου,month 4,gregorian julian\nΜά\
+ϊος,month 5,gregorian julian\nἸούνιος,month 6,gregorian julian\nἸουνίου,month 6,gregorian julian\n\
+Ἰούλιος,month 7,gregorian julian\nἸουλίου,month 7,gregorian julian\nΑὔγουστος,month 8,gregori\
+an julian\nΑὐγούστου,month 8,gregorian julian\nὈκτώβριος,month 10,gregorian julian\nὈκτωβρί\
+ου,month 10,gregorian julian\nΓενάρης,month 1,gregorian julian\nΓενάρη,month 1,gregorian julian\nΦλε\
+βάρης,month 2,gregorian julian\nΦλεβάρη,month 2,gregorian julian\nΜάρτης,month 3,gregorian julian\nΜ\
+άρτη,month 3,gregorian julian\nΑπρίλης,month 4,gregorian julian\nΑπρίλη,month 4,gregorian julian\nΜά\
+ης,month 5,gregorian julian\nΜάη,month 5,gregorian julian\nΙούνης,month 6,gregorian julian\nΙούνη,mont\
+h 6,gregorian julian\nΙούλης,month 7,gregorian julian\nΙούλη,month 7,gregorian julian\nΣεπτέμβρης,\
+month 9,gregorian julian\nΣεπτέμβρη,month 9,gregorian julian\nΟκτώβρης,month 10,gregorian julian\nΟκ\
+τώβρη,month 10,gregorian julian\nΝοέμβρης,month 11,gregorian julian\nΝοέμβρη,month 11,gregorian jul\
+ian\nΔεκέμβρης,month 12,gregorian julian\nΔεκέμβρη,month 12,gregorian julian\nΓεναρης,month 1,g\
+regorian julian\nΓεναρη,month 1,gregorian julian\nΦλεβαρης,month 2,gregorian julian\nΦλεβαρη,mont\
+h 2,gregorian julian\nΜαρτης,month 3,gregorian julian\nΜαρτη,month 3,gregorian julian\nΑπριλης,month \
+4,gregorian julian\nΑπριλη,month 4,gregorian julian\nΜαης,month 5,gregorian julian\nΜαη,month 5,gregorian \
+julian\nΙουνης,month 6,gregorian julian\nΙουνη,month 6,gregorian julian\nΙουλης,month 7,gregorian juli\
+an\nΙουλη,month 7,gregorian julian\nΣεπτεμβρης,month 9,gregorian julian\nΣεπτεμβρη,month 9,greg\
+orian julian\nΟκτωβρης,month 10,gregorian julian\nΟκτωβρη,month 10,gregorian julian\nΝοεμβρης,mo\
+nth 11,gregorian julian\nΝοεμβρη,month 11,gregorian julian\nΔεκεμβρης,month 12,gregorian julian\nΔεκ\
+εμβρη,month 12,gregorian julian\nἸαν,month 1,gregorian julian\nΦεβρ,month 2,gregorian julian\nΜάρ,mont\
+h 3,gregorian julian\nΜαρτ,month 3,gregorian julian\nἈπρ,month 4,gregorian julian\nΜάι,month 5,gregorian jul\
+ian\nΜαϊ,month 5,gregorian julian\nΜαι,month 5,gregorian julian\nΙούν,month 6,gregorian julian\nἸουν,mon\
+th 6,gregorian julian\nΙούλ,month 7,gregorian julian\nἸουλ,month 7,gregorian julian\nΑύγ,month 8,gregorian \
+julian\nΑὐγ,month 8,gregorian julian\nΣεπτ,month 9,gregorian julian\nὈκτ,month 10,gregorian julian\nΟκτ\
+ωβρ,month 10,gregorian julian\nΝοέ,month 11,gregorian julian\nΝοεμβρ,month 11,gregorian julian\nΔεκεμ\
+βρ,month 12,gregorian julian\nΚυριακη,weekday 0,\nΔευτερα,weekday 1,\nΤριτη,weekday 2,\nΤεταρ\
+τη,weekday 3,\nΠεμπτη,weekday 4,\nΠαρασκευη,weekday 5,\nΣαββατο,weekday 6,\nΚυρ,weekday 0,\n\
+Κυριακήν,weekday 0,\nΔευ,weekday 1,\nΔευτέραν,weekday 1,\nΤρί,weekday 2,\nΤρι,weekday 2,\nΤρ\
+ίτην,weekday 2,\nΤετ,weekday 3,\nΤετάρτην,weekday 3,\nΠέμ,weekday 4,\nΠεμ,weekday 4,\nΠέμπτη\
+ν,weekday 4,\nΠαρ,weekday 5,\nΠαρασκευήν,weekday 5,\nΣάβ,weekday 6,\nΣαβ,weekday 6,\nΣάββατο\
+ν,weekday 6,\ntammi,month 1,gregorian julian\ntammik,month 1,gregorian julian\ntammikuun,month 1,gregorian julian\nhel\
+mi,month 2,gregorian julian\nhelmik,month 2,gregorian julian\nhelmikuun,month 2,gregorian julian\nmaalis,month 3,gregor\
+ian julian\nmaalisk,month 3,gregorian julian\nmaaliskuun,month 3,gregorian julian\nhuhti,month 4,gregorian julian\nhuht\
+ik,month 4,gregorian julian\nhuhtikuun,month 4,gregorian julian\ntouko,month 5,gregorian julian\ntoukok,month 5,gregori\
+an julian\ntoukokuun,month 5,gregorian julian\nkesä,month 6,gregorian julian\nkesäk,month 6,gregorian julian\nkesäku\
+un,month 6,gregorian julian\nheinä,month 7,gregorian julian\nheinäk,month 7,gregorian julian\nheinäkuun,month 7,greg\
+orian julian\nelo,month 8,gregorian julian\nelok,month 8,gregorian julian\nelokuun,month 8,gregorian julian\nsyys,mont\
+h 9,gregorian julian\nsyysk,month 9,gregorian julian\nsyyskuun,month 9,gregorian julian\nloka,month 10,gregorian julian\
+\nlokak,month 10,gregorian julian\nlokakuun,month 10,gregorian julian\nmarras,month 11,gregorian julian\nmarrask,month \
+11,gregorian julian\nmarraskuun,month 11,gregorian julian\njoulu,month 12,gregorian julian\njouluk,month 12,gregorian j\
+ulian\njoulukuun,month 12,gregorian julian\nkesakuu,month 6,gregorian julian\nkesakuuta,month 6,gregorian julian\nkesak\
+uun,month 6,gregorian julian\nheinakuu,month 7,gregorian julian\nheinakuuta,month 7,gregorian julian\nheinakuun,month 7\
+,gregorian julian\nsu,weekday 0,\nsunnuntaina,weekday 0,\nmaanantaina,weekday 1,\ntiistaina,weekday 2,\nke,weekday 3,\n\
+keskiviikkona,weekday 3,\ntorstaina,weekday 4,\npe,weekday 5,\nperjantaina,weekday 5,\nlauantaina,weekday 6,\nsön,week\
+day 0,\nsöndagen,weekday 0,\nsondag,weekday 0,\nmån,weekday 1,\nmåndagen,weekday 1,\ntis,weekday 2,\ntisdagen,weekda\
+y 2,\nons,weekday 3,\nonsdagen,weekday 3,\ntors,weekday 4,\ntorsdagen,weekday 4,\nthorsdag,weekday 4,\nfre,weekday 5,\n\
+fredagen,weekday 5,\nlör,weekday 6,\nlördagen,weekday 6,\nlordag,weekday 6,\nsøn,weekday 0,\nsøndagen,weekday 0,\ns\
+undag,weekday 0,\nman,weekday 1,\nmandagen,weekday 1,\ntirs,weekday 2,\ntirsdagen,weekday 2,\ntysdag,weekday 2,\ntys,we\
+ekday 2,\ntor,weekday 4,\nlør,weekday 6,\nlørdagen,weekday 6,\nløverdag,weekday 6,\nlaurdag,weekday 6,\nlau,weekday \
+6,\nniedz,weekday 0,\npon,weekday 1,\nwt,weekday 2,\nśr,weekday 3,\ngio,weekday 4,\nczw,weekday 4,\nčt,weekday 4,\npt\
+,weekday 5,\npá,weekday 5,\nsob,weekday 6,\nsze,weekday 3,\nçrş,weekday 3,\ncs,weekday 4,\nprş,weekday 4,\nszo,week\
+day 6,\ncts,weekday 6,\nέτος,year,\nέτους,year,\nἔτος,year,\nἔτους,year,\nvuonna,year,\névi,year,\
+\név,year,\nesztendő,year,\nesztendőben,year,\nроку,year,\nрік,year,\nyılı,year,\npäivänä,day,\npäivä,\
+day,\npäivää,day,\nnapján,day,\nnapja,day,\nnapjan,day,\nnap,day,\nчислѣ,day,\nчисле,day,\ndias,day,\ndia\
+,day,\nр,year,\nera vulgaris,year,\nerae vulgaris,year,\naerae vulgaris,year,\naera vulgaris,year,\naera christiana,ye\
+ar,\nera christiana,year,\naerae christianae,year,\nera volgare,year,\ndell'era volgare,year,\ndell’era volgare,year,\
+\nera cristiana,year,\ndell'era cristiana,year,\ndell’era cristiana,year,\nde la era cristiana,year,\nera cristã,yea\
+r,\nda era cristã,year,\nera vulgar,year,\nde la era vulgar,year,\nnuestra era,year,\nde nuestra era,year,\nère vulga\
+ire,year,\nde l'ère vulgaire,year,\nde l’ère vulgaire,year,\nl'ère vulgaire,year,\nl’ère vulgaire,year,\nère c\
+hrétienne,year,\nde l'ère chrétienne,year,\nde l’ère chrétienne,year,\nof the Christian era,year,\nChristian era\
+,year,\ncommon era,year,\nvulgar era,year,\nunserer Zeitrechnung,year,\nchristlicher Zeitrechnung,year,\nnach christlic\
+her Zeitrechnung,year,\nera,year spanish,julian\nla era,year spanish,julian\nen la era,year spanish,julian\nera de Cés\
+ar,year spanish,julian\nera de Cesar,year spanish,julian\nla era de César,year spanish,julian\nla era de Cesar,year sp\
+anish,julian\nera de Caesar,year spanish,julian\nera Cesaris,year spanish,julian\nera Caesaris,year spanish,julian\ner\
+a hispánica,year spanish,julian\nera hispanica,year spanish,julian\nera española,year spanish,julian\nera espanola,ye\
+ar spanish,julian\nera hispana,year spanish,julian\naera,year spanish,julian\naera hispanica,year spanish,julian\naera \
+Hispaniae,year spanish,julian\nsub era,year spanish,julian\nin era,year spanish,julian\nin aera,year spanish,julian\nsu\
+b aera,year spanish,julian\nna era de César,year spanish,julian\nna era de Cesar,year spanish,julian\nna era,year span\
+ish,julian\nот сотворения мира,year creation,julian\nот с. м.,year creation,julian\nот созда\
+ния мира,year creation,julian\nот сотв. мира,year creation,julian\nот с. мира,year creation,jul\
+ian\nотъ сотворенія міра,year creation,julian\nотъ сотворения міра,year creation,juli\
+an\nотъ сотворенія мира,year creation,julian\nот сотворенія міра,year creation,julian\
+\nотъ сотворения мира,year creation,julian\nотъ созданія міра,year creation,julian\nо\
+тъ созданія мира,year creation,julian\nотъ создания мира,year creation,julian\nотъ с. \
+м.,year creation,julian\nсотворения мира,year creation,julian\nсотворенія міра,year creati\
+on,julian\nот бытия мира,year creation,julian\nотъ бытія міра,year creation,julian\nот мир\
+осоздания,year creation,julian\nлета,year creation,julian\nлѣта,year creation,julian\nлето,year cr\
+eation,julian\nлѣто,year creation,julian\nв лето,year creation,julian\nвъ лѣто,year creation,julian\nл\
+ета от сотворения мира,year creation,julian\nлета от создания мира,year creation,j\
+ulian\nлета от с. м.,year creation,julian\nлето от сотворения мира,year creation,julian\nл\
+ѣта отъ сотворенія міра,year creation,julian\nлѣта отъ созданія міра,year creati\
+on,julian\nвід створення світу,year creation,julian\nвід сотворення світу,year creat\
+ion,julian\nαπό κτίσεως κόσμου,year creation,julian\nἀπὸ κτίσεως κόσμου,year creation\
+,julian\nαπό κτίσεως του κόσμου,year creation,julian\nén,,\nán,,\njén,,\nik,,\ndik,,\nikén,,\ndi\
+kén,,\nkén,,\nkán,,\nй,,\nое,,\nаго,,\nην,,\nης,,\nτη,,\nτῇ,,\nτην,,\nτὴν,,\nτου,,\nτοῦ\
+,,\naos,,\nв воскресенье,weekday 0,\nвъ воскресенье,weekday 0,\nвъ воскресеніе,we\
+ekday 0,\nв понедельник,weekday 1,\nвъ понедѣльникъ,weekday 1,\nво вторник,weekday 2\
+,\nво вторникъ,weekday 2,\nв среду,weekday 3,\nвъ среду,weekday 3,\nв середу,weekday 3,\n\
+въ середу,weekday 3,\nв четверг,weekday 4,\nвъ четвергъ,weekday 4,\nв пятницу,weekda\
+y 5,\nвъ пятницу,weekday 5,\nв субботу,weekday 6,\nвъ субботу,weekday 6,\ngregor.,gregorian,\
+\ngregor,gregorian,\ngrég.,gregorian,\ngrég,gregorian,\nst. n.,gregorian,\nst.n.,gregorian,\nst. nov.,gregorian,\nst\
+. novi,gregorian,\nstili novi,gregorian,\nstyli novi,gregorian,\nnovo stilo,gregorian,\nnovo stylo,gregorian,\ngregoria\
+nska kalendern,gregorian,\nnya stilen,gregorian,\nny stil,gregorian,\nnya stil,gregorian,\ngregorianske kalender,gregor\
+ian,\nden gregorianske kalender,gregorian,\nden gregorianske kalenderen,gregorian,\ngregorianske,gregorian,\ngregoriaan\
+inen,gregorian,\ngregoriaaninen kalenteri,gregorian,\nuutta lukua,gregorian,\nuusi luku,gregorian,\nGergely-naptár,gre\
+gorian,\nGergely-féle naptár,gregorian,\ngergely-féle,gregorian,\nGergely-naptár szerint,gregorian,\núj naptár,gr\
+egorian,\ncalendário gregoriano,gregorian,\nestilo novo,gregorian,\nmiladi,gregorian,\nmilâdî,gregorian,\nmiladî,gr\
+egorian,\nmiladi takvim,gregorian,\nGregoryen,gregorian,\nGregoryen takvimi,gregorian,\nΓρηγοριανό,gregorian,\
+\nΓρηγοριανό ημερολόγιο,gregorian,\nΓρηγοριανόν,gregorian,\nνέο ημερολόγιο,\
+gregorian,\nνέον ἡμερολόγιον,gregorian,\nν. ημ.,gregorian,\nν.ημ.,gregorian,\nн.ст.,gregorian,\
+\nнов. ст.,gregorian,\nн. стиль,gregorian,\nновый ст.,gregorian,\nнового стиля,gregorian,\
+\nноваго стиля,gregorian,\nгригорианский календарь,gregorian,\nгригор.,gregorian\
+,\nгригоріанський,gregorian,\nгригоріанський календар,gregorian,\nновий сти\
+ль,gregorian,\nнового стилю,gregorian,\nза новим стилем,gregorian,\ngregorianus,gregorian,\nc\
+alendarium Gregorianum,gregorian,\nst. v.,julian,\nst.v.,julian,\nst. vet.,julian,\nst. veteris,julian,\nstili veteris,\
+julian,\nstyli veteris,julian,\nstilo veteri,julian,\nstylo vetere,julian,\nveteri stilo,julian,\nveteri stylo,julian,\
+\nv. st.,julian,\nO. St.,julian,\njulianska kalendern,julian,\ngamla stilen,julian,\ngammal stil,julian,\ngamla stil,ju\
+lian,\ngammel stil,julian,\njulianske kalender,julian,\nden julianske kalender,julian,\nden julianske kalenderen,julian\
+,\njulianske,julian,\njuliaaninen,julian,\njuliaaninen kalenteri,julian,\nvanhaa lukua,julian,\nvanha luku,julian,\nJul\
+ianus,julian,\nJulianus-naptár,julian,\nJulián-naptár,julian,\nJulián-naptár szerint,julian,\nónaptár,julian,\n\
+ó-naptár,julian,\nrégi naptár,julian,\ncalendário juliano,julian,\nestilo antigo,julian,\nestilo velho,julian,\nes\
+tilo viejo,julian,\nviejo estilo,julian,\nJülyen,julian,\nJülyen takvimi,julian,\nJulyen,julian,\nΙουλιανό,ju\
+lian,\nΙουλιανό ημερολόγιο,julian,\nΙουλιανόν,julian,\nπαλαιό ημερολόγιο,jul\
+ian,\nπαλαιόν ἡμερολόγιον,julian,\nπαλιό ημερολόγιο,julian,\nπ. ημ.,julian,\nπ.η\
+μ.,julian,\nс. ст.,julian,\nс.ст.,julian,\nст.ст.,julian,\nстар. ст.,julian,\nст. стиль,julian,\
+\nс. стиль,julian,\nстарого стиля,julian,\nстараго стиля,julian,\nюлианский ка\
+лендарь,julian,\nюл.,julian,\nюліанський,julian,\nюліанський календар,julian,\nс\
+тарий стиль,julian,\nстарого стилю,julian,\nза старим стилем,julian,\ncalendarium J\
+ulianum,julian,\nеврейский,hebrew,\nиудейский,hebrew,\nевр.,hebrew,\nєврейський,hebrew,\
+\nhéber,hebrew,\nzsidó,hebrew,\nhebraico,hebrew,\njudaico,hebrew,\ncalendário hebraico,hebrew,\ncalendario hebreo,he\
+brew,\ncalendario judío,hebrew,\nİbrani,hebrew,\nMusevi,hebrew,\nMusevî,hebrew,\nΕβραϊκό,hebrew,\nἙβραϊ\
+κό,hebrew,\nΙουδαϊκό,hebrew,\nheprealainen,hebrew,\njuutalainen,hebrew,\nhebreisk,hebrew,\nhebreiska,hebrew,\
+\njudisk,hebrew,\njudiska,hebrew,\nhebraisk,hebrew,\nhebraiske,hebrew,\njødisk,hebrew,\njødiske,hebrew,\nhebraicus,he\
+brew,\njudaicus,hebrew,\nмусульманский,islamic,\nисламский,islamic,\nхиджра,islamic,\nхи\
 джры,islamic,\nмусульманський,islamic,\nісламський,islamic,\nгіджра,islamic,\niszlám\
 ,islamic,\nmohamedán,islamic,\nhidzsra,islamic,\nislâmico,islamic,\nmuçulmano,islamic,\nhégira,islamic,\nhicri takv\
 im,islamic,\nΙσλαμικό,islamic,\nΜουσουλμανικό,islamic,\nΕγίρα,islamic,\nislamilainen,islamic,\

@@ -820,5 +820,5 @@ tic ethiopic egyptian armenian islamic hebrew french republican\nἀχρονολ
 optic ethiopic egyptian armenian islamic hebrew french republican\nAdar,month 12-13,hebrew\neve of,eve,gregorian julian\
 \nvigilia,eve,gregorian julian\nin vigilia,eve,gregorian julian\nVigil,eve,gregorian julian\nVorabend,eve,gregorian jul\
 ian\nprofesto,eve,gregorian julian\nveille de,eve,gregorian julian\noctava,octave,gregorian julian\nin octava,octave,gr\
-egorian julian\n\
+egorian julian\nOktav,octave,gregorian julian\noctave of,octave,gregorian julian\n\
 ";

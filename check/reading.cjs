@@ -358,6 +358,6 @@ function written(text, calendar, choice, names) {
 }
 
 module.exports = {
-  added, bareOf, byYear, counted, folded, formOf, hasMixedSigns, hasOther, isBeside, isDecadeDay, isHalfYear, isLong, isOnWeekday,
-  isOtherEra, itemsOf, ofThree, partsOf, withoutTime, written,
+  added, bareOf, byYear, counted, folded, formOf, hasMixedSigns, hasOther, isBeside, isDecadeDay, isHalfYear, isLong,
+  isOnWeekday, isOtherEra, itemsOf, ofThree, partsOf, withoutTime, written,
 };

@@ -245,6 +245,7 @@ FILES = {
     "swedish.csv": "name,means,in\nschwedisch,julian,\n",
     "names.csv": "name,means,in\nMeyo,month 5,\n", "weekdays.csv": "name,means,in\nSonntag,weekday 0,\n",
     "other.csv": "name,means,in\nMeyo,month 6,\nJuno,month 7,\n",
+    "periods.csv": "name,means,in\nJh,century 1,\nsiglo,century 0,\nLenz,months 3-5,\ns,decade,\n",
     "own.csv.unknown.csv": "name,means,in\nMeyo,month 5,\n",
     "bad.csv": "name,means,in\nMeyo,month 5,\nJuni,six,\n",
     "in.csv": "name,means,in\nMeyo,month 5,mars\n", "both.csv": "name,means,in\nMeyo,mai,mars\n",
@@ -327,6 +328,11 @@ STREAMS = [
      "d,julian,refusal\n06-5-12,1806-05-12,\n", ""),
     ("--date 1 --all julian --to julian", "d\n06-5-12\n", 0, "d,julian,refusal\n06-5-12,,5\n",
      lines("standard input: 1 date has a short year and is left empty: see --short-years")),
+    # Years of the Spanish era and of the creation of the world, and one behind a word for year.
+    ("--date d --calendar c --order day --to gregorian",
+     "d,c\n5. Mai anno 75,greg.\n\"5 de mayo, era de 1381\",jul.\n7157 года от сотворения мира сентября 1,ст. ст.\n", 0,
+     "d,c,gregorian,refusal\n5. Mai anno 75,greg.,0075-05-05,\n\"5 de mayo, era de 1381\",jul.,1343-05-13,\n"
+     "7157 года от сотворения мира сентября 1,ст. ст.,1648-09-11,\n", ""),
     # The Sunday or feast of a day, in the church year of its calendar alone. Easter was on 9 April 1699, Julian, four weeks
     # after Oculi, and on 27 March 1712, Gregorian, which is that Coptic day.
     ("--date d --calendar c --order day --to weekday,church,gregorian",
@@ -365,6 +371,12 @@ STREAMS = [
      lines("standard input: 1 date is no date of its calendar")),
     (f"{SPANS_COLUMNS} --spans --to rd", "Date\nMai 1806\n", 0,
      "Date,first rd,last rd,mark,refusal\nMai 1806,659383,659413,,\n", ""),
+    # Centuries, parts of years and tens of years, by a list; and a text that says no date.
+    (f"{SPANS_COLUMNS} --spans --edtf --to gregorian --names periods.csv",
+     "Date\n18. Jh.\nsiglo XVIII\nLenz 1806\n1790s\no. D.\n", 0,
+     "Date,first gregorian,last gregorian,edtf,mark,refusal\n18. Jh.,1701-01-01,1800-12-31,[1701..1800],,\n"
+     "siglo XVIII,1700-01-01,1799-12-31,[1700..1799],,\nLenz 1806,1806-03-01,1806-05-31,[1806-03..1806-05],,\n"
+     "1790s,1790-01-01,1799-12-31,[1790..1799],,\no. D.,,,,undated,\n", ""),
     # How many are no single day: a month, a year, and what ends before a day.
     (f"{SPANS_COLUMNS} --edtf --summary", SPANS, 0, SPANS_CONVERTED,
      lines("standard input: 1 date is no date of its calendar",

@@ -100,8 +100,12 @@ function extent(items, beside, by) {
   return checked(items.length > 0 ? plain(items, by) ?? feastSide(items, by) : null, beside, by);
 }
 
+// A part of a Hebrew year, which begins with the seventh month, does not go over the sixth.
+const isInOrder = ({ isPart, from, to }, calendar) => !isPart || calendar !== "hebrew" || (from < 7) === (to < 7);
+
 // What is said, where its year is long and one that the calendar can have, and a weekday beside it is that of a day.
 function checked(found, beside, by) {
+  if (found !== null && !isInOrder(found, by.calendar)) return null;
   if (found === null || !isLong(found.year) || isOneLetter(found.year) || beside && !found.day && found.day !== 0) return null;
   const inRepublic = counted(found.year, found.from ?? 9) <= 99 || !REPUBLICAN.includes(by.calendar);
   return !inRepublic || isHalfYear(found.year, by.calendar) ? null : { ...found, beside };
@@ -177,9 +181,8 @@ function wideSides(text) {
 
 // ---- dual years
 
-// Two years can be those of a day, a month or a year, and of one in September to December only where years begin then.
-const canBeDual = ({ year, years, isPart, from }) =>
-  year.value < 99999 && !isPart && !years && (year.era !== "creation" || from === undefined);
+// Two years can be those of a day, a month or a year of the calendar.
+const canBeDual = ({ year, years, isPart }) => year.value < 99999 && !isPart && !years && !isOtherEra(year.era);
 
 function dualSides(text, names, by) {
   const cut = ONLY_SLASH.exec(text);

@@ -40,7 +40,7 @@ for (let n = 1; n < 4000; n += 1) {
 // A number is `{value, digits}`, with 0 digits if it is a Roman one or a name, and `isNamed` for a name; `era` beside a word
 // for year, with the era of its years, `isDay` beside a word for day. Other items have what they mean: `{month}`, `{mark}`,
 // `{weekday}`, `{decade}`, `{relation}`, `{feast}`, `{season}`, `{yearWord}`, `{dayWord}`, `{word}`, `{adar}`, `{months}`,
-// `{century}`, `{tens}`.
+// `{century}`, `{tens}`, `{part}`, `{lastDay}`.
 function numberOf(part) {
   if (/^[0-9]/.test(part)) return part.length > 9 ? null : { value: Number(part), digits: part.length };
   return ROMAN.has(part) ? { value: ROMAN.get(part), digits: 0, isNamed: false } : null;
@@ -115,7 +115,8 @@ function added(items) {
 
 const LETTERS = {
   value: "n", month: "m", mark: "k", weekday: "w", decade: "d", relation: "r", feast: "f", season: "s", yearWord: "y",
-  dayWord: "t", word: "o", adar: "a", months: "p", century: "c", tens: "z",
+  dayWord: "t", word: "o", adar: "a", months: "p", century: "c", tens: "z", part: "q",
+  lastDay: "l",
 };
 const letterOf = item => LETTERS[Object.keys(LETTERS).find(key => key in item)];
 const formOf = items => items.map(letterOf).join("");

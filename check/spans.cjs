@@ -34,23 +34,29 @@ function partOf({ months: [from, to] }, year) {
   return year.era === "creation" && from < 9 && to >= 9 ? null : { year, from, to, isPart: true };
 }
 
-// A century, by a number that counts neither years nor days: from 100 of its years on, or from the year behind it.
-function centuryOf({ century }, number) {
+// A century, by a number that counts neither years nor days: from 100 of its years on, or from the year behind it; and of it
+// the part of a place among so many.
+function centuryOf({ century }, number, [place, parts] = [1, 1]) {
   if (isLong(number) || number.isDay || number.value < 2 || number.value > 30) return null;
-  return { year: { value: 100 * (number.value - 1) + century, digits: 4 }, years: 100 };
+  const [from, to] = [place - 1, place].map(it => Math.floor(100 * it / parts));
+  return { year: { value: 100 * (number.value - 1) + century + from, digits: 4 }, years: to - from };
 }
 
 const tensOf = year => year.value % 10 === 0 && year.value % 100 !== 0 && !isOtherEra(year.era) ? { year, years: 10 } : null;
 
-// What two items say of which one is a part of a year, a century or ten years.
+// What items say of which one is a part of a year or a century, a century, ten years, or the last day of a month.
 function period(items) {
-  const [a, b] = items;
+  const [a, b, c] = items, [place, parts] = a.part ?? [1, 1], isOne = place <= parts;
   switch (formOf(items)) {
     case "pn": return partOf(a, b);
     case "np": return partOf(b, a);
     case "cn": return centuryOf(a, b);
     case "nc": return centuryOf(b, a);
     case "nz": return tensOf(a);
+    case "qn": return isOne ? partOf({ months: [12 * (place - 1) / parts + 1, 12 * place / parts] }, b) : null;
+    case "qcn": return isOne ? centuryOf(b, c, a.part) : null;
+    case "qnc": return isOne ? centuryOf(c, b, a.part) : null;
+    case "lmn": return { year: c, from: b.month, to: b.month, isLast: true };
     default: return null;
   }
 }
@@ -69,7 +75,8 @@ function plain(items, { order, slashed, mixed }) {
       return small(a) ? { year: b, from: a.value, to: a.value } : null;
     case "nnn": if (mixed) return null;
   }
-  if (items.length === 2) return period(items);
+  const said = period(months);
+  if (said !== null) return isAdar ? null : said;
   const three = ofThree("", order, months);
   if (three === null) return null;
   const { month: number, day } = three.find();
@@ -182,7 +189,8 @@ function wideSides(text) {
 // ---- dual years
 
 // Two years can be those of a day, a month or a year of the calendar.
-const canBeDual = ({ year, years, isPart }) => year.value < 99999 && !isPart && !years && !isOtherEra(year.era);
+const canBeDual = ({ year, years, isPart, isLast }) =>
+  year.value < 99999 && !isPart && !years && !isLast && !isOtherEra(year.era);
 
 function dualSides(text, names, by) {
   const cut = ONLY_SLASH.exec(text);
@@ -232,6 +240,7 @@ const daysOf = (calendar, year, month) => (monthsIn(calendar, year).find(([numbe
 
 function ends(said, calendar, year) {
   if (said.day !== undefined) return Array(2).fill([year, said.from, said.day]);
+  if (said.isLast) return Array(2).fill([year, said.from, daysOf(calendar, year, said.from)]);
   if (said.isPart) return [[year, said.from, 1], [year, said.to, daysOf(calendar, year, said.to)]];
   if (said.from !== undefined) {
     const last = said.to !== said.from && daysOf(calendar, year, said.to) > 0 ? said.to : said.from;

@@ -76,6 +76,7 @@ class Texts {
       m: saying("month"), k: saying("mark"), w: saying("weekday"), a: saying("decade"), r: saying("relation"),
       f: saying("feast"), s: saying("season"), n: saying("value"), o: names.filter(it => it.item === null),
       y: saying("yearWord"), t: saying("dayWord"), p: saying("months"), c: saying("century"), z: saying("tens"),
+      q: saying("part"), l: saying("lastDay"),
       u: names.filter(it => it.item !== null && it.item.word === "undated"),
     };
   }
@@ -234,7 +235,7 @@ class Texts {
 
   anything() {
     const parts = Array.from({ length: from(1, 6) }, () => {
-      const kind = one([..."mwarfsnokpczu", "digits", "digits", "digits", "other", "Roman"]);
+      const kind = one([..."mwarfsnokpczuql", "digits", "digits", "digits", "other", "Roman"]);
       if (kind === "digits") return String(one([below(32), below(2000), this.year(), "1234567890", "00"]));
       return kind === "other" ? one(OTHERS) : kind === "Roman" ? one(ROMANS) : this.name(kind);
     });

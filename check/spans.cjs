@@ -34,6 +34,10 @@ function partOf({ months: [from, to] }, year) {
   return year.era === "creation" && from < 9 && to >= 9 ? null : { year, from, to, isPart: true };
 }
 
+// A half, a third or a quarter of a year, none of one that begins in September.
+const shareOf = ([place, parts], year) =>
+  year.era === "creation" ? null : { year, from: 12 * (place - 1) / parts + 1, to: 12 * place / parts, isPart: true, isShare: true };
+
 // A century, by a number that counts neither years nor days: from 100 of its years on, or from the year behind it; and of it
 // the part of a place among so many.
 function centuryOf({ century }, number, [place, parts] = [1, 1]) {
@@ -53,7 +57,7 @@ function period(items) {
     case "cn": return centuryOf(a, b);
     case "nc": return centuryOf(b, a);
     case "nz": return tensOf(a);
-    case "qn": return isOne ? partOf({ months: [12 * (place - 1) / parts + 1, 12 * place / parts] }, b) : null;
+    case "qn": return isOne ? shareOf(a.part, b) : null;
     case "qcn": return isOne ? centuryOf(b, c, a.part) : null;
     case "qnc": return isOne ? centuryOf(c, b, a.part) : null;
     case "lmn": return { year: c, from: b.month, to: b.month, isLast: true };
@@ -107,8 +111,11 @@ function extent(items, beside, by) {
   return checked(items.length > 0 ? plain(items, by) ?? feastSide(items, by) : null, beside, by);
 }
 
-// A part of a Hebrew year, which begins with the seventh month, does not go over the sixth.
-const isInOrder = ({ isPart, from, to }, calendar) => !isPart || calendar !== "hebrew" || (from < 7) === (to < 7);
+// A part of a Hebrew year, which begins with the seventh month, does not go over the sixth; and what is a third of a year, or
+// the like, is one of twelve months.
+const OF_TWELVE = ["gregorian", "julian", "islamic"];
+const isInOrder = ({ isPart, isShare, from, to }, calendar) =>
+  (!isPart || calendar !== "hebrew" || (from < 7) === (to < 7)) && (!isShare || OF_TWELVE.includes(calendar));
 
 // What is said, where its year is long and one that the calendar can have, and a weekday beside it is that of a day.
 function checked(found, beside, by) {

@@ -820,5 +820,12 @@ tic ethiopic egyptian armenian islamic hebrew french republican\nἀχρονολ
 optic ethiopic egyptian armenian islamic hebrew french republican\nAdar,month 12-13,hebrew\neve of,eve,gregorian julian\
 \nvigilia,eve,gregorian julian\nin vigilia,eve,gregorian julian\nVigil,eve,gregorian julian\nVorabend,eve,gregorian jul\
 ian\nprofesto,eve,gregorian julian\nveille de,eve,gregorian julian\noctava,octave,gregorian julian\nin octava,octave,gr\
-egorian julian\nOktav,octave,gregorian julian\noctave of,octave,gregorian julian\n\
+egorian julian\nOktav,octave,gregorian julian\noctave of,octave,gregorian julian\nin crastino,morrow,gregorian julian\n\
+crastino,morrow,gregorian julian\nmorrow of,morrow,gregorian julian\nOstern,easter 0,gregorian julian\nOstersonntag,eas\
+ter 0,gregorian julian\nOstertag,easter 0,gregorian julian\nPascha,easter 0,gregorian julian\nPaschae,easter 0,gregoria\
+n julian\nPasche,easter 0,gregorian julian\nResurrectionis Domini,easter 0,gregorian julian\nEaster,easter 0,gregorian \
+julian\nEaster Day,easter 0,gregorian julian\nEaster Sunday,easter 0,gregorian julian\nPâques,easter 0,gregorian julia\
+n\nOstermontag,easter 1,gregorian julian\nEaster Monday,easter 1,gregorian julian\nlundi de Pâques,easter 1,gregorian \
+julian\nOsterdienstag,easter 2,gregorian julian\nEaster Tuesday,easter 2,gregorian julian\nSeptuagesima,easter -63,greg\
+orian julian\n\
 ";

@@ -35,8 +35,10 @@ function partOf({ months: [from, to] }, year) {
 }
 
 // A half, a third or a quarter of a year, none of one that begins in September.
-const shareOf = ([place, parts], year) =>
-  year.era === "creation" ? null : { year, from: 12 * (place - 1) / parts + 1, to: 12 * place / parts, isPart: true, isShare: true };
+function shareOf([place, parts], year) {
+  const [from, to] = [12 * (place - 1) / parts + 1, 12 * place / parts];
+  return year.era === "creation" ? null : { year, from, to, isPart: true, isShare: true };
+}
 
 // A century, by a number that counts neither years nor days: from 100 of its years on, or from the year behind it; and of it
 // the part of a place among so many.
@@ -113,9 +115,10 @@ function extent(items, beside, by) {
 
 // A part of a Hebrew year, which begins with the seventh month, does not go over the sixth; and what is a third of a year, or
 // the like, is one of twelve months.
-const OF_TWELVE = ["gregorian", "julian", "islamic"];
+const hasTwelve = calendar =>
+  monthsOf(calendar, 1).length === 12 && monthsOf(calendar, 1).every(([month], i) => month === i + 1);
 const isInOrder = ({ isPart, isShare, from, to }, calendar) =>
-  (!isPart || calendar !== "hebrew" || (from < 7) === (to < 7)) && (!isShare || OF_TWELVE.includes(calendar));
+  (!isPart || calendar !== "hebrew" || (from < 7) === (to < 7)) && (!isShare || hasTwelve(calendar));
 
 // What is said, where its year is long and one that the calendar can have, and a weekday beside it is that of a day.
 function checked(found, beside, by) {

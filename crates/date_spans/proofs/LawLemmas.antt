@@ -1,14 +1,16 @@
 -- What the first and the last date of a month and of a year have between them.
 use Rattle.std.proofs.Common.{◌≡◌, ℕ, ◌+◌, ◌≤◌, refl, sym, ap, subst, arith}
 use Rattle.std.proofs.Common.{ℤ, pos, negsuc, ◌+ℤ◌, ◌-ℤ◌, ◌≤ℤ◌}
+use Rattle.std.proofs.lemmas.Int.{by_lt_z}
 use Rattle.std.specs.Prelude.{IsTrue}
 use Rattle.day_numbers.specs.Rules.{Rules, IsDateOf, day_number_of, days_of_month, days_before_month, are_months}
 use Rattle.day_numbers.specs.Rules.{year_start, year_length, HasYear}
 use Rattle.date_texts.specs.Calendars.{by_rules, reckoning}
 use Rattle.date_texts.specs.declared.calendar.Calendar.{Calendar}
-use Rattle.day_numbers.proofs.RulesLemmas.{date_unique, date_in_year, year_unique}
+use Rattle.day_numbers.proofs.RulesLemmas.{begins_after, date_unique, date_in_year, year_unique}
 use Rattle.day_numbers.proofs.SignedArithmeticLemmas.{signed_arith}
 use Rattle.date_spans.specs.Laws.{LastDayIsGreatest, LiesFrom, MonthIsExact, YearIsExact, YearIsForwards, MonthIsForwards}
+use Rattle.date_spans.specs.Laws.{YearsAreExact}
 use Rattle.date_spans.specs.Months.{months_by, months_in, months_of, first_month, last_month}
 use Rattle.date_spans.proofs.MonthLemmas.{months_are, first_before, last_ends}
 
@@ -109,6 +111,69 @@ year_exact rules year ordered h l y m d g =
           (day_number_of rules (pos year) (last_month (rules.months (pos year)))
           (days_of_month (rules.months (pos year)) (last_month (rules.months (pos year))))) z m d) (sym e)
           (year_to rules (pos year) m d _ _ first last g'),
+    )
+
+years_from : (rules : Rules) (a z y : ℤ) (m d : ℕ) (first last : ℤ) → first ≡ year_start rules a
+    → (last +ℤ pos 1) ≡ year_start rules z +ℤ pos (year_length rules z)
+    → HasYear rules.years a → HasYear rules.years z → IsDateOf rules y m d
+    → (first ≤ℤ day_number_of rules y m d) × (day_number_of rules y m d ≤ℤ last) → (a ≤ℤ y) × (y ≤ℤ z)
+years_from rules a z y m d first last e f ha hz g lies =
+    let within = date_in_year rules y m d g in (
+      by_lt_z y a (λ lt. absurd (omega (
+        arith,
+        signed_arith,
+        e,
+        lies.0,
+        within.1,
+        begins_after rules.years rules.epoch (year_length rules) y a g.0 ha lt,
+      ))) (λ ge. ge),
+      by_lt_z z y (λ lt. absurd (omega (
+        arith,
+        signed_arith,
+        f,
+        lies.1,
+        within.0,
+        begins_after rules.years rules.epoch (year_length rules) z y hz g.0 lt,
+      ))) (λ le. le),
+    )
+
+starts_before : (rules : Rules) (a y : ℤ) → HasYear rules.years a → HasYear rules.years y → a ≤ℤ y
+    → year_start rules a ≤ℤ year_start rules y
+starts_before rules a y ha hy le =
+    by_lt_z a y
+    (λ lt. omega (arith, signed_arith, begins_after rules.years rules.epoch (year_length rules) a y ha hy lt))
+    (λ ge. let same : a ≡ y = omega (arith, signed_arith, le, ge) in
+    omega (arith, signed_arith, ap (year_start rules) same))
+
+ends_before : (rules : Rules) (y z : ℤ) → HasYear rules.years y → HasYear rules.years z → y ≤ℤ z
+    → (year_start rules y +ℤ pos (year_length rules y)) ≤ℤ (year_start rules z +ℤ pos (year_length rules z))
+ends_before rules y z hy hz le =
+    by_lt_z y z
+    (λ lt. omega (arith, signed_arith, begins_after rules.years rules.epoch (year_length rules) y z hy hz lt))
+    (λ ge. let same : y ≡ z = omega (arith, signed_arith, le, ge) in
+    omega (arith, signed_arith, ap (λ (x : ℤ). year_start rules x +ℤ pos (year_length rules x)) same))
+
+years_to : (rules : Rules) (a z y : ℤ) (m d : ℕ) (first last : ℤ) → first ≡ year_start rules a
+    → (last +ℤ pos 1) ≡ year_start rules z +ℤ pos (year_length rules z)
+    → HasYear rules.years a → HasYear rules.years z → IsDateOf rules y m d → (a ≤ℤ y) × (y ≤ℤ z)
+    → (first ≤ℤ day_number_of rules y m d) × (day_number_of rules y m d ≤ℤ last)
+years_to rules a z y m d first last e f ha hz g among =
+    let within = date_in_year rules y m d g in (
+      omega (arith, signed_arith, e, within.0, starts_before rules a y ha g.0 among.0),
+      omega (arith, signed_arith, f, within.1, ends_before rules y z g.0 hz among.1),
+    )
+
+pub years_exact : (rules : Rules) (first last : ℕ) → IsTrue (are_months (months_in rules last))
+    → YearsAreExact rules first last
+years_exact rules a z ordered h l y m d g =
+    let of_first = months_are rules a h.0 in
+    let of_last = months_are rules z l.0 in
+    let ordered' : IsTrue (are_months (rules.months (pos z))) = rw of_last at ordered in
+    let first = year_first rules (pos a) in
+    let last = year_last rules (pos z) ordered' in
+    rw (of_first, of_last) (
+      years_from rules (pos a) (pos z) y m d _ _ first last h.0 l.0 g,
+      years_to rules (pos a) (pos z) y m d _ _ first last h.0 l.0 g,
     )
 
 pub year_forwards : (rules : Rules) (year : ℕ) → IsTrue (are_months (months_in rules year)) → YearIsForwards rules year

@@ -98,6 +98,7 @@ one_ends one choice calendar text (sayings.After e) x y h g = (
 )
 one_ends one choice calendar text (sayings.From e) x y h g = (h.0 ∙ sym g.0, h.1 ∙ sym g.1, h.2 ∙ sym g.2)
 one_ends one choice calendar text (sayings.Until e) x y h g = (h.0 ∙ sym g.0, h.1 ∙ sym g.1, h.2 ∙ sym g.2)
+one_ends one choice calendar text sayings.Undated x y h g = (h.0 ∙ sym g.0, h.1 ∙ sym g.1, h.2 ∙ sym g.2)
 
 -- ---- one span
 one_of_said : OneCell → (choice : Choice) (calendar : Calendar) (names : List Name) (text : List ℕ)

@@ -11,11 +11,11 @@ use Rattle.written_dates.specs.declared.written.Choice.{Choice}
 use Rattle.date_spans.specs.declared.ends.Numbers.{Numbers}
 use Rattle.date_spans.specs.declared.extents.Extent.{Extent}
 use Rattle.date_spans.specs.declared.extents.Extent.TheVariants as extent
-use Rattle.date_spans.specs.Ends.{HasDay, first_in, last_in, year_of, numbers}
-use Rattle.date_spans.specs.Laws.{HasEnds, SaidMonthIsExact, SaidYearIsExact, SaidIsForwards}
+use Rattle.date_spans.specs.Ends.{HasDay, first_in, last_in, last_year_in, year_of, numbers}
+use Rattle.date_spans.specs.Laws.{HasEnds, SaidMonthIsExact, SaidYearIsExact, SaidYearsAreExact, SaidIsForwards}
 use Rattle.date_spans.specs.Months.{months_by, months_in, months_of, first_month, last_month}
 use Rattle.date_spans.specs.Extents.{year_in}
-use Rattle.date_spans.proofs.LawLemmas.{month_exact, year_exact, month_forwards, year_forwards}
+use Rattle.date_spans.proofs.LawLemmas.{month_exact, year_exact, years_exact, month_forwards, year_forwards}
 
 date_at : (rules : Rules) (y z : ℤ) (m k d j : ℕ) → y ≡ z → m ≡ k → d ≡ j → IsDateOf rules y m d
     → IsDateOf rules z k j
@@ -100,6 +100,22 @@ year_between by_weeks year a b n m ordered h g date d = absurd (no_day_zero by_w
 year_between by_places year a b n m ordered h g date d = absurd d
 year_between by_names year a b n m ordered h g date d = absurd d
 
+years_between : (k : Reckoning) (first last : ℕ) (a b : Ymd) (n m : ℤ) → IsTrue (are_months (months_by k last))
+    → IsAt k a first (year_first k first) 1 n
+    → IsAt k b last (year_last k last) (days_of_month (months_by k last) (year_last k last)) m
+    → (date : Ymd) → IsDateBy k date
+    → ((n ≤ℤ day_number_by k date) × (day_number_by k date ≤ℤ m))
+    ↔ ((pos first ≤ℤ date.year) × (date.year ≤ℤ pos last))
+years_between (by_rules rules) first last a b n m ordered h g date d =
+    let begins = at_rules rules a first (first_month (months_in rules first)) 1 n h in
+    let ends = at_rules rules b last (last_month (months_in rules last))
+    (days_of_month (months_in rules last) (last_month (months_in rules last))) m g in
+    between n m _ _ _ _ begins.1 ends.1
+    (years_exact rules first last ordered begins.0 ends.0 date.year date.month date.day d)
+years_between by_weeks first last a b n m ordered h g date d = absurd (no_day_zero by_weeks b last 0 m g)
+years_between by_places first last a b n m ordered h g date d = absurd d
+years_between by_names first last a b n m ordered h g date d = absurd d
+
 year_in_order : (k : Reckoning) (year : ℕ) (a b : Ymd) (n m : ℤ) → IsTrue (are_months (months_by k year))
     → IsAt k a year (year_first k year) 1 n
     → IsAt k b year (year_last k year) (days_of_month (months_by k year) (year_last k year)) m → n ≤ℤ m
@@ -144,7 +160,7 @@ first_at choice calendar said year n k e h month day is =
     (mapped (λ (y : ℕ). first_in said y (months_of calendar y)) _ year h.first e h.first_is ∙ is) h.begins
 
 last_at : (choice : Choice) (calendar : Calendar) (said : Extent) (year : ℕ) (n k : ℤ)
-    → year_of choice calendar (year_in said) ≡ Some year → HasEnds choice calendar said n k
+    → year_of choice calendar (last_year_in said) ≡ Some year → HasEnds choice calendar said n k
     → (month day : ℕ) → last_in said year (months_of calendar year) ≡ numbers year month day
     → (a : Ymd) × IsAt (reckoning calendar) a year month day k
 last_at choice calendar said year n k e h month day is =
@@ -168,6 +184,15 @@ said_year choice calendar said ordered year n k e h date d =
     let last = last_at choice calendar (extent.Year said) year n k e h (last_month (months_of calendar year))
     (days_of_month (months_of calendar year) (last_month (months_of calendar year))) refl in
     year_between (reckoning calendar) year first.0 last.0 n k (ordered year e) first.1 last.1 date d
+
+pub said_years : (choice : Choice) (calendar : Calendar) (from to : Numeral)
+    → ((year : ℕ) → year_of choice calendar to ≡ Some year → IsTrue (are_months (months_of calendar year)))
+    → SaidYearsAreExact choice calendar from to
+said_years choice calendar from to ordered year other n k e f h date d =
+    let first = first_at choice calendar (extent.Years from to) year n k e h (first_month (months_of calendar year)) 1 refl in
+    let last = last_at choice calendar (extent.Years from to) other n k f h (last_month (months_of calendar other))
+    (days_of_month (months_of calendar other) (last_month (months_of calendar other))) refl in
+    years_between (reckoning calendar) year other first.0 last.0 n k (ordered other f) first.1 last.1 date d
 
 -- a month and a year have a year where they have ends
 has_some : {A B : Type 0} (f : A → B) (o : Option A) (y : B) → option_map f o ≡ Some y → (x : A) × (o ≡ Some x)

@@ -49,12 +49,26 @@ first_in (extent.Day d) year months = numbers year d.month d.day
 first_in (extent.Month y month) year months = numbers year month 1
 first_in (extent.Adar y) year months = numbers year 12 1
 first_in (extent.Year y) year months = numbers year (first_month months) 1
+first_in (extent.LastDay y month) year months = numbers year month (days_of_month months month)
+first_in (extent.PartOfYear y from to) year months = numbers year from 1
+first_in (extent.Months y from z to) year months = numbers year from 1
+first_in (extent.Years y z) year months = numbers year (first_month months) 1
 
 abbrev pub last_in : Extent → ℕ → List Month → Numbers
 last_in (extent.Day d) year months = numbers year d.month d.day
 last_in (extent.Month y month) year months = numbers year month (days_of_month months month)
 last_in (extent.Adar y) year months = numbers year (last_adar months) (days_of_month months (last_adar months))
 last_in (extent.Year y) year months = numbers year (last_month months) (days_of_month months (last_month months))
+last_in (extent.LastDay y month) year months = numbers year month (days_of_month months month)
+last_in (extent.PartOfYear y from to) year months = numbers year to (days_of_month months to)
+last_in (extent.Months y from z to) year months = numbers year to (days_of_month months to)
+last_in (extent.Years y z) year months = numbers year (last_month months) (days_of_month months (last_month months))
+
+-- the year of the last day
+abbrev pub last_year_in : Extent → Numeral
+last_year_in (extent.Months y from z to) = z
+last_year_in (extent.Years y z) = z
+last_year_in said = year_in said
 
 abbrev pub first_of : Choice → Calendar → Extent → Option Numbers
 first_of choice calendar said =
@@ -62,7 +76,7 @@ first_of choice calendar said =
 
 abbrev pub last_of : Choice → Calendar → Extent → Option Numbers
 last_of choice calendar said =
-    option_map (λ year. last_in said year (months_of calendar year)) (year_of choice calendar (year_in said))
+    option_map (λ year. last_in said year (months_of calendar year)) (year_of choice calendar (last_year_in said))
 
 -- a weekday, or a day of a decade, beside a day has to be that of the date
 abbrev pub agrees_beside : Calendar → ℕ → SaidDay → Option Item → Bool
@@ -87,6 +101,7 @@ all_hold choice calendar (said.Before e) = holds choice calendar e
 all_hold choice calendar (said.After e) = holds choice calendar e
 all_hold choice calendar (said.From e) = holds choice calendar e
 all_hold choice calendar (said.Until e) = holds choice calendar e
+all_hold choice calendar said.Undated = true
 
 -- what is said, where this holds of each of its days
 abbrev pub if_held : Choice → Calendar → Option Said → Option Said
@@ -161,3 +176,4 @@ AreEnds choice calendar text (said.From e) first last turned =
     (first ≡ date_text (first_of choice calendar e)) × (last ≡ []) × (turned ≡ false)
 AreEnds choice calendar text (said.Until e) first last turned =
     (first ≡ []) × (last ≡ date_text (last_of choice calendar e)) × (turned ≡ false)
+AreEnds choice calendar text said.Undated first last turned = (first ≡ []) × (last ≡ []) × (turned ≡ false)

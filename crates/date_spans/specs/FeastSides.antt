@@ -10,7 +10,7 @@ use Rattle.written_dates.specs.declared.items.Number.{Number as Numeral}
 use Rattle.written_dates.specs.declared.items.Item.{Item}
 use Rattle.written_dates.specs.declared.items.Item.TheVariants.{Number, Feast, Sundays}
 use Rattle.written_dates.specs.declared.rules.Order.{Order}
-use Rattle.written_dates.specs.Items.{is_long}
+use Rattle.written_dates.specs.Items.{is_long, is_of_calendar}
 use Rattle.written_dates.specs.Rules.{beside_weekday}
 use Rattle.written_dates.specs.Written.{church_of, feast_of}
 use Rattle.date_spans.specs.declared.extents.Extent.{Extent}
@@ -19,9 +19,10 @@ use Rattle.date_spans.specs.declared.extents.Signs.{Signs}
 use Rattle.date_spans.specs.Extents.{if_year, is_letter, or_else, plain_extent, said_day, weekday_among}
 use Rattle.date_spans.specs.Extents.{with_weekday}
 
--- a year that is never short, and no Roman C, D or M alone
+-- a year of the calendar that is never short, and no Roman C, D or M alone
 abbrev pub is_whole : Numeral → Bool
-is_whole year = (nat_le 100 year.value || nat_le 3 year.digits) && not (is_letter year)
+is_whole year =
+    (nat_le 100 year.value || nat_le 3 year.digits) && not (is_letter year) && is_of_calendar year.year
 
 abbrev pub day_found : Numeral → Option (ℕ × ℕ) → Option Extent
 day_found year None = None

@@ -1,5 +1,6 @@
 -- What items with words say: how much, and whether they mean it, what lies before it or what lies after it.
-use Rattle.std.specs.Prelude.{ℕ, ◌+◌, ◌-◌, ◌%◌, Bool, true, false, ◌&&◌, ◌||◌, ◌==◌, nat_lt, if◌then◌else◌}
+use Rattle.std.specs.List.{list_any}
+use Rattle.std.specs.Prelude.{ℕ, ◌+◌, ◌-◌, ◌%◌, Bool, true, false, not, ◌&&◌, ◌||◌, ◌==◌, nat_lt, if◌then◌else◌}
 use Rattle.std.specs.Prelude.{List, [], ◌∷◌, ◌++◌, length, take, drop, position, slice_get, Option, Some, None, option_map}
 use Rattle.date_texts.specs.declared.calendar.Calendar.{Calendar}
 use Rattle.date_texts.specs.declared.calendar.Calendar.TheVariants.{Julian}
@@ -10,18 +11,17 @@ use Rattle.written_dates.specs.declared.meanings.Relation.TheVariants as relatio
 use Rattle.written_dates.specs.declared.meanings.Word.{Word}
 use Rattle.written_dates.specs.declared.meanings.Word.TheVariants as words
 use Rattle.written_dates.specs.declared.rules.Order.{Order}
-use Rattle.written_dates.specs.Items.{is_long}
+use Rattle.written_dates.specs.Items.{is_long, is_of_calendar}
 use Rattle.written_dates.specs.Rules.{beside_weekday}
 use Rattle.date_spans.specs.declared.extents.Extent.{Extent}
 use Rattle.date_spans.specs.declared.extents.Extent.TheVariants as extent
-use Rattle.date_spans.specs.declared.extents.SaidDay.{SaidDay}
 use Rattle.date_spans.specs.declared.extents.Signs.{Signs}
 use Rattle.date_spans.specs.declared.sayings.Kind.{Kind}
 use Rattle.date_spans.specs.declared.sayings.Kind.TheVariants as kinds
 use Rattle.date_spans.specs.declared.sayings.RangeSigns.{RangeSigns}
 use Rattle.date_spans.specs.declared.sayings.Said.{Said}
 use Rattle.date_spans.specs.declared.sayings.Said.TheVariants as said
-use Rattle.date_spans.specs.Extents.{extent_of, if_year, or_else, weekday_among, with_weekday, year_in}
+use Rattle.date_spans.specs.Extents.{day_of_year, extent_of, if_year, or_else, weekday_among, with_weekday, year_in}
 use Rattle.date_spans.specs.FeastSides.{bare_side, in_year_of, side_of}
 
 abbrev pub is_about_word : Word → Bool
@@ -60,10 +60,26 @@ left_of calendar signs order left right =
     (if_year calendar (with_weekday (weekday_among left)
     (completed calendar signs.shared order (beside_weekday left) (beside_weekday right))))
 
+-- the left of two sides has a year, and one of them has years of another era, but not both
+abbrev pub is_long_number : Item → Bool
+is_long_number (Number n) = is_long n
+is_long_number item = false
+
+abbrev pub is_of_other_era : Item → Bool
+is_of_other_era (Number n) = not (is_of_calendar n.year)
+is_of_other_era item = false
+
+abbrev pub are_mixed : List Item → List Item → Bool
+are_mixed left right =
+    list_any is_long_number left
+    && (if list_any is_of_other_era left
+    then not (list_any is_of_other_era right) else list_any is_of_other_era right)
+
 -- from one side to the other, or between both
 abbrev pub range_of : Bool → Calendar → RangeSigns → Order → List Item → List Item → Option Said
 range_of between calendar signs order left right =
-    both between (left_of calendar signs order (without_about left) (without_about right))
+    if are_mixed left right then None
+    else both between (left_of calendar signs order (without_about left) (without_about right))
     (piece calendar signs.right order right)
 
 -- words that part two sides; `and` does so behind `between` alone
@@ -91,6 +107,11 @@ abbrev pub parted : Bool → Calendar → Signs → Order → Option Said → Li
 parted between calendar signs order alone items =
     at_word between calendar signs order alone items (position (parts_sides between) items)
 
+-- that no date is known is said by its word alone
+abbrev pub undated : List Item → Option Said
+undated [] = Some said.Undated
+undated (item ∷ rest) = None
+
 -- what is said behind a word, by the signs of a text that is one side, and by those of one that a word parts
 abbrev pub by_word : Calendar → Signs → Signs → Order → Word → List Item → List Item → Option Said
 by_word calendar one two order words.To rest whole = option_map said.Until (piece calendar one order rest)
@@ -98,6 +119,7 @@ by_word calendar one two order words.From rest whole =
     parted false calendar two order (option_map said.From (piece calendar one order rest)) rest
 by_word calendar one two order words.Between rest whole = parted true calendar two order None rest
 by_word calendar one two order words.And rest whole = None
+by_word calendar one two order words.Undated rest whole = undated rest
 by_word calendar one two order words.About rest whole =
     parted false calendar two order (option_map said.One (piece calendar one order whole)) whole
 
@@ -151,6 +173,7 @@ kind_of (said.Before e) = kinds.Before
 kind_of (said.After e) = kinds.After
 kind_of (said.From e) = kinds.From
 kind_of (said.Until e) = kinds.Until
+kind_of said.Undated = kinds.Undated
 
 abbrev pub is_julian : Calendar → Bool
 is_julian Julian = true
@@ -159,9 +182,6 @@ is_julian calendar = false
 -- before 25 March, with which the year began whose number stands before the slash
 abbrev pub is_before_new_year : ℕ → ℕ → Bool
 is_before_new_year month day = nat_lt month 3 || ((month == 3) && nat_lt day 25)
-
-abbrev pub day_of_year : SaidDay → Numeral → SaidDay
-day_of_year d year = record { year = year; month = d.month; day = d.day; adar = d.adar; beside = d.beside }
 
 -- of a date that both years have, the one in the later year
 abbrev pub in_later_year : Calendar → Extent → Option Said

@@ -7,6 +7,7 @@ ghost use Rattle.date_spans.specs.Ends.{AreEnds, HasDay, IfBeside, IfInOrder, Is
 ghost use Rattle.date_spans.specs.Ends.{agrees_beside as beside_spec, all_hold as all_spec, day_in_year as in_year_spec};
 ghost use Rattle.date_spans.specs.Ends.{date_text as text_spec, first_of as first_spec, holds as holds_spec};
 ghost use Rattle.date_spans.specs.Ends.{if_held as held_spec, last_of as last_spec, step, year_of as year_spec};
+ghost use Rattle.date_spans.specs.Ends.{last_year_in as last_year_spec};
 
 use crate::extents::{Extent, SaidDay, year_in};
 use crate::months::{days_in, first_month, has_two_adars, last_adar, last_month, months_of};
@@ -74,7 +75,17 @@ pub fn first_of(choice: &Choice, calendar: Calendar, said: Extent) -> Option<Num
             month: 12,
             day: 1,
         }),
-        Extent::Year(_) => Some(Numbers {
+        Extent::LastDay(_, month) => Some(Numbers {
+            year,
+            month,
+            day: days_in(months_of(calendar, year), month) as u32,
+        }),
+        Extent::PartOfYear(_, from, _) | Extent::Months(_, from, _, _) => Some(Numbers {
+            year,
+            month: from,
+            day: 1,
+        }),
+        Extent::Year(_) | Extent::Years(_, _) => Some(Numbers {
             year,
             month: first_month(months_of(calendar, year)) as u32,
             day: 1,
@@ -82,18 +93,29 @@ pub fn first_of(choice: &Choice, calendar: Calendar, said: Extent) -> Option<Num
     }
 }
 
+/// The year of the last day of what is said.
+fn last_year_in(said: Extent) -> Number
+    ensures { result ≡ last_year_spec said }
+{
+    match said {
+        Extent::Months(_, _, last, _) => last,
+        Extent::Years(_, last) => last,
+        _ => year_in(said),
+    }
+}
+
 /// The last date of what is said.
 pub fn last_of(choice: &Choice, calendar: Calendar, said: Extent) -> Option<Numbers>
     ensures { result ≡ last_spec choice.now calendar said }
 {
-    let year = year_of(choice, calendar, year_in(said))?;
+    let year = year_of(choice, calendar, last_year_in(said))?;
     match said {
         Extent::Day(said) => Some(Numbers {
             year,
             month: said.month,
             day: said.day,
         }),
-        Extent::Month(_, month) => Some(Numbers {
+        Extent::Month(_, month) | Extent::LastDay(_, month) => Some(Numbers {
             year,
             month,
             day: days_in(months_of(calendar, year), month) as u32,
@@ -107,7 +129,12 @@ pub fn last_of(choice: &Choice, calendar: Calendar, said: Extent) -> Option<Numb
                 day: days_in(months, month) as u32,
             })
         }
-        Extent::Year(_) => {
+        Extent::PartOfYear(_, _, to) | Extent::Months(_, _, _, to) => Some(Numbers {
+            year,
+            month: to,
+            day: days_in(months_of(calendar, year), to) as u32,
+        }),
+        Extent::Year(_) | Extent::Years(_, _) => {
             let months = months_of(calendar, year);
             let month = last_month(months) as u32;
             Some(Numbers {
@@ -165,6 +192,7 @@ fn all_hold(choice: &Choice, calendar: Calendar, said: Said) -> bool
         Said::After(e) => holds(choice, calendar, e),
         Said::From(e) => holds(choice, calendar, e),
         Said::Until(e) => holds(choice, calendar, e),
+        Said::Undated => true,
     }
 }
 
@@ -364,6 +392,11 @@ pub fn set_ends(
         Said::Until(e) => {
             set_text(first, &[])?;
             set_date(last, last_of(choice, calendar, e))?;
+            Ok(false)
+        }
+        Said::Undated => {
+            set_text(first, &[])?;
+            set_text(last, &[])?;
             Ok(false)
         }
     }

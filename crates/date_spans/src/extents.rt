@@ -1,6 +1,6 @@
 //! How much of a calendar items say.
 
-ghost use Rattle.std.specs.Prelude.{◌≡◌, ◌≤◌, [], true, length, map};
+ghost use Rattle.std.specs.Prelude.{◌≡◌, ◌≤◌, [], true, false, length, map, IfNone, IfSome};
 ghost use Rattle.std.specs.List.{list_any};
 ghost use Rattle.written_dates.specs.Rules.{plain_reading};
 ghost use Rattle.date_spans.specs.Extents.{are_numbers as numbers_spec};
@@ -10,12 +10,19 @@ ghost use Rattle.date_spans.specs.Extents.{is_adar as is_adar_spec, is_letter as
 ghost use Rattle.date_spans.specs.Extents.{month_or_year as short_spec, named_extent as named_spec, plain_extent as plain_spec};
 ghost use Rattle.date_spans.specs.Extents.{said_day as said_day_spec, two_numbers as two_spec, weekday_among as among_spec};
 ghost use Rattle.date_spans.specs.Extents.{with_weekday as weekday_spec, year_in as year_in_spec};
+ghost use Rattle.date_spans.specs.Extents.{century as century_spec, decade as decade_spec, whole_year as whole_spec};
+ghost use Rattle.date_spans.specs.Extents.{has_twelve_months as twelve_spec, if_part, is_part, part_of_century as part_of_century_spec};
+ghost use Rattle.date_spans.specs.Extents.{part_of_year as part_of_year_spec};
+ghost use Rattle.date_spans.specs.Extents.{are_in_order as order_spec, before_creation as before_creation_spec};
+ghost use Rattle.date_spans.specs.Extents.{day_of_year as day_of_year_spec, from_creation as creation_spec};
+ghost use Rattle.date_spans.specs.Extents.{from_spanish as spanish_spec, in_calendar as in_calendar_spec};
+ghost use Rattle.date_spans.specs.Extents.{years_before as before_spec};
 
 use arrayvec::ArrayVec;
 use date_texts::Calendar;
 use written_dates::{
-    InYear, Item, Number, Order, Reading, beside_weekday, has_year, is_half_year, is_long,
-    is_year_first, plain_of,
+    Era, InYear, Item, Number, Order, Reading, beside_weekday, has_year, is_half_year, is_long,
+    is_of_calendar, is_year_first, plain_of,
 };
 
 /// A day of a year, and what has to be so for it.
@@ -44,6 +51,14 @@ pub enum Extent {
     Adar(Number),
     /// A year.
     Year(Number),
+    /// The last day of a month of a year.
+    LastDay(Number, u32),
+    /// A part of a year, from a month to a month, of some that are alike.
+    PartOfYear(Number, u32, u32),
+    /// From a month of a year to a month of the same one or of the next.
+    Months(Number, u32, Number, u32),
+    /// From a year to a year.
+    Years(Number, Number),
 }
 
 /// What the signs of a text say of the numbers between them.
@@ -59,7 +74,7 @@ pub struct Signs {
 pub fn is_letter(number: Number) -> bool
     ensures { result ≡ letter_spec number }
 {
-    !number.year
+    number.year.is_none()
         && number.digits == 0
         && (number.value == 100 || number.value == 500 || number.value == 1000)
 }
@@ -98,6 +113,109 @@ fn two_numbers(slashed: bool, order: Order, a: Number, b: Number) -> Option<Exte
     }
 }
 
+/// A year by its number alone.
+fn whole_year(year: u32) -> Number
+    ensures { result ≡ whole_spec year }
+{
+    Number {
+        value: year,
+        digits: 0,
+        named: false,
+        year: Some(Era::Calendar),
+        day: false,
+    }
+}
+
+/// Some that are alike, of a year or a century.
+#[derive(Clone, Copy)]
+struct Parts {
+    /// The place of one among them.
+    place: u32,
+    /// How many they are.
+    count: u32,
+}
+
+/// The whole as its only part.
+const WHOLE: Parts = Parts { place: 1, count: 1 };
+
+/// One of two, three or four parts.
+fn parts_of(place: u8, count: u8) -> Option<Parts>
+    ensures some { IfSome result (λ parts. (is_part place count ≡ true) × (parts.place ≡ place) × (parts.count ≡ count)
+        × (1 ≤ place) × (place ≤ count) × (count ≤ 4)) }
+    ensures none { IfNone result (is_part place count ≡ false) }
+{
+    if place < 1 || place > count || count < 2 || count > 4 {
+        return None;
+    }
+    Some(Parts {
+        place: place as u32,
+        count: count as u32,
+    })
+}
+
+/// A part of the second to the thirtieth century, whose first year ends with 00 or 01.
+fn part_of_century(parts: Parts, number: Number, first: u8) -> Option<Extent>
+    requires place { 1 ≤ parts.place }
+    requires count { parts.place ≤ parts.count }
+    requires few { parts.count ≤ 4 }
+    ensures { result ≡ part_of_century_spec parts.place parts.count number first }
+{
+    if is_long(number) || number.day || number.value < 2 || number.value > 30 || first > 1 {
+        return None;
+    }
+    let year = 100 * (number.value - 1) + first as u32;
+    let before = 100 * (parts.place - 1) / parts.count;
+    let up_to = 100 * parts.place / parts.count;
+    Some(Extent::Years(whole_year(year + before), whole_year(year + up_to - 1)))
+}
+
+/// A century.
+fn century(number: Number, first: u8) -> Option<Extent>
+    ensures { result ≡ century_spec number first }
+{
+    part_of_century(WHOLE, number, first)
+}
+
+/// One of the parts of a century.
+fn century_part(place: u8, count: u8, number: Number, first: u8) -> Option<Extent>
+    ensures { result ≡ if_part place count (part_of_century_spec place count number first) }
+{
+    part_of_century(parts_of(place, count)?, number, first)
+}
+
+/// A part of a year of twelve months.
+fn part_of_year(place: u8, count: u8, year: Number) -> Option<Extent>
+    ensures { result ≡ part_of_year_spec place count year }
+{
+    let parts = parts_of(place, count)?;
+    let from = 12 * (parts.place - 1) / parts.count + 1;
+    let to = 12 * parts.place / parts.count;
+    if_long(year, Extent::PartOfYear(year, from, to))
+}
+
+/// Ten years, of which the first ends with 0, and not with 00, which may mean a hundred.
+fn decade(number: Number) -> Option<Extent>
+    ensures { result ≡ decade_spec number }
+{
+    let year = number.value;
+    if (100..=99_999).contains(&year)
+        && year % 10 == 0
+        && year % 100 != 0
+        && is_of_calendar(number.year)
+    {
+        Some(Extent::Years(whole_year(year), whole_year(year + 9)))
+    } else {
+        None
+    }
+}
+
+/// A part of a year.
+fn part_of(year: Number, from: u8, to: u8) -> Option<Extent>
+    ensures { result ≡ long_spec year (Extent.Months year from year to) }
+{
+    if_long(year, Extent::Months(year, from as u32, year, to as u32))
+}
+
 /// A month or a year.
 fn month_or_year(slashed: bool, order: Order, items: &[Item]) -> Option<Extent>
     ensures { result ≡ short_spec slashed order items.now }
@@ -106,6 +224,25 @@ fn month_or_year(slashed: bool, order: Order, items: &[Item]) -> Option<Extent>
         [Item::Number(a)] => if_long(*a, Extent::Year(*a)),
         [Item::Month(m), Item::Number(a)] => if_long(*a, Extent::Month(*a, *m as u32)),
         [Item::Number(a), Item::Month(m)] => if_long(*a, Extent::Month(*a, *m as u32)),
+        [Item::Months(from, to), Item::Number(a)] => part_of(*a, *from, *to),
+        [Item::Number(a), Item::Months(from, to)] => part_of(*a, *from, *to),
+        [Item::Century(first), Item::Number(n)] => century(*n, *first),
+        [Item::Number(n), Item::Century(first)] => century(*n, *first),
+        [
+            Item::Part(place, parts),
+            Item::Century(first),
+            Item::Number(n),
+        ] => { century_part(*place, *parts, *n, *first) }
+        [
+            Item::Part(place, parts),
+            Item::Number(n),
+            Item::Century(first),
+        ] => { century_part(*place, *parts, *n, *first) }
+        [Item::Part(place, parts), Item::Number(a)] => part_of_year(*place, *parts, *a),
+        [Item::LastDay, Item::Month(m), Item::Number(a)] => {
+            if_long(*a, Extent::LastDay(*a, *m as u32))
+        }
+        [Item::Number(n), Item::Decade] => decade(*n),
         [Item::Number(a), Item::Number(b)] => two_numbers(slashed, order, *a, *b),
         _ => None,
     }
@@ -288,6 +425,137 @@ pub fn year_in(said: Extent) -> Number
         Extent::Month(year, _) => year,
         Extent::Adar(year) => year,
         Extent::Year(year) => year,
+        Extent::LastDay(year, _) => year,
+        Extent::PartOfYear(year, _, _) => year,
+        Extent::Months(year, _, _, _) => year,
+        Extent::Years(year, _) => year,
+    }
+}
+
+/// So many years before, by the calendar's own count.
+fn years_before(years: u32, number: Number) -> Number
+    ensures { result ≡ before_spec years number }
+{
+    Number {
+        value: number.value.saturating_sub(years),
+        digits: number.digits,
+        named: number.named,
+        year: Some(Era::Calendar),
+        day: number.day,
+    }
+}
+
+/// The same day of another year.
+pub fn day_of_year(said: SaidDay, year: Number) -> SaidDay
+    ensures { result ≡ day_of_year_spec said year }
+{
+    SaidDay {
+        year,
+        month: said.month,
+        day: said.day,
+        adar: said.adar,
+        beside: said.beside,
+    }
+}
+
+/// What is said of a Spanish year, of 38 years before.
+fn from_spanish(said: Extent) -> Option<Extent>
+    ensures { result ≡ spanish_spec said }
+{
+    match said {
+        Extent::Day(day) => Some(Extent::Day(day_of_year(day, years_before(38, day.year)))),
+        Extent::Month(year, month) => Some(Extent::Month(years_before(38, year), month)),
+        Extent::LastDay(year, month) => Some(Extent::LastDay(years_before(38, year), month)),
+        Extent::Year(year) => Some(Extent::Year(years_before(38, year))),
+        Extent::PartOfYear(year, from, to) => {
+            Some(Extent::PartOfYear(years_before(38, year), from, to))
+        }
+        Extent::Months(year, from, last, to) => Some(Extent::Months(
+            years_before(38, year),
+            from,
+            years_before(38, last),
+            to,
+        )),
+        _ => None,
+    }
+}
+
+/// How many years before the year of a month one from the creation is counted.
+fn before_creation(month: u32) -> u32
+    ensures { result ≡ before_creation_spec month }
+{
+    if month >= 9 { 5_509 } else { 5_508 }
+}
+
+/// What is said of a year from the creation, by the calendar's own count.
+fn from_creation(said: Extent) -> Option<Extent>
+    ensures { result ≡ creation_spec said }
+{
+    match said {
+        Extent::Day(day) => {
+            let year = years_before(before_creation(day.month), day.year);
+            Some(Extent::Day(day_of_year(day, year)))
+        }
+        Extent::Month(year, month) => Some(Extent::Month(
+            years_before(before_creation(month), year),
+            month,
+        )),
+        Extent::LastDay(year, month) => Some(Extent::LastDay(
+            years_before(before_creation(month), year),
+            month,
+        )),
+        Extent::Year(year) => Some(Extent::Months(
+            years_before(5_509, year),
+            9,
+            years_before(5_508, year),
+            8,
+        )),
+        Extent::Months(year, from, last, to) => {
+            if before_creation(from) != before_creation(to) {
+                return None;
+            }
+            Some(Extent::Months(
+                years_before(before_creation(from), year),
+                from,
+                years_before(before_creation(to), last),
+                to,
+            ))
+        }
+        _ => None,
+    }
+}
+
+/// What is said of a year of an era, by the calendar's own count.
+fn in_calendar(era: Option<Era>, said: Extent) -> Option<Extent>
+    ensures { result ≡ in_calendar_spec era said }
+{
+    match era {
+        Some(Era::Spanish) => from_spanish(said),
+        Some(Era::Creation) => from_creation(said),
+        _ => Some(said),
+    }
+}
+
+/// Whether each year of a calendar has twelve months, and begins with the first.
+fn has_twelve_months(calendar: Calendar) -> bool
+    ensures { result ≡ twelve_spec calendar }
+{
+    matches!(
+        calendar,
+        Calendar::Gregorian | Calendar::Julian | Calendar::Islamic
+    )
+}
+
+/// Whether months of one year stand in this order in it; and parts are those of twelve.
+fn are_in_order(calendar: Calendar, said: Extent) -> bool
+    ensures { result ≡ order_spec calendar said }
+{
+    match (calendar, said) {
+        (Calendar::Hebrew, Extent::Months(_, from, _, to)) => {
+            (from < 7 && to < 7) || (from >= 7 && to >= 7)
+        }
+        (_, Extent::PartOfYear(_, _, _)) => has_twelve_months(calendar),
+        _ => true,
     }
 }
 
@@ -297,8 +565,11 @@ pub fn if_year(calendar: Calendar, said: Option<Extent>) -> Option<Extent>
 {
     let said = said?;
     let year = year_in(said);
-    if has_year(calendar, year.value as u64) && !is_half_year(calendar, year) {
-        Some(said)
+    if has_year(calendar, year.value as u64)
+        && !is_half_year(calendar, year)
+        && are_in_order(calendar, said)
+    {
+        in_calendar(year.year, said)
     } else {
         None
     }

@@ -14,7 +14,7 @@ use crate::extents::{
 };
 use church_year::{Church, Feast, Place, Season, feast_date};
 use date_texts::Calendar;
-use written_dates::{Item, Number, Order, beside_weekday, is_long};
+use written_dates::{Item, Number, Order, beside_weekday, is_long, is_of_calendar};
 
 /// The church that reckons in a calendar.
 fn church_of(calendar: Calendar) -> Option<Church>
@@ -52,11 +52,11 @@ fn date_of(church: Option<Church>, year: u32, feast: Feast) -> Option<(u32, u32)
     }
 }
 
-/// Whether a year is never short.
+/// Whether a year is one of the calendar, and never short.
 fn is_whole(year: Number) -> bool
     ensures { result ≡ whole_spec year }
 {
-    (year.value >= 100 || year.digits >= 3) && !is_letter(year)
+    (year.value >= 100 || year.digits >= 3) && !is_letter(year) && is_of_calendar(year.year)
 }
 
 /// The day of a feast in a year that has it, in the calendar of a church.

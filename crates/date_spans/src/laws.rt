@@ -5,7 +5,7 @@ ghost use Rattle.day_numbers.specs.Rules.{Rules};
 ghost use Rattle.date_texts.specs.Calendars.{by_rules, reckoning};
 ghost use Rattle.date_spans.specs.Laws.{LastDayIsGreatest, MonthIsExact, MonthIsForwards, YearIsExact, YearIsForwards};
 ghost use Rattle.date_spans.specs.Laws.{BracketsKeepSpans, DatesAreTheirOwnSpans, RegisterDatesAreTheirOwnSpans, TimesChangeNoSpan};
-ghost use Rattle.date_spans.specs.Laws.{SaidIsForwards, SaidMonthIsExact, SaidYearIsExact, SpansAreOne};
+ghost use Rattle.date_spans.specs.Laws.{SaidIsForwards, SaidMonthIsExact, SaidYearIsExact, SaidYearsAreExact, SpansAreOne};
 
 use crate::ends::year_of;
 use crate::extents::Extent;
@@ -44,6 +44,16 @@ pub fn said_spans_are_exact(choice: &Choice, calendar: Calendar, said: Number, m
     ensures year_forwards { SaidIsForwards choice.now calendar (Extent.Year said) }
 {
     let Some(year) = year_of(choice, calendar, said) else {
+        return;
+    };
+    let _ = months_of(calendar, year);
+}
+
+/// The ends of years that are said, as of a century, have exactly the dates of these years between them.
+pub fn said_years_are_exact(choice: &Choice, calendar: Calendar, from: Number, to: Number)
+    ensures { SaidYearsAreExact choice.now calendar from to }
+{
+    let Some(year) = year_of(choice, calendar, to) else {
         return;
     };
     let _ = months_of(calendar, year);

@@ -5,7 +5,7 @@ ghost use Rattle.date_spans.specs.Extents.{year_in as year_spec};
 ghost use Rattle.date_spans.specs.FeastSides.{bare_side as bare_spec};
 ghost use Rattle.date_spans.specs.Sayings.{all_alike as alike_spec, before_slash as slash_spec, both as both_spec};
 ghost use Rattle.date_spans.specs.Sayings.{by_word as word_spec};
-ghost use Rattle.date_spans.specs.Sayings.{completed as completed_spec, day_of_year as day_of_year_spec, dual_by as dual_spec};
+ghost use Rattle.date_spans.specs.Sayings.{completed as completed_spec, dual_by as dual_spec, undated as undated_spec};
 ghost use Rattle.date_spans.specs.Sayings.{is_about as about_spec, is_about_word as about_word_spec};
 ghost use Rattle.date_spans.specs.Sayings.{is_before_new_year as before_spec, is_between as between_spec};
 ghost use Rattle.date_spans.specs.Sayings.{is_dual_by as is_dual_by_spec, is_dual_of as is_dual_spec};
@@ -19,14 +19,17 @@ ghost use Rattle.date_spans.specs.Sayings.{ends_with_year as ends_spec, in_later
 ghost use Rattle.date_spans.specs.Sayings.{is_next_in_short as short_next_spec};
 ghost use Rattle.date_spans.specs.Sayings.{said_of_short as said_short_spec, short_by as short_spec};
 ghost use Rattle.date_spans.specs.Sayings.{without_about as without_spec};
+ghost use Rattle.date_spans.specs.Sayings.{are_mixed as mixed_spec, is_long_number as long_number_spec};
+ghost use Rattle.date_spans.specs.Sayings.{is_of_other_era as other_era_spec};
+ghost use Rattle.std.specs.List.{list_any};
 
 use crate::extents::{
-    Extent, SaidDay, Signs, extent_of, if_year, weekday_among, with_weekday, year_in,
+    Extent, Signs, day_of_year, extent_of, if_year, weekday_among, with_weekday, year_in,
 };
 use crate::feast_sides::{bare_side, in_year_of, side_of};
 use arrayvec::ArrayVec;
 use date_texts::Calendar;
-use written_dates::{Item, Number, Order, Relation, Word, beside_weekday, is_long};
+use written_dates::{Item, Number, Order, Relation, Word, beside_weekday, is_long, is_of_calendar};
 
 /// The signs of two sides.
 #[derive(Clone, Copy)]
@@ -56,6 +59,8 @@ pub enum Said {
     From(Extent),
     /// Up to it.
     Until(Extent),
+    /// No date is known.
+    Undated,
 }
 
 /// What kind of saying it is.
@@ -75,6 +80,8 @@ pub enum Kind {
     From,
     /// Up to then.
     Until,
+    /// No date is known.
+    Undated,
     /// Nothing that is read.
     Unread,
 }
@@ -91,6 +98,7 @@ pub fn kind_of(said: Said) -> Kind
         Said::After(_) => Kind::After,
         Said::From(_) => Kind::From,
         Said::Until(_) => Kind::Until,
+        Said::Undated => Kind::Undated,
     }
 }
 
@@ -231,6 +239,54 @@ pub fn left_of(
     if_year(calendar, with_weekday(weekday_among(left), said))
 }
 
+/// Whether a number is long.
+fn is_long_number(item: Item) -> bool
+    ensures { result ≡ long_number_spec item }
+{
+    match item {
+        Item::Number(number) => is_long(number),
+        _ => false,
+    }
+}
+
+/// Whether a number is a year of another era than the calendar's.
+fn is_of_other_era(item: Item) -> bool
+    ensures { result ≡ other_era_spec item }
+{
+    match item {
+        Item::Number(number) => !is_of_calendar(number.year),
+        _ => false,
+    }
+}
+
+/// Whether a number among items is long.
+fn has_long_number(items: &[Item]) -> bool
+    ensures { result ≡ list_any long_number_spec items.now }
+{
+    items.iter().any(|item| is_long_number(*item))
+}
+
+/// Whether a year of another era is among items.
+fn has_other_era(items: &[Item]) -> bool
+    ensures { result ≡ list_any other_era_spec items.now }
+{
+    items.iter().any(|item| is_of_other_era(*item))
+}
+
+/// Whether the left of two sides has a year, and one of them has years of another era, but not both.
+fn are_mixed(left: &[Item], right: &[Item]) -> bool
+    ensures { result ≡ mixed_spec left.now right.now }
+{
+    if !has_long_number(left) {
+        return false;
+    }
+    if has_other_era(left) {
+        !has_other_era(right)
+    } else {
+        has_other_era(right)
+    }
+}
+
 /// From one side to the other, or between both.
 fn range_of(
     between: bool,
@@ -244,6 +300,9 @@ fn range_of(
     requires right { length right.now ≤ 16 }
     ensures { result ≡ range_spec between calendar signs order left.now right.now }
 {
+    if are_mixed(left, right) {
+        return None;
+    }
     let first = left_of(
         calendar,
         signs,
@@ -350,6 +409,17 @@ pub struct Way {
     pub two: Signs,
 }
 
+/// That no date is known, if nothing stands behind its word.
+fn undated(rest: &[Item]) -> Option<Said>
+    ensures { result ≡ undated_spec rest.now }
+{
+    if rest.is_empty() {
+        Some(Said::Undated)
+    } else {
+        None
+    }
+}
+
 /// What items with this word in front say.
 fn by_word(way: Way, word: Word, rest: &[Item], whole: &[Item]) -> Option<Said>
     requires rest { length rest.now ≤ 16 }
@@ -364,6 +434,7 @@ fn by_word(way: Way, word: Word, rest: &[Item], whole: &[Item]) -> Option<Said>
         }
         Word::Between => parted(true, way.calendar, way.two, way.order, None, rest),
         Word::And => None,
+        Word::Undated => undated(rest),
         Word::About => {
             let alone = one(piece(way.calendar, way.one, way.order, whole));
             parted(false, way.calendar, way.two, way.order, alone, whole)
@@ -479,19 +550,6 @@ fn next_year(year: Number) -> Number
         named: year.named,
         year: year.year,
         day: year.day,
-    }
-}
-
-/// The same day of another year.
-fn day_of_year(said: SaidDay, year: Number) -> SaidDay
-    ensures { result ≡ day_of_year_spec said year }
-{
-    SaidDay {
-        year,
-        month: said.month,
-        day: said.day,
-        adar: said.adar,
-        beside: said.beside,
     }
 }
 

@@ -7,7 +7,7 @@ use date_texts::{Calendar, calendar_named};
 use day_numbers::Weekday;
 use std::alloc::{AllocError, Global};
 use table::SPANS;
-use written_dates::{Calendars, Choice, Meaning, Name, Names, Order, Relation, Short, Word};
+use written_dates::{Calendars, Choice, Era, Meaning, Name, Names, Order, Relation, Short, Word};
 
 /// Names: a text, what it means, and the calendars in which it does, none for all.
 const NAMES: &str = "\
@@ -49,6 +49,22 @@ u|and|
 AND|and|
 an|year|republican french
 Jahr|year|
+era|spanish|julian
+mundi|creation|julian
+September|month 9|gregorian julian
+Frühjahr|months 3-5|
+Herbst|months 9-11|
+Sommerhalbjahr|months 4-9|
+Jh|century 1|
+saec|century 0|
+s|decade|
+o D|undated|
+Anfang|part 1/3|
+Mitte|part 2/3|
+Ende|part 3/3|
+1 Hälfte|part 1/2|
+4 Viertel|part 4/4|
+Ultimo|last day|
 im||
 den||
 Adar|adar|hebrew
@@ -79,7 +95,22 @@ fn meaning_of(text: &str) -> Meaning {
     match text {
         "" => Meaning::Nothing,
         "adar" => Meaning::Adar,
-        "year" => Meaning::YearWord,
+        "year" => Meaning::YearWord(Era::Calendar),
+        "spanish" => Meaning::YearWord(Era::Spanish),
+        "creation" => Meaning::YearWord(Era::Creation),
+        "months 3-5" => Meaning::Months(3, 5),
+        "months 4-9" => Meaning::Months(4, 9),
+        "months 9-11" => Meaning::Months(9, 11),
+        "century 0" => Meaning::Century(0),
+        "century 1" => Meaning::Century(1),
+        "part 1/2" => Meaning::Part(1, 2),
+        "part 1/3" => Meaning::Part(1, 3),
+        "part 2/3" => Meaning::Part(2, 3),
+        "part 3/3" => Meaning::Part(3, 3),
+        "part 4/4" => Meaning::Part(4, 4),
+        "last day" => Meaning::LastDay,
+        "decade" => Meaning::Decade,
+        "undated" => Meaning::Word(Word::Undated),
         "day" => Meaning::DayWord,
         "weekday 0" => Meaning::Weekday(Weekday::Sunday),
         "weekday 1" => Meaning::Weekday(Weekday::Monday),
@@ -161,6 +192,7 @@ fn choice_on(line: &str) -> Option<(Option<Calendar>, Choice)> {
         order,
         short_years,
         short_hebrew_years,
+        short_other_years: Short::Refuse,
         charters: false,
     };
     Some((calendar, choice))
@@ -175,6 +207,7 @@ fn kind_in(text: &str) -> (Kind, &str) {
         ("after", Kind::After),
         ("from", Kind::From),
         ("to", Kind::Until),
+        ("undated", Kind::Undated),
     ];
     for (word, kind) in &words {
         if let Some(rest) = text.strip_prefix(*word) {
@@ -311,6 +344,7 @@ fn texts_have_both_styles(rt: HostRuntime) {
         order: Order::DayFirst,
         short_years: Short::Refuse,
         short_hebrew_years: Short::Refuse,
+        short_other_years: Short::Refuse,
         charters: false,
     };
     for (text, numbers) in &BOTH {

@@ -169,6 +169,7 @@ kind_word kinds.Before = codes "before"
 kind_word kinds.After = codes "after"
 kind_word kinds.From = codes "from"
 kind_word kinds.Until = codes "to"
+kind_word kinds.Undated = codes "undated"
 kind_word kind = []
 
 abbrev pub about_word : Bool → List ℕ

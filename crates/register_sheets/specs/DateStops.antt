@@ -54,6 +54,7 @@ in_order order reading =
       order = order;
       short_years = reading.short_years;
       short_hebrew_years = reading.short_hebrew_years;
+      short_other_years = reading.short_other_years;
       charters = reading.charters;
     }
 

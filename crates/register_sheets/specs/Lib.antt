@@ -2,6 +2,7 @@ pub mod Sheets
 pub mod Reading
 pub mod LineViews
 pub mod NameMeanings
+pub mod MeaningViews
 pub mod NameLists
 pub mod CalendarChanges
 pub mod OwnCalendars

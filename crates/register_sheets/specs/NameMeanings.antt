@@ -1,5 +1,5 @@
 -- What the field `means` of a list says, by a form of this project. Each meaning is said by one text.
-use Rattle.std.specs.Prelude.{◌≡◌, ◌≤◌, ◌≤ℤ◌, ◌++◌, ℕ, ℤ, pos, neg_ℤ, List, [], ◌∷◌, codes, if◌then◌else◌}
+use Rattle.std.specs.Prelude.{◌≡◌, ◌<◌, ◌≤◌, ◌≤ℤ◌, ◌++◌, ℕ, ℤ, pos, neg_ℤ, List, [], ◌∷◌, codes, if◌then◌else◌}
 use Rattle.std.specs.Fmt.{decimal, signed_decimal}
 use Rattle.std.specs.Ordering.{int_eq}
 use Rattle.church_year.specs.declared.feasts.Anchor.TheVariants as anchors
@@ -19,6 +19,8 @@ use Rattle.date_texts.specs.declared.calendar.Calendar.TheVariants.{Gregorian}
 use Rattle.date_texts.specs.declared.date.Date.{Date}
 use Rattle.written_dates.specs.declared.fields.CalendarMeaning.{CalendarMeaning}
 use Rattle.written_dates.specs.declared.fields.CalendarMeaning.TheVariants.{One, Both, Changed}
+use Rattle.written_dates.specs.declared.meanings.Era.{Era}
+use Rattle.written_dates.specs.declared.meanings.Era.TheVariants as eras
 use Rattle.written_dates.specs.declared.meanings.Mark.{Mark}
 use Rattle.written_dates.specs.declared.meanings.Mark.TheVariants.{Kalends, Nones, Ides}
 use Rattle.written_dates.specs.declared.meanings.Meaning.{Meaning}
@@ -29,6 +31,12 @@ use Rattle.written_dates.specs.declared.meanings.Word.{Word}
 use Rattle.written_dates.specs.declared.meanings.Word.TheVariants as words
 use Rattle.register_sheets.specs.declared.name_meanings.Means.{Means}
 use Rattle.register_sheets.specs.declared.name_meanings.Means.TheVariants as means
+
+-- a word for year, by the era of its years
+abbrev pub era_name : Era → List ℕ
+era_name eras.Calendar = codes "year"
+era_name eras.Spanish = codes "year spanish"
+era_name eras.Creation = codes "year creation"
 
 abbrev pub mark_name : Mark → List ℕ
 mark_name Kalends = codes "K"
@@ -57,6 +65,7 @@ word_name words.From = codes "from"
 word_name words.To = codes "to"
 word_name words.Between = codes "between"
 word_name words.And = codes "and"
+word_name words.Undated = codes "undated"
 
 abbrev pub season_name : Season → List ℕ
 season_name seasons.Epiphany = codes "epiphany"
@@ -74,6 +83,11 @@ IsNumberIn least most text number = (least ≤ number) × (number ≤ most) × (
 abbrev pub IsWordAndNumber : List ℕ → ℕ → ℕ → List ℕ → ℕ → Type 0
 IsWordAndNumber word least most text number =
     (least ≤ number) × (number ≤ most) × (text ≡ word ++ 32 ∷ decimal number)
+
+-- the text says a month and a later one, with a dash (45) between them
+abbrev pub AreMonths : List ℕ → ℕ → ℕ → Type 0
+AreMonths text first last =
+    (1 ≤ first) × (first < last) × (last ≤ 13) × (text ≡ codes "months " ++ (decimal first ++ 45 ∷ decimal last))
 
 -- a feast is a year at most from another day
 abbrev pub IsFewDays : ℤ → Type 0
@@ -101,10 +115,13 @@ SaysFeast field (Sunday season number) =
 -- the field says this of a name in dates
 abbrev pub SaysMeaning : List ℕ → Meaning → Type 0
 SaysMeaning field meaning.Nothing = field ≡ []
-SaysMeaning field meaning.YearWord = field ≡ codes "year"
+SaysMeaning field (meaning.YearWord era) = field ≡ era_name era
 SaysMeaning field meaning.DayWord = field ≡ codes "day"
 SaysMeaning field (meaning.Month month) = IsWordAndNumber (codes "month") 1 13 field month
 SaysMeaning field meaning.Adar = field ≡ codes "month 12-13"
+SaysMeaning field (meaning.Months first last) = AreMonths field first last
+SaysMeaning field (meaning.Century first) = IsWordAndNumber (codes "century") 0 1 field first
+SaysMeaning field meaning.Decade = field ≡ codes "decade"
 SaysMeaning field (meaning.Number number) = IsNumberIn 0 999_999_999 field number
 SaysMeaning field (meaning.Mark mark) = field ≡ mark_name mark
 SaysMeaning field (meaning.Weekday weekday) = field ≡ weekday_name weekday

@@ -68,15 +68,17 @@ pub record AreNames (most : ℕ) (stops : List NameStop) (names : List NameCount
 abbrev pub is_emptied : List ℕ → List ℕ → Bool
 is_emptied field date = nat_lt 0 (length field) && (length date == 0)
 
--- a first or a last day is open by what the words say: those before a date may be before each that a calendar has
-abbrev pub is_beside : Kind → Bool
-is_beside kinds.Before = true
-is_beside kinds.After = true
-is_beside kind = false
+-- an end that is open, or both, may be so by what the words say: that the day lies before a date, which may be the first
+-- one that a calendar has, or after it; or that no date is known
+abbrev pub says_open : Kind → Bool
+says_open kinds.Before = true
+says_open kinds.After = true
+says_open kinds.Undated = true
+says_open kind = false
 
 -- both ends of a field are left empty, as its year is short
 abbrev pub is_short_by : List ℕ → List ℕ → List ℕ → Marks → Bool
-is_short_by field first last marks = is_emptied field first && is_emptied field last && not (is_beside marks.kind)
+is_short_by field first last marks = is_emptied field first && is_emptied field last && not (says_open marks.kind)
 
 pub record IsShort (choice : SheetChoice) (date : SheetDate) (short : Bool) : Type 0 where
   pub first : EndText

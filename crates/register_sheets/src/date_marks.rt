@@ -7,7 +7,7 @@ ghost use Rattle.register_sheets.specs.DateEnds.{about_word, inferred_word, spac
 use arrayvec::ArrayString;
 use date_spans::{Kind, Marks};
 
-/// The most bytes of the words of marks: `between about uncertain inferred`.
+/// The most bytes of the words of marks: `between about uncertain inferred`, and with `undated` as many.
 const MAX_MARK: usize = 32;
 
 /// The word of a kind of saying, or none.
@@ -21,6 +21,7 @@ fn kind_word(kind: Kind) -> &'static str
         Kind::After => "after",
         Kind::From => "from",
         Kind::Until => "to",
+        Kind::Undated => "undated",
         _ => "",
     }
 }

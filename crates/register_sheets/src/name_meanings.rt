@@ -5,6 +5,8 @@ ghost use Rattle.std.specs.Fmt.{decimal};
 ghost use Rattle.date_texts.specs.Calendars.{calendar_name};
 ghost use Rattle.date_texts.specs.Names.{IsNamed};
 ghost use Rattle.date_texts.specs.declared.calendar.Calendar.{Calendar as CalendarValue};
+ghost use Rattle.register_sheets.specs.MeaningViews.{is_bare, is_counted, is_named};
+ghost use Rattle.register_sheets.specs.NameMeanings.{AreMonths, era_name};
 ghost use Rattle.register_sheets.specs.NameMeanings.{IsNumberIn, IsWordAndNumber, Says, SaysCalendar, SaysChange};
 ghost use Rattle.written_dates.specs.declared.fields.CalendarMeaning.{CalendarMeaning as CalendarMeaningValue};
 ghost use Rattle.register_sheets.specs.NameMeanings.{SaysMeaning, mark_name, relation_name, season_name, weekday_name, word_name};
@@ -17,7 +19,7 @@ use date_texts::laws::one_date_text;
 use date_texts::{Calendar, calendar_named, day_of_date, read_date};
 use day_numbers::Weekday;
 use itoa::Buffer;
-use written_dates::{CalendarMeaning, Mark, Meaning, Relation, Word};
+use written_dates::{CalendarMeaning, Era, Mark, Meaning, Relation, Word};
 
 /// The largest number that a name can mean.
 const MAX_NUMBER: u32 = 999_999_999;
@@ -79,6 +81,38 @@ fn decade_day_said(field: &str) -> Option<u8>
     Some(number_said(field.strip_prefix("decade ")?, 1, 10)? as u8)
 }
 
+/// The month and the later one that `months 3-5` and the like say.
+fn months_said(field: &str) -> Option<(u8, u8)>
+    ensures some { IfSome result (λ months. AreMonths field.now months.0 months.1) }
+    ensures none { result ≡ None → (first last : ℕ) → ¬ AreMonths field.now first last }
+{
+    let (first, last) = field.strip_prefix("months ")?.split_once('-')?;
+    let first = number_said(first, 1, 13)?;
+    let last = number_said(last, first + 1, 13)?;
+    Some((first as u8, last as u8))
+}
+
+/// With what the first year of a century ends, by `century 0` or `century 1`.
+fn century_said(field: &str) -> Option<u8>
+    ensures some { IfSome result (IsWordAndNumber (codes "century") 0 1 field.now) }
+    ensures none { result ≡ None → (first : ℕ) → ¬ IsWordAndNumber (codes "century") 0 1 field.now first }
+{
+    Some(number_said(field.strip_prefix("century ")?, 0, 1)? as u8)
+}
+
+/// The era that `year`, `year spanish` or `year creation` says.
+fn era_said(field: &str) -> Option<Era>
+    ensures some { IfSome result (λ era. field.now ≡ era_name era) }
+    ensures none { result ≡ None → (era : Era) → ¬ (field.now ≡ era_name era) }
+{
+    match field {
+        "year" => Some(Era::Calendar),
+        "year spanish" => Some(Era::Spanish),
+        "year creation" => Some(Era::Creation),
+        _ => None,
+    }
+}
+
 /// The mark that `K`, `N` or `I` says.
 fn mark_said(field: &str) -> Option<Mark>
     ensures some { IfSome result (λ mark. field.now ≡ mark_name mark) }
@@ -124,7 +158,7 @@ fn relation_said(field: &str) -> Option<Relation>
     }
 }
 
-/// The word of texts that say no single day.
+/// The word of texts that say no single day, or none at all.
 fn word_said(field: &str) -> Option<Word>
     ensures some { IfSome result (λ word. field.now ≡ word_name word) }
     ensures none { result ≡ None → (word : Word) → ¬ (field.now ≡ word_name word) }
@@ -135,6 +169,7 @@ fn word_said(field: &str) -> Option<Word>
         "to" => Some(Word::To),
         "between" => Some(Word::Between),
         "and" => Some(Word::And),
+        "undated" => Some(Word::Undated),
         _ => None,
     }
 }
@@ -147,37 +182,72 @@ fn sundays_said(field: &str) -> Option<Season>
     season_said(field.strip_prefix("sundays ")?)
 }
 
-/// What a field says of a name in dates.
-fn meaning_said(field: &str) -> Option<Meaning>
+/// What a field that is one text alone says of a name in dates.
+fn bare_said(field: &str) -> Option<Meaning>
     ensures some { IfSome result (SaysMeaning field.now) }
-    ensures none { result ≡ None → (meaning : MeaningValue) → ¬ SaysMeaning field.now meaning }
+    ensures none { result ≡ None → (meaning : MeaningValue) → is_bare meaning ≡ true → ¬ SaysMeaning field.now meaning }
 {
-    if field.is_empty() {
-        Some(Meaning::Nothing)
-    } else if field == "year" {
-        Some(Meaning::YearWord)
-    } else if field == "day" {
-        Some(Meaning::DayWord)
-    } else if field == "month 12-13" {
-        Some(Meaning::Adar)
-    } else if let Some(word) = word_said(field) {
-        Some(Meaning::Word(word))
+    match field {
+        "" => Some(Meaning::Nothing),
+        "day" => Some(Meaning::DayWord),
+        "month 12-13" => Some(Meaning::Adar),
+        "decade" => Some(Meaning::Decade),
+        _ => None,
+    }
+}
+
+/// What a field that says numbers says of a name in dates.
+fn counted_said(field: &str) -> Option<Meaning>
+    ensures some { IfSome result (SaysMeaning field.now) }
+    ensures none { result ≡ None → (meaning : MeaningValue) → is_counted meaning ≡ true
+        → ¬ SaysMeaning field.now meaning }
+{
+    if let Some(number) = number_said(field, 0, MAX_NUMBER) {
+        Some(Meaning::Number(number))
     } else if let Some(month) = month_said(field) {
         Some(Meaning::Month(month))
-    } else if let Some(number) = number_said(field, 0, MAX_NUMBER) {
-        Some(Meaning::Number(number))
+    } else if let Some((first, last)) = months_said(field) {
+        Some(Meaning::Months(first, last))
+    } else if let Some(day) = decade_day_said(field) {
+        Some(Meaning::DecadeDay(day))
+    } else {
+        Some(Meaning::Century(century_said(field)?))
+    }
+}
+
+/// What a field that says one of some names says of a name in dates.
+fn named_said(field: &str) -> Option<Meaning>
+    ensures some { IfSome result (SaysMeaning field.now) }
+    ensures none { result ≡ None → (meaning : MeaningValue) → is_named meaning ≡ true → ¬ SaysMeaning field.now meaning }
+{
+    if let Some(era) = era_said(field) {
+        Some(Meaning::YearWord(era))
+    } else if let Some(word) = word_said(field) {
+        Some(Meaning::Word(word))
     } else if let Some(mark) = mark_said(field) {
         Some(Meaning::Mark(mark))
     } else if let Some(weekday) = weekday_said(field) {
         Some(Meaning::Weekday(weekday))
-    } else if let Some(day) = decade_day_said(field) {
-        Some(Meaning::DecadeDay(day))
     } else if let Some(relation) = relation_said(field) {
         Some(Meaning::Relation(relation))
     } else if let Some(season) = sundays_said(field) {
         Some(Meaning::Sundays(season))
     } else {
         Some(Meaning::Feast(feast_said(field)?))
+    }
+}
+
+/// What a field says of a name in dates.
+fn meaning_said(field: &str) -> Option<Meaning>
+    ensures some { IfSome result (SaysMeaning field.now) }
+    ensures none { result ≡ None → (meaning : MeaningValue) → ¬ SaysMeaning field.now meaning }
+{
+    if let Some(meaning) = bare_said(field) {
+        Some(meaning)
+    } else if let Some(meaning) = counted_said(field) {
+        Some(meaning)
+    } else {
+        named_said(field)
     }
 }
 

@@ -94,6 +94,7 @@ fn is_read_in(
         order,
         short_years: reading.short_years,
         short_hebrew_years: reading.short_hebrew_years,
+        short_other_years: reading.short_other_years,
         charters: reading.charters,
     };
     stop_of(text, calendar, names, &other).is_none()

@@ -1,7 +1,7 @@
 //! The dates of a sheet that were not read.
 
 ghost use Rattle.std.specs.Prelude.{◌≡◌, if◌then◌else◌};
-ghost use Rattle.register_sheets.specs.UnknownNames.{is_beside as beside_spec, is_emptied, is_short_by};
+ghost use Rattle.register_sheets.specs.UnknownNames.{is_emptied, is_short_by, says_open as open_spec};
 
 use crate::reasons::ReasonCounts;
 use crate::stops::DateStop;
@@ -26,18 +26,18 @@ fn is_emptied(field: &[u8], date: &[u8]) -> bool
     !field.is_empty() && date.is_empty()
 }
 
-/// Whether the words say that the day lies before a date, or after it.
-fn is_beside(kind: Kind) -> bool
-    ensures { result ≡ beside_spec kind }
+/// Whether the words say that the day lies before a date, or after it, or that no date is known.
+fn says_open(kind: Kind) -> bool
+    ensures { result ≡ open_spec kind }
 {
-    matches!(kind, Kind::Before | Kind::After)
+    matches!(kind, Kind::Before | Kind::After | Kind::Undated)
 }
 
 /// Whether both ends of a field are left empty, as its year is short.
 pub(crate) fn is_short(field: &[u8], first: &[u8], last: &[u8], marks: Marks) -> bool
     ensures { result ≡ is_short_by field.now first.now last.now marks }
 {
-    is_emptied(field, first) && is_emptied(field, last) && !is_beside(marks.kind)
+    is_emptied(field, first) && is_emptied(field, last) && !says_open(marks.kind)
 }
 
 impl UnreadDates {

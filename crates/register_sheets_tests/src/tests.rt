@@ -40,6 +40,7 @@ const READING: Choice = Choice {
     order: Order::DayFirst,
     short_years: Short::Refuse,
     short_hebrew_years: Short::Refuse,
+    short_other_years: Short::Refuse,
     charters: false,
 };
 
@@ -236,6 +237,7 @@ fn years_that_stand_last(rt: HostRuntime) -> Result<(), Fail> {
         order: Order::YearFirst,
         short_years: Short::Refuse,
         short_hebrew_years: Short::Refuse,
+        short_other_years: Short::Refuse,
         charters: false,
     };
     let first = unknown_by(rt.alloc(), YEARS_LAST, &known, year_first, 0)?;

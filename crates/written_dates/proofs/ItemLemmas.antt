@@ -61,7 +61,7 @@ no_other_number text i h other =
     rw (none, and_false (nat_le (length text) 9)) refl
 
 pub a_number : (text : List ℕ) (v : ℕ) → length text ≤ 9 → list_all is_ascii_digit text ≡ true → v ≡ spelled text
-    → Some (record { value = v; digits = length text; named = false; year = false; day = false }) ≡ number_of_digits text
+    → Some (record { value = v; digits = length text; named = false; year = None; day = false }) ≡ number_of_digits text
 unfolding number_of_digits
 a_number text v few all is =
     let yes : nat_le (length text) 9 ≡ true = grind (arith, nat_tests) in rw (yes, all, is) refl

@@ -8,6 +8,8 @@ use Rattle.std.proofs.lemmas.Bool.Decides.{nat_tests}
 use Rattle.written_dates.specs.declared.tokens.Kind.{Kind}
 use Rattle.written_dates.specs.declared.tokens.Kind.TheVariants.{Hyphen, Digit}
 use Rattle.written_dates.specs.declared.items.Number.{Number}
+use Rattle.written_dates.specs.declared.meanings.Era.{Era}
+use Rattle.written_dates.specs.declared.meanings.Era.TheVariants as eras
 use Rattle.date_texts.specs.declared.calendar.Calendar.{Calendar}
 use Rattle.date_texts.specs.declared.calendar.Calendar.TheVariants.{Armenian, Coptic, Ethiopic, Gregorian, Hebrew}
 use Rattle.date_texts.specs.declared.calendar.Calendar.TheVariants.{Islamic, Julian}
@@ -18,7 +20,7 @@ use Rattle.written_dates.specs.Tokens.{Piece, first, in_front, tokens}
 use Rattle.written_dates.specs.Items.{number_of_digits}
 use Rattle.written_dates.specs.Signs.{◌>>=◌, has_minus, three_runs, runs_behind_minus, runs_in_front, digits_first, behind_hyphen}
 use Rattle.written_dates.specs.Laws.{AreDigits, RegisterDatesStay, MinusDatesStay}
-use Rattle.written_dates.specs.Written.{if_short, is_turned, joined, numbers, short_rule, stood, unless_added}
+use Rattle.written_dates.specs.Written.{if_short, is_turned, joined, numbers, rule_in, short_rule, stood, unless_said}
 use Rattle.written_dates.specs.Written.{unless_turned}
 use Rattle.written_dates.proofs.TimeLemmas.{dated_whole, minus_whole, stands_dated}
 use Rattle.written_dates.proofs.TokenLemmas.{alone}
@@ -121,22 +123,32 @@ never_short : (bound digits : ℕ) (year : Number) (rule : Short) → digits < y
     → if_short bound digits year rule ≡ Keep
 never_short bound digits year rule long = grind (arith, nat_tests)
 
+long_in : (choice : Choice) (calendar : Calendar) (year : Number) → 3 < year.digits
+    → rule_in choice calendar year ≡ Keep
+long_in choice Gregorian year long = never_short 100 2 year choice.short_years (omega (arith, long))
+long_in choice Julian year long = never_short 100 2 year choice.short_years (omega (arith, long))
+long_in choice Hebrew year long = never_short 1000 3 year choice.short_hebrew_years long
+long_in choice Islamic year long = never_short 100 2 year choice.short_other_years (omega (arith, long))
+long_in choice Coptic year long = never_short 100 2 year choice.short_other_years (omega (arith, long))
+long_in choice Ethiopic year long = never_short 100 2 year choice.short_other_years (omega (arith, long))
+long_in choice Armenian year long = never_short 100 2 year choice.short_other_years (omega (arith, long))
+long_in choice _ year long = refl
+
+kept_still : (era : Option Era) → unless_said era Keep ≡ Keep
+kept_still None = refl
+kept_still (Some eras.Calendar) = refl
+kept_still (Some eras.Spanish) = refl
+kept_still (Some eras.Creation) = refl
+
 pub long_kept : (choice : Choice) (calendar : Calendar) (year : Number) → 3 < year.digits
     → short_rule choice calendar year ≡ Keep
-long_kept choice Gregorian year long = never_short 100 2 year choice.short_years (omega (arith, long))
-long_kept choice Julian year long = never_short 100 2 year choice.short_years (omega (arith, long))
-long_kept choice Hebrew year long = never_short 1000 3 year choice.short_hebrew_years long
-long_kept choice Islamic year long = never_short 100 2 year (unless_added choice.short_years) (omega (arith, long))
-long_kept choice Coptic year long = never_short 100 2 year (unless_added choice.short_years) (omega (arith, long))
-long_kept choice Ethiopic year long = never_short 100 2 year (unless_added choice.short_years) (omega (arith, long))
-long_kept choice Armenian year long = never_short 100 2 year (unless_added choice.short_years) (omega (arith, long))
-long_kept choice _ year long = refl
+long_kept choice calendar year long = rw (long_in choice calendar year long) (kept_still year.year)
 
 digits_by : (b : Bool) (value : ℕ) (text : List ℕ) (year : Number)
-    → cond b (Some (record { value = value; digits = length text; named = false; year = false; day = false })) None
+    → cond b (Some (record { value = value; digits = length text; named = false; year = None; day = false })) None
     ≡ Some year → length text ≡ year.digits
 digits_by true value text year e =
-    let same : record { value = value; digits = length text; named = false; year = false; day = false } ≡ year
+    let same : record { value = value; digits = length text; named = false; year = None; day = false } ≡ year
     = cc in ap (λ (n : Number). n.digits) same
 digits_by false value text year e = absurd (cc)
 

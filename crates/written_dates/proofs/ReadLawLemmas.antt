@@ -1,6 +1,6 @@
 -- What is read is what was written.
 use Rattle.std.proofs.Common.{◌≡◌, inl, inr, ℕ, suc, ◌+◌, ◌<◌, ◌≤◌, Bool, true, false, not, ◌&&◌, ◌||◌}
-use Rattle.std.proofs.Common.{cond, refl, sym, ap, arith, List, [], ◌∷◌, ◌++◌, Option, Some, None, ◌∙◌, subst}
+use Rattle.std.proofs.Common.{cond, refl, sym, ap, arith, List, [], ◌∷◌, ◌++◌, Option, Some, None, is_some, ◌∙◌, subst}
 use Rattle.std.proofs.Common.{nat_le, nat_lt}
 use Rattle.std.specs.List.{filter, list_all, All}
 use Rattle.std.proofs.lemmas.Bool.{true≢false}
@@ -17,6 +17,8 @@ use Rattle.written_dates.specs.declared.calendars.Form.TheVariants as forms
 use Rattle.written_dates.specs.declared.items.Number.{Number as Numeral}
 use Rattle.written_dates.specs.declared.items.Item.{Item}
 use Rattle.written_dates.specs.declared.items.Item.TheVariants.{Number, Month, Mark, Weekday, DecadeDay}
+use Rattle.written_dates.specs.declared.meanings.Era.{Era}
+use Rattle.written_dates.specs.declared.meanings.Era.TheVariants as eras
 use Rattle.written_dates.specs.declared.meanings.Name.{Name}
 use Rattle.written_dates.specs.declared.rules.InYear.{InYear}
 use Rattle.written_dates.specs.declared.rules.InYear.TheVariants as days
@@ -30,13 +32,16 @@ use Rattle.written_dates.specs.declared.written.Short.{Short}
 use Rattle.written_dates.specs.declared.written.Short.TheVariants.{Refuse, Keep, Add}
 use Rattle.written_dates.specs.Calendars.{form}
 use Rattle.written_dates.specs.Tokens.{Piece, tokens}
-use Rattle.written_dates.specs.Items.{is_long}
+use Rattle.written_dates.specs.declared.meanings.Mark.{Mark as NamedMark}
+use Rattle.written_dates.specs.Items.{is_long, is_of_calendar}
 use Rattle.written_dates.specs.Sums.{found_items}
 use Rattle.written_dates.specs.Signs.{bare, begins_with_dash, has_bar_between, has_minus, has_mixed_signs, has_other, three_runs}
 use Rattle.written_dates.specs.Signs.{runs_behind_minus}
 use Rattle.written_dates.specs.Rules.{roman_reading, or_reading, civil, month_between, is_year_first, is_month_between}
 use Rattle.written_dates.specs.Weekdays.{is_on, is_on_by, IsOn, IsOnBy, numbered_weekday}
-use Rattle.written_dates.specs.Written.{agrees, answer, answer_by, date_by_rule, date_in, date_of, date_or_stays, has_year}
+use Rattle.written_dates.specs.Written.{agrees, answer, answer_by, church_of, counted, counted_by, date_by_rule, date_in, date_of}
+use Rattle.written_dates.specs.Written.{lacks_church, lacks_month}
+use Rattle.written_dates.specs.Written.{date_or_stays, has_year}
 use Rattle.written_dates.specs.Written.{if_agreed, in_month, is_half_year, items_answer, month_and_day, reading_by, short_rule, written_form}
 use Rattle.written_dates.specs.ReadLaws.{if_on, WeekdaysOnlyTest, DecadeDaysAgree, MixedSignsStay, DaysToDaysStay}
 use Rattle.written_dates.specs.ReadLaws.{IsRead, WeekdaysAgree, UsesAll, AreYearMonthDay, IsMonthItem, IsDayItem}
@@ -203,17 +208,23 @@ weekdays_only_test choice calendar pieces _ reading w is_civil e = absurd (cc)
 abbrev IsMade : Choice → Calendar → Option Reading → ℕ → ℕ → ℕ → Type 0
 IsMade choice calendar reading y m d =
     (number : Numeral) × (day : InYear) × (reading ≡ Some (Civil number day)) × (is_half_year calendar number ≡ false)
-    × (date_by_rule (short_rule choice calendar number) calendar number.value day ≡ Date y m d)
+    × (date_by_rule (short_rule choice calendar number) calendar (counted number day) day ≡ Date y m d)
 
-whole_if : (half lacks : Bool) (x : Answer) (y m d : ℕ) → cond (half || lacks) Stays x ≡ Date y m d → half ≡ false
-whole_if true lacks x y m d e = absurd (cc)
-whole_if false lacks x y m d e = refl
+whole_if : (half lacks month : Bool) (x : Answer) (y m d : ℕ)
+    → cond (half || lacks || month) Stays x ≡ Date y m d → half ≡ false
+whole_if true lacks month x y m d e = absurd (cc)
+whole_if false lacks month x y m d e = refl
 
 pub made_by : (choice : Choice) (calendar : Calendar) (reading : Option Reading) (y m d : ℕ)
     → date_of choice calendar reading ≡ Date y m d → IsMade choice calendar reading y m d
 made_by choice calendar None y m d e = absurd (cc)
-made_by choice calendar (Some (Civil number day)) y m d e =
-    (number, day, refl, whole_if (is_half_year calendar number) _ _ y m d e, date_by _ _ y m d e)
+made_by choice calendar (Some (Civil number day)) y m d e = (
+  number,
+  day,
+  refl,
+  whole_if (is_half_year calendar number) (lacks_church (church_of calendar) day) (lacks_month number.year day) _ y m d e,
+  date_by _ _ y m d e,
+)
 made_by choice calendar (Some (Roman _ _ _ _)) y m d e = absurd (cc)
 
 made : (choice : Choice) (calendar : Calendar) (pieces : List Piece) (found : List Item) (y m d : ℕ)
@@ -229,10 +240,17 @@ uses_of found number day uses =
     let a : year ≡ number = cc in let b : other ≡ day = cc in
     subst (λ (x : InYear). UsesAll found number x) b (subst (λ (n : Numeral). UsesAll found n other) a all)
 
+marked_alone : (b : Bool) (year month : ℕ) (mark : NamedMark) (count : ℕ) (number : Numeral) (day : InYear)
+    → cond b (Some (Roman year month mark count)) None ≡ Some (Civil number day) → ⊥
+marked_alone true year month mark count number day e = cc
+marked_alone false year month mark count number day e = cc
+
 no_civil : (charters : Bool) (found : List Item) (number : Numeral) (day : InYear)
     → roman_reading charters found ≡ Some (Civil number day) → ⊥
-no_civil charters (Number n ∷ Mark k ∷ Month m ∷ Number y ∷ []) number day e = cc
-no_civil charters (Mark k ∷ Month m ∷ Number y ∷ []) number day e = cc
+no_civil charters (Number n ∷ Mark k ∷ Month m ∷ Number y ∷ []) number day e =
+    marked_alone (is_of_calendar y.year) _ _ _ _ number day e
+no_civil charters (Mark k ∷ Month m ∷ Number y ∷ []) number day e =
+    marked_alone (is_of_calendar y.year) _ _ _ _ number day e
 no_civil charters _ number day e = cc
 
 pub uses_by : (f : Form) (choice : Choice) (pieces : List Piece) (found : List Item) (number : Numeral) (day : InYear)
@@ -353,7 +371,7 @@ kept_by (Add more) calendar v y m d day k e = absurd (cc)
 is_long_four : (n : Numeral) → 4 ≤ n.digits → is_long n ≡ true
 is_long_four n h = grind (arith, nat_tests)
 
-is_long_marked : (n : Numeral) → n.year ≡ true → is_long n ≡ true
+is_long_marked : (n : Numeral) → is_some n.year ≡ true → is_long n ≡ true
 is_long_marked n h = rw h refl
 
 pub year_words_name_years : YearWordsNameYears
@@ -363,20 +381,31 @@ year_words_name_years choice calendar names text found y m d n r has marked =
     All-contains (IsYearOrShort number) found (Number n) (uses_short found number day uses) has n refl
     (is_long_marked n marked) in (
       day,
-      subst (λ (k : Numeral). date_by_rule (short_rule choice calendar k) calendar k.value day ≡ Date y m d) (sym same) date,
+      subst (λ (k : Numeral). date_by_rule (short_rule choice calendar k) calendar (counted k day) day ≡ Date y m d)
+          (sym same) date,
     )
 
+counted_plainly : (era : Option Era) (year : ℕ) (day : InYear) → is_of_calendar era ≡ true
+    → counted_by era year day ≡ year
+counted_plainly None year day e = refl
+counted_plainly (Some eras.Calendar) year day e = refl
+counted_plainly (Some eras.Spanish) year day e = absurd (cc)
+counted_plainly (Some eras.Creation) year day e = absurd (cc)
+
 pub long_numbers_are_years : LongNumbersAreYears
-long_numbers_are_years choice calendar names text found y m d n r has four =
+long_numbers_are_years choice calendar names text found y m d n r has four plain =
     let (number, day, uses, date) = nothing_is_left_over choice calendar names text found y m d r in
     let same : n ≡ number =
     All-contains (IsYearOrShort number) found (Number n) (uses_short found number day uses) has n refl
     (is_long_four n four) in
     let digits : 3 < number.digits = omega (arith, ap (λ (k : Numeral). k.digits) same) in
     let keep = long_kept choice calendar number digits in
-    let own = kept_by _ calendar number.value y m d day keep date in
-    (year_by (has_year calendar number.value) (month_and_day calendar number.value day) number.value y m d own).1
-    ∙ ap (λ (k : Numeral). k.value) (sym same)
+    let own = kept_by _ calendar (counted number day) y m d day keep date in
+    let of_calendar : is_of_calendar number.year ≡ true
+    = subst (λ (k : Numeral). is_of_calendar k.year ≡ true) same plain in
+    (year_by (has_year calendar (counted number day)) (month_and_day calendar (counted number day) day)
+    (counted number day) y m d own).1
+    ∙ counted_plainly number.year number.value day of_calendar ∙ ap (λ (k : Numeral). k.value) (sym same)
 
 -- ---- a month by name is the month
 abbrev IsThisMonth : ℕ → Item → Type 0
@@ -446,7 +475,7 @@ ruled_month Refuse calendar v y m d day e = absurd (cc)
 pub months_are_months : MonthsAreMonths
 months_are_months choice calendar names text found y m d month r has =
     let (number, day, uses, date) = nothing_is_left_over choice calendar names text found y m d r in
-    let kept = ruled_month (short_rule choice calendar number) calendar number.value y m d day date in
+    let kept = ruled_month (short_rule choice calendar number) calendar (counted number day) y m d day date in
     All-contains (IsThisMonth m) found (Month month) (uses_this found number day m uses kept.0 kept.1) has month refl
 
 -- ---- the month and the day by the places of the items
@@ -470,8 +499,8 @@ said_day : (choice : Choice) (calendar : Calendar) (reading : Option Reading) (y
 said_day choice calendar None y m d h year k e is = absurd (cc)
 said_day choice calendar (Some (Civil number day)) y m d h year k e is =
     let a : number ≡ year = cc in let b : day ≡ days.Day k e = cc in
-    ruled_day (short_rule choice calendar number) calendar number.value y m d k e
-    (subst (λ (x : InYear). date_by_rule (short_rule choice calendar number) calendar number.value x ≡ Date y m d) b
+    ruled_day (short_rule choice calendar number) calendar (counted number (days.Day k e)) y m d k e
+    (subst (λ (x : InYear). date_by_rule (short_rule choice calendar number) calendar (counted number x) x ≡ Date y m d) b
     (date_by _ _ y m d h))
 said_day choice calendar (Some (Roman _ _ _ _)) y m d h year k e is = absurd (cc)
 
@@ -614,20 +643,25 @@ minuses_stay choice calendar names text minus runs below =
 few_by : (b : Bool) (v : ℕ) → nat_le v 99 ≡ b → b ≡ true → v ≤ 99
 few_by b v e t = grind (arith, nat_tests)
 
-republic_by : (choice : Choice) (calendar : Calendar) (number : Numeral) (day : InYear) (y m d : ℕ)
-    → IsRepublican calendar
-    → date_by_rule (short_rule choice calendar number) calendar number.value day ≡ Date y m d → y ≤ 99
-republic_by choice French number day y m d is e =
-    let own = year_by (nat_le number.value 99) (month_and_day French number.value day) number.value y m d e in
-    let few = few_by _ number.value refl own.0 in omega (arith, own.1)
-republic_by choice Republican number day y m d is e =
-    let own = year_by (nat_le number.value 99) (month_and_day Republican number.value day) number.value y m d e in
-    let few = few_by _ number.value refl own.0 in omega (arith, own.1)
-republic_by choice _ number day y m d (inl is) e = absurd (cc)
-republic_by choice _ number day y m d (inr is) e = absurd (cc)
+in_republic : (calendar : Calendar) (v : ℕ) (day : InYear) (y m d : ℕ) → IsRepublican calendar
+    → date_in calendar v day ≡ Date y m d → y ≤ 99
+in_republic French v day y m d is e =
+    let own = year_by (nat_le v 99) (month_and_day French v day) v y m d e in
+    let few = few_by _ v refl own.0 in omega (arith, own.1)
+in_republic Republican v day y m d is e =
+    let own = year_by (nat_le v 99) (month_and_day Republican v day) v y m d e in
+    let few = few_by _ v refl own.0 in omega (arith, own.1)
+in_republic _ v day y m d (inl is) e = absurd (cc)
+in_republic _ v day y m d (inr is) e = absurd (cc)
+
+republic_by : (short : Short) (calendar : Calendar) (v : ℕ) (day : InYear) (y m d : ℕ) → IsRepublican calendar
+    → date_by_rule short calendar v day ≡ Date y m d → y ≤ 99
+republic_by Keep calendar v day y m d is e = in_republic calendar v day y m d is e
+republic_by (Add more) calendar v day y m d is e = in_republic calendar (v + more) day y m d is e
+republic_by Refuse calendar v day y m d is e = absurd (cc)
 
 pub years_of_the_republic : YearsOfTheRepublic
 years_of_the_republic choice calendar names text y m d is e =
     let (found, has) = said choice calendar names text y m d e in
     let (number, day, reading, whole, date) = made choice calendar (tokens 0 text) found y m d has in
-    republic_by choice calendar number day y m d is date
+    republic_by (short_rule choice calendar number) calendar (counted number day) day y m d is date

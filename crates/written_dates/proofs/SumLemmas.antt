@@ -1,16 +1,18 @@
 -- Items are added from the left, and numbers that add up become one.
-use Rattle.std.proofs.Common.{◌≡◌, ℕ, ◌+◌, ◌<◌, ◌≤◌, Bool, true, false, cond, List, [], ◌∷◌, ◌++◌, length, refl, sym, ap, ◌∙◌, arith}
+use Rattle.std.proofs.Common.{◌≡◌, ℕ, ◌+◌, ◌<◌, ◌≤◌, Bool, true, false, ◌&&◌, cond, List, [], ◌∷◌, ◌++◌, length, refl, sym, ap, ◌∙◌, arith}
 use Rattle.std.proofs.Common.{Option, Some, None, append_assoc, append-nil, length-append}
 use Rattle.std.specs.Prelude.{option_map}
 use Rattle.std.proofs.lemmas.Bool.{true≢false}
 use Rattle.written_dates.specs.declared.items.Number.{Number as Numeral}
 use Rattle.written_dates.specs.declared.items.Item.{Item}
 use Rattle.written_dates.specs.declared.items.Item.TheVariants.{Number, YearWord, DayWord, Weekday, Feast}
+use Rattle.written_dates.specs.declared.meanings.Era.{Era}
+use Rattle.written_dates.specs.declared.meanings.Era.TheVariants as eras
 use Rattle.written_dates.specs.declared.meanings.Name.{Name}
 use Rattle.written_dates.specs.Tokens.{Piece}
 use Rattle.written_dates.specs.Items.{before, is_long, items}
 use Rattle.written_dates.specs.ItemViews.{resumed}
-use Rattle.written_dates.specs.Sums.{SumsStay, adds_up, joined_item, joined_or, summed, summed_from, total, value_of}
+use Rattle.written_dates.specs.Sums.{before_era, has_sum, has_year_of, with_year, SumsStay, adds_up, joined_item, joined_or, summed, summed_from, total, value_of}
 
 -- ---- the last item may still grow
 last_resumed : (xs : List Item) (last : Item) (rest : List Item)
@@ -150,11 +152,30 @@ summed_if true a c next rest h =
     h (Number (record { value = a.value + c.value; digits = 0; named = true; year = a.year; day = a.day })) ∙ omega arith
 summed_if false a c next rest h = ap (λ n. a.value + n) (h (Number c))
 
-year_if : (b : Bool) (a : Numeral) (next : Item → List Item) (rest : ℕ)
+era_if : (b : Bool) (era : Era) (a : Numeral) (next : Item → List Item) (rest : ℕ)
     → ((z : Item) → total (next z) ≡ value_of z + rest)
-    → Kept (cond b (Some (Number a)) None) (Number a) YearWord next rest
-year_if true a next rest h = h (Number a) ∙ omega arith
-year_if false a next rest h = ap (λ n. a.value + n) (h YearWord)
+    → Kept (cond b (Some (with_year era a)) None) (Number a) (YearWord era) next rest
+era_if true era a next rest h = h (with_year era a) ∙ omega arith
+era_if false era a next rest h = ap (λ n. a.value + n) (h (YearWord era))
+
+year_before : (era : Era) (a : Numeral) (next : Item → List Item) (rest : ℕ)
+    → ((z : Item) → total (next z) ≡ value_of z + rest)
+    → Kept (before_era era a) (Number a) (YearWord era) next rest
+year_before eras.Calendar a next rest h = h (Number a) ∙ omega arith
+year_before eras.Spanish a next rest h = era_if (has_year_of eras.Spanish a.value) eras.Spanish a next rest h
+year_before eras.Creation a next rest h = era_if (has_year_of eras.Creation a.value) eras.Creation a next rest h
+
+year_if : (b : Bool) (era : Era) (a : Numeral) (next : Item → List Item) (rest : ℕ)
+    → ((z : Item) → total (next z) ≡ value_of z + rest)
+    → Kept (cond b (before_era era a) None) (Number a) (YearWord era) next rest
+year_if true era a next rest h = year_before era a next rest h
+year_if false era a next rest h = ap (λ n. a.value + n) (h (YearWord era))
+
+year_behind : (b : Bool) (era : Era) (a : Numeral) (next : Item → List Item) (rest : ℕ)
+    → ((z : Item) → total (next z) ≡ value_of z + rest)
+    → Kept (cond b (Some (with_year era a)) None) (YearWord era) (Number a) next rest
+year_behind true era a next rest h = h (with_year era a) ∙ omega arith
+year_behind false era a next rest h = ap (λ n. 0 + n) (h (Number a))
 
 day_behind : (b : Bool) (a : Numeral) (next : Item → List Item) (rest : ℕ)
     → ((z : Item) → total (next z) ≡ value_of z + rest)
@@ -184,11 +205,10 @@ day_before false a next rest h =
 
 summed_more : (x y : Item) (next : Item → List Item) (rest : ℕ) → ((z : Item) → total (next z) ≡ value_of z + rest)
     → Kept (joined_item x y) x y next rest
-summed_more (Number a) (Number c) next rest h = summed_if (adds_up a c) a c next rest h
-summed_more (Number a) YearWord next rest h = year_if (is_long a) a next rest h
+summed_more (Number a) (Number c) next rest h = summed_if (adds_up a c && has_sum a.year (a.value + c.value)) a c next rest h
+summed_more (Number a) (YearWord era) next rest h = year_if (is_long a) era a next rest h
 summed_more (Number a) DayWord next rest h = day_behind (is_long a) a next rest h
-summed_more YearWord (Number c) next rest h =
-    h (Number (record { value = c.value; digits = c.digits; named = c.named; year = true; day = c.day })) ∙ omega arith
+summed_more (YearWord era) (Number c) next rest h = year_behind (has_year_of era c.value) era c next rest h
 summed_more DayWord (Number c) next rest h = day_before (is_long c) c next rest h
 summed_more DayWord (Weekday w) next rest h = h (Weekday w) ∙ omega arith
 summed_more DayWord (Feast f) next rest h = h (Feast f) ∙ omega arith

@@ -28,7 +28,7 @@ use Rattle.written_dates.specs.Sums.{found_items}
 use Rattle.written_dates.specs.Signs.{bare, begins_with_dash, has_minus, has_other}
 use Rattle.written_dates.specs.Rules.{beside_weekday, or_reading}
 use Rattle.written_dates.specs.Weekdays.{is_on, first_on, if_no_other, numbered_weekday}
-use Rattle.written_dates.specs.Written.{agrees, answer, answer_by, date_by_rule, date_in, date_of, date_or_stays, has_year}
+use Rattle.written_dates.specs.Written.{agrees, answer, answer_by, counted, date_by_rule, date_in, date_of, date_or_stays, has_year}
 use Rattle.written_dates.specs.Written.{if_agreed, in_month, items_answer, month_and_day, reading_by, short_rule}
 use Rattle.written_dates.specs.ReadLaws.{NumberedWeekdays}
 use Rattle.written_dates.specs.declared.stops.Stop.TheVariants as stops
@@ -109,7 +109,8 @@ long_nth : (long : Bool) (choice : Choice) (calendar : Calendar) (n y : Numeral)
     → IsNth calendar year month w n.value day
 long_nth true choice calendar n y w m year month day e = absurd (cc)
 long_nth false choice calendar n y w m year month day e =
-    ruled_nth (short_rule choice calendar y) calendar y.value year month day m n.value w (date_by _ _ year month day e)
+    ruled_nth (short_rule choice calendar y) calendar (counted y (days.NumberedWeekday n.value w m)) year month day m n.value w
+    (date_by _ _ year month day e)
 
 abbrev numbered_items : Numeral → NamedWeekday → ℕ → Numeral → List Item
 numbered_items n w m y = Number n ∷ Weekday w ∷ Month m ∷ Number y ∷ []
@@ -190,7 +191,7 @@ never_other : (choice : Choice) (calendar : Calendar) (reading : Option Reading)
     → IsOther (date_of choice calendar reading) → ⊥
 never_other choice calendar None e = e
 never_other choice calendar (Some (Civil number day)) e =
-    rule_never (short_rule choice calendar number) calendar number.value day (other_by _ _ e)
+    rule_never (short_rule choice calendar number) calendar (counted number day) day (other_by _ _ e)
 never_other choice calendar (Some (Roman _ _ _ _)) e = e
 
 -- the weekday that does not

@@ -8,6 +8,8 @@ use Rattle.written_dates.specs.declared.tokens.Kind.TheVariants.{Digit}
 use Rattle.written_dates.specs.declared.items.Number.{Number}
 use Rattle.written_dates.specs.declared.items.Item.{Item}
 use Rattle.written_dates.specs.declared.items.Item.TheVariants as item
+use Rattle.written_dates.specs.declared.meanings.Era.{Era}
+use Rattle.written_dates.specs.declared.meanings.Era.TheVariants as eras
 use Rattle.written_dates.specs.declared.meanings.Meaning.{Meaning}
 use Rattle.written_dates.specs.declared.meanings.Meaning.TheVariants as meaning
 use Rattle.written_dates.specs.declared.meanings.Name.{Name}
@@ -41,6 +43,12 @@ number_of p = number_of_kind p.kind p.text
 abbrev pub is_long : Number → Bool
 is_long n = is_some n.year || nat_le 3 n.digits || ((n.digits == 0) && nat_le 100 n.value)
 
+-- no word for the years of another era stands beside a number
+abbrev pub is_of_calendar : Option Era → Bool
+is_of_calendar (Some eras.Spanish) = false
+is_of_calendar (Some eras.Creation) = false
+is_of_calendar era = true
+
 -- what a name means in a date
 abbrev pub meant : Meaning → List Item
 meant meaning.Nothing = []
@@ -51,6 +59,8 @@ meant (meaning.Number n) =
 meant (meaning.YearWord era) = item.YearWord era ∷ []
 meant meaning.DayWord = item.DayWord ∷ []
 meant (meaning.Months first last) = item.Months first last ∷ []
+meant (meaning.Part place parts) = item.Part place parts ∷ []
+meant meaning.LastDay = item.LastDay ∷ []
 meant (meaning.Century first) = item.Century first ∷ []
 meant meaning.Decade = item.Decade ∷ []
 meant (meaning.Mark m) = item.Mark m ∷ []

@@ -1,5 +1,5 @@
 -- Laws of what is read: it is what was written.
-use Rattle.std.specs.Prelude.{◌≡◌, ◌⊎◌, ℕ, ◌+◌, ◌*◌, ◌<◌, ◌≤◌, Bool, true, false, if◌then◌else◌, List, [], ◌∷◌, ◌++◌, Option, Some, None, is_some}
+use Rattle.std.specs.Prelude.{◌≡◌, ◌⊎◌, ℕ, ◌+◌, ◌*◌, ◌<◌, ◌≤◌, Bool, true, false, if◌then◌else◌, List, [], ◌∷◌, ◌++◌, Some, None, is_some}
 use Rattle.std.specs.Char.{is_ascii_digit}
 use Rattle.std.specs.List.{filter, Contains}
 use Rattle.std.specs.List.Sorted.{IsPermutation}
@@ -15,8 +15,6 @@ use Rattle.written_dates.specs.declared.calendars.Form.TheVariants as forms
 use Rattle.written_dates.specs.declared.items.Number.{Number as Numeral}
 use Rattle.written_dates.specs.declared.items.Item.{Item}
 use Rattle.written_dates.specs.declared.items.Item.TheVariants.{Number, Month, Weekday, DecadeDay}
-use Rattle.written_dates.specs.declared.meanings.Era.{Era}
-use Rattle.written_dates.specs.declared.meanings.Era.TheVariants as eras
 use Rattle.written_dates.specs.declared.meanings.Name.{Name}
 use Rattle.written_dates.specs.declared.rules.Reading.{Reading}
 use Rattle.written_dates.specs.declared.rules.InYear.{InYear}
@@ -24,7 +22,7 @@ use Rattle.written_dates.specs.declared.rules.InYear.TheVariants as days
 use Rattle.written_dates.specs.declared.written.Answer.TheVariants.{Stays, OtherWeekday, Date}
 use Rattle.written_dates.specs.declared.written.Choice.{Choice}
 use Rattle.written_dates.specs.Tokens.{Piece, kind_of, tokens}
-use Rattle.written_dates.specs.Items.{is_long}
+use Rattle.written_dates.specs.Items.{is_long, is_of_calendar}
 use Rattle.written_dates.specs.Signs.{has_bar_between, has_minus, has_mixed_signs, is_between, three_runs, runs_behind_minus}
 use Rattle.written_dates.specs.Rules.{plain_reading}
 use Rattle.written_dates.specs.Sums.{found_items}
@@ -132,12 +130,6 @@ NothingIsLeftOver =
     → IsRead choice calendar names text found year month day
     → (number : Numeral) × (in_year : InYear) × UsesAll found number in_year
     × (date_by_rule (short_rule choice calendar number) calendar (counted number in_year) in_year ≡ Date year month day)
-
--- no word for the years of another era stands beside the number
-abbrev pub is_of_calendar : Option Era → Bool
-is_of_calendar (Some eras.Spanish) = false
-is_of_calendar (Some eras.Creation) = false
-is_of_calendar era = true
 
 -- a number of four digits is the year, in every order
 abbrev pub LongNumbersAreYears : Type 0

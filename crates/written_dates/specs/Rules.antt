@@ -12,7 +12,7 @@ use Rattle.written_dates.specs.declared.rules.Reading.{Reading}
 use Rattle.written_dates.specs.declared.rules.Reading.TheVariants.{Civil, Roman}
 use Rattle.written_dates.specs.declared.rules.InYear.TheVariants.{Day, NumberedWeekday, Feast}
 use Rattle.written_dates.specs.declared.feast_rules.Naming.{Naming}
-use Rattle.written_dates.specs.Items.{is_long}
+use Rattle.written_dates.specs.Items.{is_long, is_of_calendar}
 use Rattle.written_dates.specs.Signs.{has_two_dashes, has_mixed_signs, has_bar_between}
 use Rattle.written_dates.specs.Tokens.{Piece}
 use Rattle.written_dates.specs.FeastRules.{feast_naming}
@@ -108,11 +108,13 @@ abbrev pub charter_year : Bool → ℕ → Mark → ℕ → ℕ → ℕ
 charter_year charters count mark month year =
     if charters && is_kalends mark && (month == 1) && nat_le 2 count then year + 1 else year
 
-abbrev pub marked : Bool → ℕ → Mark → ℕ → ℕ → Option Reading
-marked charters count mark month year = Some (Roman (charter_year charters count mark month year) month mark count)
+abbrev pub marked : Bool → ℕ → Mark → ℕ → Numeral → Option Reading
+marked charters count mark month year =
+    if is_of_calendar year.year
+    then Some (Roman (charter_year charters count mark month year.value) month mark count) else None
 
 -- what items say as a Roman date
 abbrev pub roman_reading : Bool → List Item → Option Reading
-roman_reading charters (Number n ∷ Marked mark ∷ Month m ∷ Number y ∷ []) = marked charters n.value mark m y.value
-roman_reading charters (Marked mark ∷ Month m ∷ Number y ∷ []) = marked charters 1 mark m y.value
+roman_reading charters (Number n ∷ Marked mark ∷ Month m ∷ Number y ∷ []) = marked charters n.value mark m y
+roman_reading charters (Marked mark ∷ Month m ∷ Number y ∷ []) = marked charters 1 mark m y
 roman_reading charters _ = None

@@ -19,7 +19,7 @@ use Rattle.written_dates.specs.Rules.{beside_weekday}
 use Rattle.written_dates.specs.Signs.{bare, begins_with_dash, has_minus, has_other}
 use Rattle.written_dates.specs.Sums.{found_items}
 use Rattle.written_dates.specs.Weekdays.{is_decade_day, is_on}
-use Rattle.written_dates.specs.Written.{answer, before_time, date_by_rule, short_rule}
+use Rattle.written_dates.specs.Written.{answer, before_time, counted, date_by_rule, short_rule}
 
 -- what is missing in items that say no date: the day, where a year stands alone or beside a month; or the year beside a
 -- month and a day
@@ -84,7 +84,7 @@ pub record SaysOtherWeekday (choice : Choice) (calendar : Calendar) (names : Lis
   pub year : ℕ
   pub month : ℕ
   pub day : ℕ
-  pub date : date_by_rule (short_rule choice calendar number) calendar number.value in_year
+  pub date : date_by_rule (short_rule choice calendar number) calendar (counted number in_year) in_year
       ≡ answers.Date year month day
   pub weekday : Item
   pub stands : Contains found weekday

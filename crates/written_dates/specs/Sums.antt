@@ -18,21 +18,25 @@ adds_up a b =
     a.named && b.named && nat_lt 0 a.value && nat_lt a.value 10_000 && nat_lt 0 b.value
     && (((a.value % 1000 == 0) && nat_lt b.value 1000) || ((a.value % 100 == 0) && nat_lt b.value 100))
 
--- the one number that two numbers are, if they add up
-abbrev pub sum_of : Numeral → Numeral → Option Item
-sum_of a b =
-    if adds_up a b
-    then Some (Number (record { value = a.value + b.value; digits = 0; named = true; year = a.year; day = a.day })) else None
-
--- a number beside a word for year is the year
-abbrev pub with_year : Era → Numeral → Item
-with_year era n = Number (record { value = n.value; digits = n.digits; named = n.named; year = Some era; day = n.day })
-
 -- an era has these years: the Spanish one until 1422 AD, that of the creation until 1699
 abbrev pub has_year_of : Era → ℕ → Bool
 has_year_of eras.Calendar year = true
 has_year_of eras.Spanish year = nat_lt 38 year && nat_le year 1_460
 has_year_of eras.Creation year = nat_lt 5_508 year && nat_le year 7_208
+
+abbrev pub has_sum : Option Era → ℕ → Bool
+has_sum None year = true
+has_sum (Some era) year = has_year_of era year
+
+-- the one number that two numbers are, if they add up; as a year one that its era has
+abbrev pub sum_of : Numeral → Numeral → Option Item
+sum_of a b =
+    if adds_up a b && has_sum a.year (a.value + b.value)
+    then Some (Number (record { value = a.value + b.value; digits = 0; named = true; year = a.year; day = a.day })) else None
+
+-- a number beside a word for year is the year
+abbrev pub with_year : Era → Numeral → Item
+with_year era n = Number (record { value = n.value; digits = n.digits; named = n.named; year = Some era; day = n.day })
 
 abbrev pub behind_year : Era → Numeral → Option Item
 behind_year era n = if has_year_of era n.value then Some (with_year era n) else None

@@ -8,10 +8,11 @@ ghost use Rattle.written_dates.specs.Names.{names_in};
 ghost use Rattle.written_dates.specs.Parts.{parts};
 ghost use Rattle.written_dates.specs.Items.{number_of_digits as digits_spec, number_of as number_spec};
 ghost use Rattle.written_dates.specs.Items.{longest as longest_spec, is_long as long_spec, items, before, meant};
+ghost use Rattle.written_dates.specs.Items.{is_of_calendar as of_calendar_spec};
 ghost use Rattle.written_dates.specs.Unknown.{first_unknown};
 ghost use Rattle.written_dates.specs.Sums.{adds_up as adds_up_spec, found_items, joined_item as joined_spec};
 ghost use Rattle.written_dates.specs.Sums.{before_year as before_year_spec, sum_of as sum_of_spec};
-ghost use Rattle.written_dates.specs.Sums.{behind_year as behind_year_spec, has_year_of as has_year_spec};
+ghost use Rattle.written_dates.specs.Sums.{behind_year as behind_year_spec, has_sum as has_sum_spec, has_year_of as has_year_spec};
 ghost use Rattle.written_dates.specs.Sums.{with_day as with_day_spec, with_year as with_year_spec};
 ghost use Rattle.written_dates.specs.ItemViews.{resumed};
 
@@ -51,6 +52,10 @@ pub enum Item {
     DayWord,
     /// A part of a year, from a month to a month.
     Months(u8, u8),
+    /// A part of a year or a century, by its place among so many that are alike.
+    Part(u8, u8),
+    /// The last day of a month.
+    LastDay,
     /// A century, whose first year ends with 00 or 01.
     Century(u8),
     /// Ten years.
@@ -169,6 +174,16 @@ fn longest<'a>(
     (count, meaning, rest)
 }
 
+/// Whether no word for the years of another era stands beside a number.
+pub fn is_of_calendar(era: Option<Era>) -> bool
+    ensures { result ≡ of_calendar_spec era }
+{
+    match era {
+        Some(Era::Spanish) | Some(Era::Creation) => false,
+        _ => true,
+    }
+}
+
 /// Whether a number can be no day and no month.
 pub fn is_long(number: Number) -> bool
     ensures { result ≡ long_spec number }
@@ -194,6 +209,8 @@ fn item_of(meaning: Meaning) -> Option<Item>
         Meaning::YearWord(era) => Some(Item::YearWord(era)),
         Meaning::DayWord => Some(Item::DayWord),
         Meaning::Months(first, last) => Some(Item::Months(first, last)),
+        Meaning::Part(place, parts) => Some(Item::Part(place, parts)),
+        Meaning::LastDay => Some(Item::LastDay),
         Meaning::Century(first) => Some(Item::Century(first)),
         Meaning::Decade => Some(Item::Decade),
         Meaning::Mark(mark) => Some(Item::Mark(mark)),
@@ -253,11 +270,21 @@ fn adds_up(a: Number, b: Number) -> bool
         && ((a.value % 1000 == 0 && b.value < 1000) || (a.value % 100 == 0 && b.value < 100))
 }
 
-/// The one number that two numbers are, if they add up.
+/// Whether a year of an era, if it is one, is a year that this has.
+fn has_sum(era: Option<Era>, year: u32) -> bool
+    ensures { result ≡ has_sum_spec era year }
+{
+    match era {
+        None => true,
+        Some(era) => has_year_of(era, year),
+    }
+}
+
+/// The one number that two numbers are, if they add up; as a year one that its era has.
 fn sum_of(a: Number, b: Number) -> Option<Item>
     ensures { result ≡ sum_of_spec a b }
 {
-    if !adds_up(a, b) {
+    if !adds_up(a, b) || !has_sum(a.year, a.value + b.value) {
         return None;
     }
     Some(Item::Number(Number {

@@ -25,7 +25,7 @@ mod written;
 
 pub use calendars::{Form, form_of};
 pub use fields::{CalendarMeaning, CalendarName, CalendarNames, without_blanks};
-pub use items::{Item, Number, is_long, items_of};
+pub use items::{Item, Number, is_long, is_of_calendar, items_of};
 pub use joining::{count_bars, has_mixed_signs, has_other_signs_between, is_bar};
 pub use meanings::{Calendars, Era, Mark, Meaning, Name, Relation, Word};
 pub use names::{Names, is_name};

@@ -78,6 +78,10 @@ pub enum Meaning {
     DayWord,
     /// A part of a year, from a month to a month.
     Months(u8, u8),
+    /// A part of a year or a century, by its place among so many that are alike: the first of three.
+    Part(u8, u8),
+    /// The last day of a month.
+    LastDay,
     /// A century, whose first year ends with 00 or 01, as this says.
     Century(u8),
     /// Ten years.

@@ -8,10 +8,11 @@ ghost use Rattle.written_dates.specs.Rules.{month_between as between_spec, is_mo
 ghost use Rattle.written_dates.specs.Rules.{month_in_front as front_spec, three_numbers as three_spec, civil_reading};
 ghost use Rattle.written_dates.specs.Rules.{plain_reading, beside_weekday as beside_spec, named_reading};
 ghost use Rattle.written_dates.specs.Rules.{weekday_in_month as in_month_spec};
-ghost use Rattle.written_dates.specs.Rules.{charter_year as charter_spec, roman_reading, is_year_first as first_spec};
+ghost use Rattle.written_dates.specs.Rules.{charter_year as charter_spec, marked as marked_spec, roman_reading};
+ghost use Rattle.written_dates.specs.Rules.{is_year_first as first_spec};
 
 use crate::feast_rules::naming_of;
-use crate::items::{Item, Number, is_long};
+use crate::items::{Item, Number, is_long, is_of_calendar};
 use crate::joining::{has_bar_between, has_mixed_signs, has_two_dashes};
 use crate::meanings::Mark;
 use church_year::{Feast, Place};
@@ -215,6 +216,21 @@ fn charter_year(charters: bool, count: u32, mark: Mark, month: u8, year: u32) ->
     year as u64
 }
 
+/// A Roman date, in a year of the calendar.
+fn marked(charters: bool, count: u32, mark: Mark, month: u8, year: Number) -> Option<Reading>
+    ensures { result ≡ marked_spec charters count mark month year }
+{
+    if !is_of_calendar(year.year) {
+        return None;
+    }
+    Some(Reading::Roman(
+        charter_year(charters, count, mark, month, year.value),
+        month as u32,
+        mark,
+        count,
+    ))
+}
+
 /// What items say as a Roman date.
 pub(crate) fn roman_of(charters: bool, items: &[Item]) -> Option<Reading>
     ensures { result ≡ roman_reading charters items.now }
@@ -225,18 +241,8 @@ pub(crate) fn roman_of(charters: bool, items: &[Item]) -> Option<Reading>
             Item::Mark(mark),
             Item::Month(m),
             Item::Number(y),
-        ] => Some(Reading::Roman(
-            charter_year(charters, n.value, *mark, *m, y.value),
-            *m as u32,
-            *mark,
-            n.value,
-        )),
-        [Item::Mark(mark), Item::Month(m), Item::Number(y)] => Some(Reading::Roman(
-            charter_year(charters, 1, *mark, *m, y.value),
-            *m as u32,
-            *mark,
-            1,
-        )),
+        ] => marked(charters, n.value, *mark, *m, *y),
+        [Item::Mark(mark), Item::Month(m), Item::Number(y)] => marked(charters, 1, *mark, *m, *y),
         _ => None,
     }
 }

@@ -7,7 +7,7 @@ use date_texts::{Calendar, calendar_named};
 use day_numbers::Weekday;
 use std::alloc::{AllocError, Global};
 use written_dates::{
-    Calendars, Choice, Mark, Meaning, Name, Names, Order, Relation, Short, Stop,
+    Calendars, Choice, Era, Mark, Meaning, Name, Names, Order, Relation, Short, Stop,
     date_beside_weekday, is_name, roman_number, stop_of, unknown_word, write_date,
 };
 
@@ -109,6 +109,11 @@ de||
 e||
 du||
 anno|year|
+era|spanish|julian
+от сотворения мира|creation|julian
+года|year|
+сентября|month 9|julian
+августа|month 8|julian
 anno domini|year|
 roku|year|
 die|day|
@@ -172,7 +177,9 @@ fn meaning_of(text: &str) -> Meaning {
         "morrow" => Meaning::Relation(Relation::Morrow),
         "octave" => Meaning::Relation(Relation::Octave),
         "" => Meaning::Nothing,
-        "year" => Meaning::YearWord,
+        "year" => Meaning::YearWord(Era::Calendar),
+        "spanish" => Meaning::YearWord(Era::Spanish),
+        "creation" => Meaning::YearWord(Era::Creation),
         "day" => Meaning::DayWord,
         "K" => Meaning::Mark(Mark::Kalends),
         "N" => Meaning::Mark(Mark::Nones),
@@ -247,6 +254,7 @@ fn choice_on(line: &str) -> Option<(Option<Calendar>, Choice)> {
         order,
         short_years,
         short_hebrew_years,
+        short_other_years: words.next().map(short_named).unwrap_or(Short::Refuse),
         charters,
     };
     Some((calendar, choice))
@@ -326,9 +334,10 @@ static LISTED: [(&str, &str); 8] = [
         "Ramadan|month 9|islamic\nThout|month 1|coptic\nMeskerem|month 1|ethiopic\nNavasard|month 1|armenian\n\
         Messidor|month 10|french republican",
         "#islamic day refuse refuse day-of-mark\n1.9.41|\n1.9.141|141-9-1\n1 Ramadan 41|\n41-9-1|\n041-9-1|=\n\
-        -41-9-1|=\n#islamic day keep refuse day-of-mark\n1.9.41|41-9-1\n41-9-1|=\n#islamic day 1800 refuse day-of-mark\n\
-        1.9.41|\n41-9-1|\n1.9.1241|1241-9-1\n#coptic day 1800 refuse day-of-mark\n3 Thout 82|\n3 Thout 1582|1582-1-3\n\
-        #coptic day keep refuse day-of-mark\n3 Thout 82|82-1-3\n#ethiopic day refuse refuse day-of-mark\n3 Meskerem 82|\n\
+        -41-9-1|=\n#islamic day refuse refuse day-of-mark keep\n1.9.41|41-9-1\n41-9-1|=\n#islamic day 1800 refuse day-of-mark\n\
+        1.9.41|\n41-9-1|\n1.9.1241|1241-9-1\n#islamic day keep keep day-of-mark 1200\n1.9.41|1241-9-1\n\
+        41-9-1|1241-9-1\n041-9-1|=\n1.9.1341|1341-9-1\n#coptic day 1800 refuse day-of-mark\n3 Thout 82|\n3 Thout 1582|1582-1-3\n\
+        #coptic day refuse refuse day-of-mark keep\n3 Thout 82|82-1-3\n#coptic day keep refuse day-of-mark\n3 Thout 82|\n#ethiopic day refuse refuse day-of-mark\n3 Meskerem 82|\n\
         #armenian day 1800 refuse day-of-mark\n3 Navasard 82|\n3 Navasard 1182|1182-1-3\n\
         #republican day refuse refuse day-of-mark\n3 Messidor 8|8-10-3\n8-10-3|=\n#roman day refuse refuse day-of-mark\n\
         99-1-1|=",
@@ -401,6 +410,7 @@ fn is_stopped(names: &Names, line: &str) -> bool {
         order: Order::DayFirst,
         short_years: Short::Refuse,
         short_hebrew_years: Short::Refuse,
+        short_other_years: Short::Refuse,
         charters: false,
     };
     let stop = stop_of(text.as_bytes(), Calendar::Gregorian, names, &choice);
@@ -435,6 +445,7 @@ fn other_stops(alloc: Global) -> bool {
         order: Order::DayFirst,
         short_years: Short::Refuse,
         short_hebrew_years: Short::Refuse,
+        short_other_years: Short::Refuse,
         charters: false,
     };
     let sunday = "Sonntag, 12. Mai 1806".as_bytes();

@@ -84,6 +84,7 @@ fn is_read(alloc: Global, name: &str, month: &str) -> bool {
         order: Order::DayFirst,
         short_years: Short::Refuse,
         short_hebrew_years: Short::Refuse,
+        short_other_years: Short::Refuse,
         charters: false,
     };
     let Ok(names) = Names::layered(alloc, &listed) else {

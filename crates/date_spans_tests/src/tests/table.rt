@@ -24,11 +24,56 @@ V 1806|1806-5-1|1806-5-31|
 1806.05|=|=|unread
 Mai 06|=|=|unread
 06|=|=|unread
-im Jahr 75|||
+im Jahr 75|75-1-1|75-12-31|
 im Jahr 175|175-1-1|175-12-31|
 12.5. Jahr 1806|1806-5-12|1806-5-12|
 12. Mai 1806 Jahr|1806-5-12|1806-5-12|
-12. Mai Jahr 75|||
+12. Mai Jahr 75|75-5-12|75-5-12|
+Frühjahr 1806|1806-3-1|1806-5-31|
+1806 Frühjahr|1806-3-1|1806-5-31|
+Frühjahr 06|=|=|unread
+12. Frühjahr 1806|=|=|unread
+Frühjahr - Herbst 1806|1806-3-1|1806-11-30|
+ca. Frühjahr 1806|1806-3-1|1806-5-31|about
+vor Frühjahr 1806||1806-02-28|before
+nach Frühjahr 1806|1806-06-01||after
+18. Jh.|1701-1-1|1800-12-31|
+Jh. XVIII|1701-1-1|1800-12-31|
+18. saec.|1700-1-1|1799-12-31|
+17.-18. Jh.|1601-1-1|1800-12-31|
+1. Jh.|=|=|unread
+30. Jh.|2901-1-1|3000-12-31|
+31. Jh.|=|=|unread
+vor 18. Jh.||1700-12-31|before
+1790s|1790-1-1|1799-12-31|
+um 1790s|1790-1-1|1799-12-31|about
+1790s bis 1810s|1790-1-1|1819-12-31|
+1800s|=|=|unread
+Anfang 1790|1790-1-1|1790-4-30|
+Mitte 1790|1790-5-1|1790-8-31|
+Ende 1790|1790-9-1|1790-12-31|
+1. Hälfte 1790|1790-1-1|1790-6-30|
+4. Viertel 1790|1790-10-1|1790-12-31|
+Anfang 18. Jh.|1701-1-1|1733-12-31|
+Mitte 18. Jh.|1734-1-1|1766-12-31|
+Ende 18. Jh.|1767-1-1|1800-12-31|
+1. Hälfte 18. Jh.|1701-1-1|1750-12-31|
+4. Viertel 18. saec.|1775-1-1|1799-12-31|
+Anfang Jh. XVIII|1701-1-1|1733-12-31|
+Anfang Mai 1790|=|=|unread
+1790 Anfang|=|=|unread
+Anfang - Mitte 1790|1790-1-1|1790-8-31|
+Ultimo März 1763|1763-3-31|1763-3-31|
+Ultimo Februar 1764|1764-2-29|1764-2-29|
+Ultimo März 63|=|=|unread
+Ultimo 3. März 1763|=|=|unread
+bis Ultimo März 1763||1763-3-31|to
+vor Ultimo März 1763||1763-03-30|before
+1795s|=|=|unread
+o. D.|||undated
+o. D.?|||undated uncertain
+[o. D.]|||undated inferred
+o. D. 1806|=|=|unread
 Mai|=|=|unread
 12 Mai|=|=|unread
 Mai 99999|99999-5-1|99999-5-31|
@@ -234,6 +279,27 @@ im Jahr 75|1875-1-1|1875-12-31|
 5/12/1806 - 5/14/1806|1806-5-12|1806-5-14|
 May 12-14, 1806|=|=|unread
 #julian day refuse refuse
+era 1381|1343-1-1|1343-12-31|
+Mai era 1381|1343-5-1|1343-5-31|
+5.-7. Mai era 1381|1343-5-5|1343-5-7|
+era 1381-1385|=|=|unread
+1381 bis era 1385|=|=|unread
+era 1381 bis era 1385|1343-1-1|1347-12-31|
+vor era 1381||1342-12-31|before
+Frühjahr era 1381|1343-3-1|1343-5-31|
+era 1461|=|=|unread
+7157 mundi|1648-9-1|1649-8-31|
+Ultimo Feb 7157 mundi|1649-2-28|1649-2-28|
+Anfang 7157 mundi|=|=|unread
+Anfang era 1381|1343-1-1|1343-4-30|
+mundi 7157|1648-9-1|1649-8-31|
+Mai 7157 mundi|1649-5-1|1649-5-31|
+September 7157 mundi|1648-9-1|1648-9-30|
+Frühjahr 7157 mundi|1649-3-1|1649-5-31|
+Herbst 7157 mundi|1648-9-1|1648-11-30|
+Sommerhalbjahr 7157 mundi|=|=|unread
+nach 7157 mundi|1649-09-01||after
+7209 mundi|=|=|unread
 Mai 1700|1700-5-1|1700-5-31|
 Februar 1700|1700-2-1|1700-2-29|
 vor 1.3.1700||1700-02-29|before
@@ -302,6 +368,10 @@ Ventôse 1799|=|=|unread
 vor an I|||before
 nach an VI|0007-01-01||after
 #hebrew day refuse refuse
+Frühjahr 5507|5507-3-1|5507-5-30|
+Sommerhalbjahr 5507|=|=|unread
+Anfang 5507|=|=|unread
+Ultimo Tischri 5507|5507-7-30|5507-7-30|
 Tischri 5507|5507-7-1|5507-7-30|
 5507|5507-7-1|5507-6-29|
 Adar II 5603|5603-13-1|5603-13-29|
@@ -326,6 +396,7 @@ Adar II 5603 bis Tischri 5604|5603-13-1|5604-7-30|
 #hebrew day refuse 5000
 507|5507-7-1|5507-6-29|
 #islamic day refuse refuse
+Herbst 1241|1241-9-1|1241-11-30|
 Ramadan 1241|1241-9-1|1241-9-30|
 1241|1241-1-1|1241-12-29|
 nach Ramadan 1241|1241-10-01||after

@@ -11,6 +11,7 @@ const YEAR_FIRST: Choice = Choice {
     order: Order::YearFirst,
     short_years: Short::Refuse,
     short_hebrew_years: Short::Refuse,
+    short_other_years: Short::Refuse,
     charters: false,
 };
 
@@ -18,6 +19,7 @@ const MONTH_FIRST: Choice = Choice {
     order: Order::MonthFirst,
     short_years: Short::Refuse,
     short_hebrew_years: Short::Refuse,
+    short_other_years: Short::Refuse,
     charters: false,
 };
 
@@ -25,6 +27,7 @@ const DAY_FIRST_KEPT: Choice = Choice {
     order: Order::DayFirst,
     short_years: Short::Keep,
     short_hebrew_years: Short::Refuse,
+    short_other_years: Short::Refuse,
     charters: false,
 };
 
@@ -32,6 +35,7 @@ const DAY_FIRST_ADD_1800: Choice = Choice {
     order: Order::DayFirst,
     short_years: Short::Add(1800),
     short_hebrew_years: Short::Refuse,
+    short_other_years: Short::Refuse,
     charters: false,
 };
 
@@ -39,6 +43,7 @@ const DAY_FIRST_ADD_1900: Choice = Choice {
     order: Order::DayFirst,
     short_years: Short::Add(1900),
     short_hebrew_years: Short::Refuse,
+    short_other_years: Short::Refuse,
     charters: false,
 };
 
@@ -46,6 +51,7 @@ const DAY_FIRST_CHARTERS: Choice = Choice {
     order: Order::DayFirst,
     short_years: Short::Refuse,
     short_hebrew_years: Short::Refuse,
+    short_other_years: Short::Refuse,
     charters: true,
 };
 
@@ -53,10 +59,49 @@ const DAY_FIRST_HEBREW_5000: Choice = Choice {
     order: Order::DayFirst,
     short_years: Short::Refuse,
     short_hebrew_years: Short::Add(5000),
+    short_other_years: Short::Refuse,
     charters: false,
 };
 
-const CASES: [Case; 40] = [
+const CASES: [Case; 43] = [
+    Case {
+        delimiter: b';',
+        above: 0,
+        dates: &DATE_0_IN_1,
+        columns: &DAY_AND_GREGORIAN,
+        spans: Spans::Unread,
+        reading: DAY_FIRST,
+        sheet: "D;C\n12 Mai era 1300;julian\n12 Mai era 38;julian\n12 Mai era 1461;julian\n12 Mai era;julian\n",
+        wanted: "D;C;rd;gregorian;refusal\n12 Mai era 1300;julian;460710;1262-05-19;\n\
+            12 Mai era 38;julian;;;5\n12 Mai era 1461;julian;;;5\n12 Mai era;julian;;;5\n",
+        rows: 4,
+        counts: &[(3, 0)],
+    },
+    Case {
+        delimiter: b';',
+        above: 0,
+        dates: &DATE_0_IN_1,
+        columns: &DAY_AND_GREGORIAN,
+        spans: Spans::Unread,
+        reading: DAY_FIRST,
+        sheet: "D;C\n12 Mai lětom 7070;julian\n1.9. lětom 7070;julian\n12 Mai lětom 7209;julian\n",
+        wanted: "D;C;rd;gregorian;refusal\n12 Mai lětom 7070;julian;570285;1562-05-22;\n\
+            1.9. lětom 7070;julian;570032;1561-09-11;\n12 Mai lětom 7209;julian;;;5\n",
+        rows: 3,
+        counts: &[(1, 0)],
+    },
+    Case {
+        delimiter: b';',
+        above: 0,
+        dates: &DATE_0_IN_1,
+        columns: &DAY_AND_GREGORIAN,
+        spans: Spans::Unread,
+        reading: DAY_FIRST,
+        sheet: "D;C\ns. d.;gregorian\nS.D.;gregorian\n",
+        wanted: "D;C;rd;gregorian;refusal\ns. d.;gregorian;;;5\nS.D.;gregorian;;;5\n",
+        rows: 2,
+        counts: &[(2, 0)],
+    },
     Case {
         delimiter: b';',
         above: 0,

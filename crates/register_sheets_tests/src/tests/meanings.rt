@@ -6,10 +6,21 @@ use day_numbers::Weekday;
 use register_sheets::{Means, NameList, NameListFault};
 use std::alloc::Global;
 use std::test::Fail;
-use written_dates::{CalendarMeaning, Meaning, Relation};
+use written_dates::{CalendarMeaning, Era, Meaning, Relation, Word};
 
 /// A text, and what it says of a name.
-const SAID: [(&str, Meaning); 17] = [
+const SAID: [(&str, Meaning); 28] = [
+    ("year", Meaning::YearWord(Era::Calendar)),
+    ("year spanish", Meaning::YearWord(Era::Spanish)),
+    ("year creation", Meaning::YearWord(Era::Creation)),
+    ("months 3-5", Meaning::Months(3, 5)),
+    ("months 1-13", Meaning::Months(1, 13)),
+    ("months 12-13", Meaning::Months(12, 13)),
+    ("month 12-13", Meaning::Adar),
+    ("century 0", Meaning::Century(0)),
+    ("century 1", Meaning::Century(1)),
+    ("decade", Meaning::Decade),
+    ("undated", Meaning::Word(Word::Undated)),
     ("weekday 0", Meaning::Weekday(Weekday::Sunday)),
     ("weekday 6", Meaning::Weekday(Weekday::Saturday)),
     ("decade 1", Meaning::DecadeDay(1)),
@@ -45,7 +56,26 @@ const SAID: [(&str, Meaning); 17] = [
 ];
 
 /// Texts that say nothing.
-const NOT_SAID: [&str; 20] = [
+const NOT_SAID: [&str; 39] = [
+    "years",
+    "year calendar",
+    "year  spanish",
+    "year Spanish",
+    "months",
+    "months 3",
+    "months 3-3",
+    "months 5-3",
+    "months 0-3",
+    "months 3-14",
+    "months 13-14",
+    "months 03-5",
+    "months 3 - 5",
+    "months 3-5-7",
+    "month 3-5",
+    "century",
+    "century 2",
+    "century 00",
+    "undated 0",
     "both styles",
     "weekday 7",
     "weekday",

@@ -2,7 +2,7 @@
 //! mark and its text of EDTF were worked out by hand.
 
 use super::table::{Case, DATE_0_IN_1, DAY_AND_GREGORIAN, DAY_FIRST, converted, is_whole};
-use register_sheets::{SheetEnd, Spans};
+use register_sheets::{SheetEnd, Spans, UnreadDates};
 use std::test::Fail;
 
 const ENDS: Case = Case {
@@ -69,6 +69,26 @@ const BOTH_STYLES: Case = Case {
     counts: &[(3, 1)],
 };
 
+/// Texts that say no date: bare, in brackets, with a date, with a word that is not known, and in a calendar that is not
+/// known.
+const UNDATED: Case = Case {
+    delimiter: b';',
+    above: 0,
+    dates: &DATE_0_IN_1,
+    columns: &DAY_AND_GREGORIAN,
+    spans: Spans::EndsAndEdtf,
+    reading: DAY_FIRST,
+    sheet: "D;C\ns. d.;gregorian\n[S.D.];julian\ns. d. 12.5.1806;gregorian\ns. d. Foo;gregorian\ns. d.;mondisch\n",
+    wanted: "D;C;first rd;first gregorian;last rd;last gregorian;edtf;mark;refusal\n\
+        s. d.;gregorian;;;;;;undated;5\n\
+        [S.D.];julian;;;;;;undated inferred;5\n\
+        s. d. 12.5.1806;gregorian;;;;;;;5\n\
+        s. d. Foo;gregorian;;;;;;;5\n\
+        s. d.;mondisch;;;;;;;4\n",
+    rows: 5,
+    counts: &[(5, 0)],
+};
+
 /// How many dates of the first column are no single day.
 fn spans_of(end: SheetEnd) -> usize {
     match end {
@@ -90,6 +110,27 @@ fn dates_in_both_styles(rt: HostRuntime) -> Result<(), Fail> {
     let (text, end) = converted(rt.alloc(), &BOTH_STYLES)?;
     assert!(rt; text.as_slice() == BOTH_STYLES.wanted.as_bytes());
     assert!(rt; is_whole(end, &BOTH_STYLES) && spans_of(end) == 0);
+    Ok(())
+}
+
+/// Whether two dates were stopped by a name, of the word and of the calendar, and one for no other reason than that it is no
+/// date.
+fn is_unread(unread: UnreadDates) -> bool {
+    let reasons = unread.reasons;
+    let mut other = UnreadDates::none().reasons;
+    other.no_date = 1;
+    unread.stopped == 2 && unread.short == 0 && reasons == other
+}
+
+#[test]
+fn texts_that_say_no_date(rt: HostRuntime) -> Result<(), Fail> {
+    let (text, end) = converted(rt.alloc(), &UNDATED)?;
+    assert!(rt; text.as_slice() == UNDATED.wanted.as_bytes());
+    assert!(rt; is_whole(end, &UNDATED) && spans_of(end) == 0);
+    match end {
+        SheetEnd::Whole { unread, .. } => assert!(rt; is_unread(unread)),
+        SheetEnd::Broken { .. } => assert!(rt; false),
+    }
     Ok(())
 }
 

@@ -46,6 +46,9 @@ ca.,about,
 bis,to,
 zw.,between,
 u.,and,
+era,year spanish,
+lětom,year creation,
+s. d.,undated,
 ";
 
 /// A sheet, what is chosen of it, and what comes back: the sheet, how many records it has, and how many dates of each column
@@ -177,6 +180,7 @@ pub(super) const DAY_FIRST: Choice = Choice {
     order: Order::DayFirst,
     short_years: Short::Refuse,
     short_hebrew_years: Short::Refuse,
+    short_other_years: Short::Refuse,
     charters: false,
 };
 

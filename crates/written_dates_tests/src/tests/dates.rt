@@ -1,7 +1,7 @@
 //! Texts, and what is written for them.
 
 /// After a sign `#`: a calendar, the order, what is done with short years and with short Hebrew ones, and whether the
-/// year of a Roman date is that of its day. Below it: a text, and what is written for it, `=` where that is the text.
+/// year of a Roman date is that of its day; and what is done with short years of other calendars. Below it: a text, and what is written for it, `=` where that is the text.
 /// The answers were found by hand.
 pub(super) const DATES: &str = "\
 #gregorian day refuse refuse day-of-mark
@@ -539,9 +539,32 @@ die 1806 Mai 12|=
 12 Mai 1806 roku|1806-5-12
 12 Mai roku 1806|1806-5-12
 12.5. anno 1806|1806-5-12
-12. Mai anno 6|
+12. Mai anno 6|6-5-12
 anno 1712 Ostern|=
 Ostern anno 1712|1712-4-20
+#gregorian day 1800 refuse day-of-mark
+12. Mai anno 6|1806-5-12
+#julian day 1800 refuse day-of-mark
+5 de Mai, era de 1381|1343-5-5
+5 Mai era MCCCLXXXI|1343-5-5
+era 1381 Mai 5|1343-5-5
+5 Mai 1381 era|1343-5-5
+5 Mai 81 era|=
+5 Mai era 1460|1422-5-5
+5 Mai era 1461|=
+5 Mai era 38|=
+5 Mai era 39|1-5-5
+Ostern era 1381|1343-4-13
+Dienstag 5 Mai era 1381|=
+Montag 5 Mai era 1381|1343-5-5
+7157 года от сотворения мира сентября 1|1648-9-1
+31 августа 7157 года от сотворения мира|1649-8-31
+1 сентября 7208 от сотворения мира|1699-9-1
+1 сентября 7209 от сотворения мира|=
+1 сентября 5508 от сотворения мира|=
+31 августа 5509 от сотворения мира|1-8-31
+Ostern 7157 от сотворения мира|=
+2. Montag сентября 7157 от сотворения мира|1648-9-11
 #french day refuse refuse day-of-mark
 décadi 20 ventôse an 6|6-6-20
 primidi 20 ventôse an 6|=

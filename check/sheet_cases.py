@@ -163,7 +163,15 @@ REASONS = [f"standard input: {line}" for line in (
 STAYING_COLUMNS = "--date d --calendar c --order day --names weekdays.csv"
 
 # Short years of several calendars. Days of the years 41 and 1341 by the epochs and rules of docs/DEFINITIONS.md.
-OTHERS = "d,c\n" + "".join(f"12.5.41,{it}\n" for it in ("islamic", "coptic", "ethiopic", "armenian", "julian", "hebrew"))
+OTHERS = """\
+d,c
+12.5.41,islamic
+12.5.41,coptic
+12.5.41,ethiopic
+12.5.41,armenian
+12.5.41,julian
+12.5.41,hebrew
+"""
 OTHERS_COLUMNS = "--date d --calendar c --order day --to gregorian"
 
 TWO_DATES = "title\n a ;b\n1001-1-1;1001-1-1\nx;1001-1-1\n"

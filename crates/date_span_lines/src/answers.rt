@@ -18,6 +18,7 @@ fn choice_of(order: &str) -> Choice {
         order,
         short_years: Short::Refuse,
         short_hebrew_years: Short::Refuse,
+        short_other_years: Short::Refuse,
         charters: false,
     }
 }
@@ -45,6 +46,7 @@ fn push_marks(out: &mut String, marks: Marks) -> Result<(), AllocError> {
         Kind::After => "after",
         Kind::From => "from",
         Kind::Until => "to",
+        Kind::Undated => "undated",
         Kind::Unread => "unread",
         Kind::One | Kind::Range => "",
     };

@@ -4,7 +4,7 @@ use church_year::{Anchor, Feast, Season};
 use date_texts::calendar_named;
 use day_numbers::Weekday;
 use std::alloc::{AllocError, Global};
-use written_dates::{Calendars, Meaning, Name, Relation, Word};
+use written_dates::{Calendars, Era, Meaning, Name, Relation, Word};
 
 /// The number that a text is, or 0.
 fn number_of(text: &str) -> u32 {
@@ -30,8 +30,12 @@ fn word_meaning(text: &str) -> Option<Meaning> {
     match text {
         "" => Some(Meaning::Nothing),
         "month 12-13" => Some(Meaning::Adar),
-        "year" => Some(Meaning::YearWord),
+        "year" => Some(Meaning::YearWord(Era::Calendar)),
+        "year spanish" => Some(Meaning::YearWord(Era::Spanish)),
+        "year creation" => Some(Meaning::YearWord(Era::Creation)),
         "day" => Some(Meaning::DayWord),
+        "last day" => Some(Meaning::LastDay),
+        "decade" => Some(Meaning::Decade),
         "before" => Some(Meaning::Relation(Relation::Before)),
         "after" => Some(Meaning::Relation(Relation::After)),
         "about" => Some(Meaning::Word(Word::About)),
@@ -39,6 +43,7 @@ fn word_meaning(text: &str) -> Option<Meaning> {
         "to" => Some(Meaning::Word(Word::To)),
         "between" => Some(Meaning::Word(Word::Between)),
         "and" => Some(Meaning::Word(Word::And)),
+        "undated" => Some(Meaning::Word(Word::Undated)),
         _ => None,
     }
 }
@@ -94,6 +99,20 @@ fn sundays_of(text: &str) -> Option<Season> {
     season_of(text.strip_prefix("sundays ")?)
 }
 
+/// A part of a year, as `months 3-5`, of a year or a century, as `part 1/3`, or a century, as `century 0`.
+fn part_of(text: &str) -> Option<Meaning> {
+    if let Some(months) = text.strip_prefix("months ") {
+        let (first, last) = months.split_once('-')?;
+        return Some(Meaning::Months(small_number(first), small_number(last)));
+    }
+    if let Some(part) = text.strip_prefix("part ") {
+        let (place, parts) = part.split_once('/')?;
+        return Some(Meaning::Part(small_number(place), small_number(parts)));
+    }
+    let first = text.strip_prefix("century ")?;
+    Some(Meaning::Century(small_number(first)))
+}
+
 fn meaning_of(text: &str) -> Meaning {
     if let Some(meaning) = word_meaning(text) {
         return meaning;
@@ -103,6 +122,9 @@ fn meaning_of(text: &str) -> Meaning {
     }
     if let Some(season) = sundays_of(text) {
         return Meaning::Sundays(season);
+    }
+    if let Some(part) = part_of(text) {
+        return part;
     }
     if let Some(number) = text.strip_prefix("month ") {
         return Meaning::Month(small_number(number));

@@ -8,6 +8,7 @@ abbrev pub is_bare : Meaning → Bool
 is_bare meaning.Nothing = true
 is_bare meaning.DayWord = true
 is_bare meaning.Adar = true
+is_bare meaning.LastDay = true
 is_bare meaning.Decade = true
 is_bare other = false
 
@@ -16,6 +17,7 @@ abbrev pub is_counted : Meaning → Bool
 is_counted (meaning.Number number) = true
 is_counted (meaning.Month month) = true
 is_counted (meaning.Months first last) = true
+is_counted (meaning.Part place parts) = true
 is_counted (meaning.DecadeDay day) = true
 is_counted (meaning.Century first) = true
 is_counted other = false

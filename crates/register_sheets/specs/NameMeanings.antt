@@ -89,6 +89,12 @@ abbrev pub AreMonths : List ℕ → ℕ → ℕ → Type 0
 AreMonths text first last =
     (1 ≤ first) × (first < last) × (last ≤ 13) × (text ≡ codes "months " ++ (decimal first ++ 45 ∷ decimal last))
 
+-- the text says one of two, three or four parts, with a slash (47) between its place and their number
+abbrev pub IsPart : List ℕ → ℕ → ℕ → Type 0
+IsPart text place parts =
+    (1 ≤ place) × (place ≤ parts) × (2 ≤ parts) × (parts ≤ 4)
+    × (text ≡ codes "part " ++ (decimal place ++ 47 ∷ decimal parts))
+
 -- a feast is a year at most from another day
 abbrev pub IsFewDays : ℤ → Type 0
 IsFewDays days = (neg_ℤ (pos 366) ≤ℤ days) × (days ≤ℤ pos 366)
@@ -120,6 +126,8 @@ SaysMeaning field meaning.DayWord = field ≡ codes "day"
 SaysMeaning field (meaning.Month month) = IsWordAndNumber (codes "month") 1 13 field month
 SaysMeaning field meaning.Adar = field ≡ codes "month 12-13"
 SaysMeaning field (meaning.Months first last) = AreMonths field first last
+SaysMeaning field (meaning.Part place parts) = IsPart field place parts
+SaysMeaning field meaning.LastDay = field ≡ codes "last day"
 SaysMeaning field (meaning.Century first) = IsWordAndNumber (codes "century") 0 1 field first
 SaysMeaning field meaning.Decade = field ≡ codes "decade"
 SaysMeaning field (meaning.Number number) = IsNumberIn 0 999_999_999 field number

@@ -6,7 +6,7 @@ ghost use Rattle.date_texts.specs.Calendars.{calendar_name};
 ghost use Rattle.date_texts.specs.Names.{IsNamed};
 ghost use Rattle.date_texts.specs.declared.calendar.Calendar.{Calendar as CalendarValue};
 ghost use Rattle.register_sheets.specs.MeaningViews.{is_bare, is_counted, is_named};
-ghost use Rattle.register_sheets.specs.NameMeanings.{AreMonths, era_name};
+ghost use Rattle.register_sheets.specs.NameMeanings.{AreMonths, IsPart, era_name};
 ghost use Rattle.register_sheets.specs.NameMeanings.{IsNumberIn, IsWordAndNumber, Says, SaysCalendar, SaysChange};
 ghost use Rattle.written_dates.specs.declared.fields.CalendarMeaning.{CalendarMeaning as CalendarMeaningValue};
 ghost use Rattle.register_sheets.specs.NameMeanings.{SaysMeaning, mark_name, relation_name, season_name, weekday_name, word_name};
@@ -90,6 +90,17 @@ fn months_said(field: &str) -> Option<(u8, u8)>
     let first = number_said(first, 1, 13)?;
     let last = number_said(last, first + 1, 13)?;
     Some((first as u8, last as u8))
+}
+
+/// The place of a part, and the number of parts, that `part 1/3` and the like say.
+fn part_said(field: &str) -> Option<(u8, u8)>
+    ensures some { IfSome result (λ part. IsPart field.now part.0 part.1) }
+    ensures none { result ≡ None → (place parts : ℕ) → ¬ IsPart field.now place parts }
+{
+    let (place, parts) = field.strip_prefix("part ")?.split_once('/')?;
+    let parts = number_said(parts, 2, 4)?;
+    let place = number_said(place, 1, parts)?;
+    Some((place as u8, parts as u8))
 }
 
 /// With what the first year of a century ends, by `century 0` or `century 1`.
@@ -191,6 +202,7 @@ fn bare_said(field: &str) -> Option<Meaning>
         "" => Some(Meaning::Nothing),
         "day" => Some(Meaning::DayWord),
         "month 12-13" => Some(Meaning::Adar),
+        "last day" => Some(Meaning::LastDay),
         "decade" => Some(Meaning::Decade),
         _ => None,
     }
@@ -208,6 +220,8 @@ fn counted_said(field: &str) -> Option<Meaning>
         Some(Meaning::Month(month))
     } else if let Some((first, last)) = months_said(field) {
         Some(Meaning::Months(first, last))
+    } else if let Some((place, parts)) = part_said(field) {
+        Some(Meaning::Part(place, parts))
     } else if let Some(day) = decade_day_said(field) {
         Some(Meaning::DecadeDay(day))
     } else {

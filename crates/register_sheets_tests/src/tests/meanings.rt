@@ -9,7 +9,7 @@ use std::test::Fail;
 use written_dates::{CalendarMeaning, Era, Meaning, Relation, Word};
 
 /// A text, and what it says of a name.
-const SAID: [(&str, Meaning); 28] = [
+const SAID: [(&str, Meaning); 31] = [
     ("year", Meaning::YearWord(Era::Calendar)),
     ("year spanish", Meaning::YearWord(Era::Spanish)),
     ("year creation", Meaning::YearWord(Era::Creation)),
@@ -19,6 +19,9 @@ const SAID: [(&str, Meaning); 28] = [
     ("month 12-13", Meaning::Adar),
     ("century 0", Meaning::Century(0)),
     ("century 1", Meaning::Century(1)),
+    ("part 1/2", Meaning::Part(1, 2)),
+    ("part 4/4", Meaning::Part(4, 4)),
+    ("last day", Meaning::LastDay),
     ("decade", Meaning::Decade),
     ("undated", Meaning::Word(Word::Undated)),
     ("weekday 0", Meaning::Weekday(Weekday::Sunday)),
@@ -56,7 +59,7 @@ const SAID: [(&str, Meaning); 28] = [
 ];
 
 /// Texts that say nothing.
-const NOT_SAID: [&str; 39] = [
+const NOT_SAID: [&str; 48] = [
     "years",
     "year calendar",
     "year  spanish",
@@ -76,6 +79,15 @@ const NOT_SAID: [&str; 39] = [
     "century 2",
     "century 00",
     "undated 0",
+    "part",
+    "part 1",
+    "part 1/1",
+    "part 0/3",
+    "part 4/3",
+    "part 1/5",
+    "part 1-3",
+    "part 01/3",
+    "last",
     "both styles",
     "weekday 7",
     "weekday",

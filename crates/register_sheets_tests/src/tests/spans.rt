@@ -69,6 +69,30 @@ const BOTH_STYLES: Case = Case {
     counts: &[(3, 1)],
 };
 
+/// A part of a year, centuries, ten years, the first part of three of a year, the last day of a month, and none of these.
+const PARTS: Case = Case {
+    delimiter: b';',
+    above: 0,
+    dates: &DATE_0_IN_1,
+    columns: &DAY_AND_GREGORIAN,
+    spans: Spans::Ends,
+    reading: DAY_FIRST,
+    sheet: "D;C\nFrühjahr 1750;gregorian\n18. Jh.;gregorian\nsiècle XVIII;gregorian\n1790s;gregorian\n\
+        Anfang 1790;gregorian\nUltimo Mai 1750;gregorian\nFrühjahr;gregorian\nJh.;gregorian\n31. Jh.;gregorian\n\
+        1800s;gregorian\nAnfang Mai 1790;gregorian\nUltimo 1750;gregorian\n",
+    wanted: "D;C;first rd;first gregorian;last rd;last gregorian;mark;refusal\n\
+        Frühjahr 1750;gregorian;638869;1750-03-01;638960;1750-05-31;;\n\
+        18. Jh.;gregorian;620913;1701-01-01;657436;1800-12-31;;\n\
+        siècle XVIII;gregorian;620548;1700-01-01;657071;1799-12-31;;\n\
+        1790s;gregorian;653420;1790-01-01;657071;1799-12-31;;\n\
+        Anfang 1790;gregorian;653420;1790-01-01;653539;1790-04-30;;\n\
+        Ultimo Mai 1750;gregorian;638960;1750-05-31;638960;1750-05-31;;\n\
+        Frühjahr;gregorian;;;;;;5\nJh.;gregorian;;;;;;5\n31. Jh.;gregorian;;;;;;5\n\
+        1800s;gregorian;;;;;;5\nAnfang Mai 1790;gregorian;;;;;;5\nUltimo 1750;gregorian;;;;;;5\n",
+    rows: 12,
+    counts: &[(6, 0)],
+};
+
 /// Texts that say no date: bare, in brackets, with a date, with a word that is not known, and in a calendar that is not
 /// known.
 const UNDATED: Case = Case {
@@ -102,6 +126,14 @@ fn first_and_last_days(rt: HostRuntime) -> Result<(), Fail> {
     let (text, end) = converted(rt.alloc(), &ENDS)?;
     assert!(rt; text.as_slice() == ENDS.wanted.as_bytes());
     assert!(rt; is_whole(end, &ENDS) && spans_of(end) == 6);
+    Ok(())
+}
+
+#[test]
+fn parts_of_years_and_whole_centuries(rt: HostRuntime) -> Result<(), Fail> {
+    let (text, end) = converted(rt.alloc(), &PARTS)?;
+    assert!(rt; text.as_slice() == PARTS.wanted.as_bytes());
+    assert!(rt; is_whole(end, &PARTS) && spans_of(end) == 5);
     Ok(())
 }
 

@@ -49,6 +49,12 @@ u.,and,
 era,year spanish,
 lětom,year creation,
 s. d.,undated,
+Frühjahr,months 3-5,
+Jh.,century 1,
+siècle,century 0,
+s,decade,
+Anfang,part 1/3,
+Ultimo,last day,
 ";
 
 /// A sheet, what is chosen of it, and what comes back: the sheet, how many records it has, and how many dates of each column

@@ -37,9 +37,10 @@ for (let n = 1; n < 4000; n += 1) {
   ROMAN.set("M".repeat(n / 1000 | 0) + tens + digit(n % 10, "I", "V", "X"), n);
 }
 
-// A number is `{value, digits}`, with 0 digits if it is a Roman one or a name, and `isNamed` for a name; `isYear` behind
-// a word for year, `isDay` beside a word for day. Other items have what they mean: `{month}`, `{mark}`, `{weekday}`,
-// `{decade}`, `{relation}`, `{feast}`, `{season}`, `{yearWord}`, `{dayWord}`, `{word}`, `{adar}`.
+// A number is `{value, digits}`, with 0 digits if it is a Roman one or a name, and `isNamed` for a name; `era` beside a word
+// for year, with the era of its years, `isDay` beside a word for day. Other items have what they mean: `{month}`, `{mark}`,
+// `{weekday}`, `{decade}`, `{relation}`, `{feast}`, `{season}`, `{yearWord}`, `{dayWord}`, `{word}`, `{adar}`, `{months}`,
+// `{century}`, `{tens}`, `{part}`, `{lastDay}`.
 function numberOf(part) {
   if (/^[0-9]/.test(part)) return part.length > 9 ? null : { value: Number(part), digits: part.length };
   return ROMAN.has(part) ? { value: ROMAN.get(part), digits: 0, isNamed: false } : null;
@@ -69,17 +70,33 @@ function itemsOf(text, names) {
 const addsTo = (a, b) => a.value >= 1000 && a.value % 1000 === 0 && b.value < 1000
   || a.value >= 100 && a.value % 100 === 0 && b.value < 100;
 
-const isLong = n => n.isYear || n.digits >= 3 || n.digits === 0 && n.value >= 100;
+const isLong = n => n.era !== undefined || n.digits >= 3 || n.digits === 0 && n.value >= 100;
 
-// What a number is beside a word for year or for day, or null where they do not belong together.
-function besideWord(number, word, isBehind) {
-  if (word.yearWord) return isBehind ? { ...number, isYear: true } : isLong(number) ? number : null;
-  return isLong(number) ? null : { ...number, isDay: true };
+// The first and the last year of other eras than that of the calendar.
+const YEARS_OF = { spanish: [39, 1460], creation: [5509, 7208] };
+const isOtherEra = era => era in YEARS_OF;
+const hasYear = (era, year) => !isOtherEra(era) || year >= YEARS_OF[era][0] && year <= YEARS_OF[era][1];
+
+// A year beside its word, or null where its era has no such year.
+const inEra = (era, number) => hasYear(era, number.value) ? { ...number, era } : null;
+
+// What a number is beside a word for year or for day, or null where they do not belong together. Before a word for year it
+// is long, and its own years are those of the calendar anyway.
+function besideWord(number, { yearWord: era }, isBehind) {
+  if (era === undefined) return isLong(number) ? null : { ...number, isDay: true };
+  if (isBehind) return inEra(era, number);
+  return !isLong(number) ? null : isOtherEra(era) ? inEra(era, number) : number;
+}
+
+// The sum of two numbers by name, which still is a year of its era; or null.
+function sumOf(a, b) {
+  const value = a.value + b.value;
+  return a.isNamed && b.isNamed && addsTo(a, b) && hasYear(a.era, value) ? { ...a, value } : null;
 }
 
 // The one item that two items are, or null. A word for day before a weekday or a feast says nothing more.
 function togetherOf(a, b) {
-  if ("value" in a && "value" in b) return a.isNamed && b.isNamed && addsTo(a, b) ? { ...a, value: a.value + b.value } : null;
+  if ("value" in a && "value" in b) return sumOf(a, b);
   if ("value" in b && (a.yearWord || a.dayWord)) return besideWord(b, a, true);
   if ("value" in a && (b.yearWord || b.dayWord)) return besideWord(a, b, false);
   return a.dayWord && ("weekday" in b || "feast" in b) ? b : null;
@@ -98,14 +115,15 @@ function added(items) {
 
 const LETTERS = {
   value: "n", month: "m", mark: "k", weekday: "w", decade: "d", relation: "r", feast: "f", season: "s", yearWord: "y",
-  dayWord: "t", word: "o", adar: "a",
+  dayWord: "t", word: "o", adar: "a", months: "p", century: "c", tens: "z", part: "q",
+  lastDay: "l",
 };
 const letterOf = item => LETTERS[Object.keys(LETTERS).find(key => key in item)];
 const formOf = items => items.map(letterOf).join("");
 
 // ---- the rules: what they read is a rule's name, the year, and what finds the month and the day in a year
 
-const plain = (rule, year, month, day) => ({ rule, year, find: () => ({ month, day }) });
+const plain = (rule, year, month, day) => ({ rule, year, month, find: () => ({ month, day }) });
 
 function byOrder(rule, order, [a, b, c]) {
   if (order === "y") return plain(rule, a, b.value, c.value);
@@ -159,7 +177,7 @@ function weekdayInMonth(calendar, [count, { weekday }, { month }, year]) {
     const isAnother = isOn(inYear, count.value) && day !== count.value;
     return day === undefined || isAnother ? null : { month, day };
   };
-  return { rule: "weekday in a month", year, find };
+  return { rule: "weekday in a month", year, month, find };
 }
 
 // The season of Sundays behind a feast.
@@ -225,18 +243,32 @@ function isDecadeDay(calendar, { month, day }, decade) {
 
 const stays = (text, reason) => ({ text, rule: null, reason });
 
-// What is done with a year: it is kept, the date is left empty, or years are added. A century is one of the churches'.
-function ruleOf({ value, digits }, choice, calendar) {
+// What is done with a year that stands alone: it is kept, the date is left empty, or years are added.
+function ruleAlone({ value, digits }, choice, calendar) {
   const ofTwo = value < 100 && digits <= 2;
   if (CHURCHES.includes(calendar) && ofTwo) return choice.short;
   if (calendar === "hebrew") return value < 1000 && digits <= 3 ? choice.hebrew : "k";
-  return ofTwo && !KEEP_SHORT.includes(calendar) && choice.short !== "k" ? "r" : "k";
+  return ofTwo && !KEEP_SHORT.includes(calendar) ? choice.other : "k";
 }
 
-function byYear(year, choice, calendar) {
-  const rule = ruleOf(year, choice, calendar);
-  if (rule === "r") return null;
-  return rule === "k" ? year.value : year.value + rule;
+// Beside a word for year it is kept and not refused; years of another era are never short.
+function ruleOf(year, choice, calendar) {
+  const rule = isOtherEra(year.era) ? "k" : ruleAlone(year, choice, calendar);
+  return rule === "r" && year.era !== undefined ? "k" : rule;
+}
+
+// The year of the calendar that a year is in a month; null where the month has to be known, and is not. The Spanish era is
+// 38 years ahead. Years from the creation of the world begin in September of the year 5509 before theirs.
+function counted({ value, era }, month) {
+  if (era === "spanish") return value - 38;
+  if (era !== "creation") return value;
+  return month === undefined ? null : value - (month >= 9 ? 5509 : 5508);
+}
+
+function byYear(year, choice, calendar, month) {
+  const rule = ruleOf(year, choice, calendar), number = counted(year, month);
+  if (rule === "r" || number === null) return null;
+  return rule === "k" ? number : number + rule;
 }
 
 // A date as registers have it, or null.
@@ -254,7 +286,9 @@ function ofRegister(bare, calendar, { order, ...choice }) {
 function roman(text, items, charters) {
   const form = formOf(items);
   if (form !== "nkmn" && form !== "kmn") return stays(text, "no date");
-  const [{ mark }, { month }, year] = items.slice(-3), count = form === "nkmn" ? items[0].value : 1;
+  const [{ mark }, { month }, year] = items.slice(-3);
+  if (isOtherEra(year.era)) return stays(text, "another era");
+  const count = form === "nkmn" ? items[0].value : 1;
   const later = charters && mark === "K" && month === 1 && count >= 2 ? 1 : 0;
   return { text: `${year.value + later}-${month}-${mark}${count}`, rule: "Roman date" };
 }
@@ -269,9 +303,10 @@ function missing(items) {
 const isHalfYear = (year, calendar) => CHURCHES.includes(calendar) && year.isNamed === true && year.value < 100;
 
 // The date that a reading names, if all weekdays and days of decades in the text are its.
-function dated(text, calendar, choice, items, { rule, year: number, find }) {
+function dated(text, calendar, choice, items, { rule, year: number, month, find }) {
   if (isHalfYear(number, calendar)) return stays(text, "no date");
-  const year = byYear(number, choice, calendar);
+  if (counted(number, month) === null) return stays(text, "a feast in a year of the creation");
+  const year = byYear(number, choice, calendar, month);
   if (year === null) return stays("", "short year");
   if (REPUBLICAN.includes(calendar) && year > 99) return stays(text, "no such year");
   const date = find(year);
@@ -324,6 +359,6 @@ function written(text, calendar, choice, names) {
 }
 
 module.exports = {
-  added, bareOf, byYear, folded, formOf, hasMixedSigns, hasOther, isBeside, isDecadeDay, isHalfYear, isLong, isOnWeekday,
-  itemsOf, ofThree, partsOf, withoutTime, written,
+  added, bareOf, byYear, counted, folded, formOf, hasMixedSigns, hasOther, isBeside, isDecadeDay, isHalfYear, isLong,
+  isOnWeekday, isOtherEra, itemsOf, ofThree, partsOf, withoutTime, written,
 };

@@ -39,6 +39,9 @@ REFUSED = {
     "--date=1 --all=iso --short-years=2100": "bad short years: 2100",
     "--date=1 --all=iso --short-years=0": "bad short years: 0",
     "--date=1 --all=iso --short-hebrew-years=4000": "bad short Hebrew years: 4000",
+    "--date=1 --all=iso --short-other-years=1350": "bad short years of other calendars: 1350",
+    "--date=1 --all=iso --short-other-years=2100": "bad short years of other calendars: 2100",
+    "--date=1 --all=iso --short-other-years=0": "bad short years of other calendars: 0",
     "--date=1 --all=iso --skip=-1": "bad number of records to skip: -1",
     "--date=1 --all=iso --skip=00": "bad number of records to skip: 00",
     "--date=1 --all=iso --delimiter=,": "unknown delimiter: ,",
@@ -63,7 +66,8 @@ REFUSED = {
     "--order=x --all=mars --date=1": "unknown order: x",
     "--register --all=mars --date=1": "--register is for files",
     "--short-years=x --short-hebrew-years=y --skip=z --date=1 --all=iso": "bad short years: x",
-    "--skip=z --delimiter=y --short-hebrew-years=x --date=1 --all=iso": "bad short Hebrew years: x",
+    "--skip=z --short-other-years=y --short-hebrew-years=x --date=1 --all=iso": "bad short Hebrew years: x",
+    "--skip=z --delimiter=y --short-other-years=x --date=1 --all=iso": "bad short years of other calendars: x",
     "--to=x --delimiter=y --skip=z --date=1 --all=iso": "bad number of records to skip: z",
     "--register --to=x --delimiter=y --date=1 --all=iso": "unknown delimiter: y",
     "--register --to=x --date=1 --all=iso": "unknown column: x",
@@ -73,6 +77,8 @@ REFUSED = {
     "--date=1 --all=iso --short-years=KEEP": "bad short years: KEEP",
     "--date=1 --all=iso --short-years=": "bad short years: ",
     "--date=1 --all=iso --short-hebrew-years=100": "bad short Hebrew years: 100",
+    "--date=1 --all=iso --short-other-years=Keep": "bad short years of other calendars: Keep",
+    "--date=1 --all=iso --short-years=keep --short-other-years=": "bad short years of other calendars: ",
     "--date=1 --all=iso --skip=100000": "bad number of records to skip: 100000",
     "--date=1 --all=iso --skip=000001": "bad number of records to skip: 000001",
     "--date=1 --all=iso --skip=+1": "bad number of records to skip: +1",
@@ -155,6 +161,18 @@ REASONS = [f"standard input: {line}" for line in (
     "2 dates have a minus in front of a number", "1 date names another weekday",
     "1 date has a year that the French Republic did not have", "1 date is no date of its calendar")]
 STAYING_COLUMNS = "--date d --calendar c --order day --names weekdays.csv"
+
+# Short years of several calendars. Days of the years 41 and 1341 by the epochs and rules of docs/DEFINITIONS.md.
+OTHERS = """\
+d,c
+12.5.41,islamic
+12.5.41,coptic
+12.5.41,ethiopic
+12.5.41,armenian
+12.5.41,julian
+12.5.41,hebrew
+"""
+OTHERS_COLUMNS = "--date d --calendar c --order day --to gregorian"
 
 TWO_DATES = "title\n a ;b\n1001-1-1;1001-1-1\nx;1001-1-1\n"
 TWO_CONVERTED = """\
@@ -245,6 +263,7 @@ FILES = {
     "swedish.csv": "name,means,in\nschwedisch,julian,\n",
     "names.csv": "name,means,in\nMeyo,month 5,\n", "weekdays.csv": "name,means,in\nSonntag,weekday 0,\n",
     "other.csv": "name,means,in\nMeyo,month 6,\nJuno,month 7,\n",
+    "periods.csv": "name,means,in\nJh,century 1,\nsiglo,century 0,\nLenz,months 3-5,\ns,decade,\n",
     "own.csv.unknown.csv": "name,means,in\nMeyo,month 5,\n",
     "bad.csv": "name,means,in\nMeyo,month 5,\nJuni,six,\n",
     "in.csv": "name,means,in\nMeyo,month 5,mars\n", "both.csv": "name,means,in\nMeyo,mai,mars\n",
@@ -327,6 +346,28 @@ STREAMS = [
      "d,julian,refusal\n06-5-12,1806-05-12,\n", ""),
     ("--date 1 --all julian --to julian", "d\n06-5-12\n", 0, "d,julian,refusal\n06-5-12,,5\n",
      lines("standard input: 1 date has a short year and is left empty: see --short-years")),
+    # Of other calendars: a century for them alone; where short years are kept and nothing else is said; and where it is.
+    (f"{OTHERS_COLUMNS} --short-other-years 1300", OTHERS, 0,
+     "d,c,gregorian,refusal\n12.5.41,islamic,1922-12-31,\n12.5.41,coptic,1625-01-17,\n12.5.41,ethiopic,1349-01-15,\n"
+     "12.5.41,armenian,1892-01-01,\n12.5.41,julian,,5\n12.5.41,hebrew,,5\n",
+     lines("standard input: 2 dates have short years and are left empty: see --short-years")),
+    (f"{OTHERS_COLUMNS} --short-years keep", OTHERS, 0,
+     "d,c,gregorian,refusal\n12.5.41,islamic,0661-09-16,\n12.5.41,coptic,0325-01-08,\n12.5.41,ethiopic,0049-01-05,\n"
+     "12.5.41,armenian,0592-11-11,\n12.5.41,julian,0041-05-10,\n12.5.41,hebrew,,5\n",
+     lines("standard input: 1 date has a short year and is left empty: see --short-years")),
+    (f"{OTHERS_COLUMNS} --short-years keep --short-other-years refuse", OTHERS, 0,
+     "d,c,gregorian,refusal\n12.5.41,islamic,,5\n12.5.41,coptic,,5\n12.5.41,ethiopic,,5\n12.5.41,armenian,,5\n"
+     "12.5.41,julian,0041-05-10,\n12.5.41,hebrew,,5\n",
+     lines("standard input: 5 dates have short years and are left empty: see --short-years")),
+    (f"{OTHERS_COLUMNS} --short-years 1700", OTHERS, 0,
+     "d,c,gregorian,refusal\n12.5.41,islamic,,5\n12.5.41,coptic,,5\n12.5.41,ethiopic,,5\n12.5.41,armenian,,5\n"
+     "12.5.41,julian,1741-05-23,\n12.5.41,hebrew,,5\n",
+     lines("standard input: 5 dates have short years and are left empty: see --short-years")),
+    # Years of the Spanish era and of the creation of the world, and one behind a word for year.
+    ("--date d --calendar c --order day --to gregorian",
+     "d,c\n5. Mai anno 75,greg.\n\"5 de mayo, era de 1381\",jul.\n7157 года от сотворения мира сентября 1,ст. ст.\n", 0,
+     "d,c,gregorian,refusal\n5. Mai anno 75,greg.,0075-05-05,\n\"5 de mayo, era de 1381\",jul.,1343-05-13,\n"
+     "7157 года от сотворения мира сентября 1,ст. ст.,1648-09-11,\n", ""),
     # The Sunday or feast of a day, in the church year of its calendar alone. Easter was on 9 April 1699, Julian, four weeks
     # after Oculi, and on 27 March 1712, Gregorian, which is that Coptic day.
     ("--date d --calendar c --order day --to weekday,church,gregorian",
@@ -365,6 +406,12 @@ STREAMS = [
      lines("standard input: 1 date is no date of its calendar")),
     (f"{SPANS_COLUMNS} --spans --to rd", "Date\nMai 1806\n", 0,
      "Date,first rd,last rd,mark,refusal\nMai 1806,659383,659413,,\n", ""),
+    # Centuries, parts of years and tens of years, by a list; and a text that says no date.
+    (f"{SPANS_COLUMNS} --spans --edtf --to gregorian --names periods.csv",
+     "Date\n18. Jh.\nsiglo XVIII\nLenz 1806\n1790s\no. D.\n", 0,
+     "Date,first gregorian,last gregorian,edtf,mark,refusal\n18. Jh.,1701-01-01,1800-12-31,[1701..1800],,\n"
+     "siglo XVIII,1700-01-01,1799-12-31,[1700..1799],,\nLenz 1806,1806-03-01,1806-05-31,[1806-03..1806-05],,\n"
+     "1790s,1790-01-01,1799-12-31,[1790..1799],,\no. D.,,,,undated,\n", ""),
     # How many are no single day: a month, a year, and what ends before a day.
     (f"{SPANS_COLUMNS} --edtf --summary", SPANS, 0, SPANS_CONVERTED,
      lines("standard input: 1 date is no date of its calendar",

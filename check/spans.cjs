@@ -5,8 +5,8 @@ const { readFileSync } = require("fs");
 const { join } = require("path");
 const { dateIn, dayOf, monthsOf, placed, sundayOf } = require("./day_counts.cjs");
 const {
-  added, bareOf, byYear, formOf, hasMixedSigns, hasOther, isBeside, isDecadeDay, isHalfYear, isLong, isOnWeekday, itemsOf,
-  ofThree, withoutTime, written,
+  added, bareOf, byYear, counted, formOf, hasMixedSigns, hasOther, isBeside, isDecadeDay, isHalfYear, isLong, isOnWeekday,
+  isOtherEra, itemsOf, ofThree, withoutTime, written,
 } = require("./reading.cjs");
 
 const { calendars } = JSON.parse(readFileSync(join(__dirname, "..", "crates", "register_facts", "stdout"), "utf8"));
@@ -24,9 +24,48 @@ const signsBetween = text => (text.replace(/^[^0-9]*|[^0-9]*$/g, "").match(patte
   .map(it => pattern(`[${DASH}]`).test(it) ? "-" : it);
 const barsOf = text => (text.match(pattern(`[/${DASH}]`, "g")) || []).length;
 
-// ---- how much items say: `{year, from, to, day, beside}`, where a month is from one to another, and a day stands in it
+// ---- how much items say: `{year, from, to, day, beside}`, where a month is from one to another, and a day stands in it; a
+// part of a year `isPart` too, and `years` is how many years there are of a century or ten years
 
-const isOneLetter = ({ isYear, digits, value }) => !isYear && digits === 0 && [100, 500, 1000].includes(value);
+const isOneLetter = ({ era, digits, value }) => era === undefined && digits === 0 && [100, 500, 1000].includes(value);
+
+// A part of a year, from a month to a month. None of a year that begins in September has its last month before its first.
+function partOf({ months: [from, to] }, year) {
+  return year.era === "creation" && from < 9 && to >= 9 ? null : { year, from, to, isPart: true };
+}
+
+// A half, a third or a quarter of a year, none of one that begins in September.
+function shareOf([place, parts], year) {
+  const [from, to] = [12 * (place - 1) / parts + 1, 12 * place / parts];
+  return year.era === "creation" ? null : { year, from, to, isPart: true, isShare: true };
+}
+
+// A century, by a number that counts neither years nor days: from 100 of its years on, or from the year behind it; and of it
+// the part of a place among so many.
+function centuryOf({ century }, number, [place, parts] = [1, 1]) {
+  if (isLong(number) || number.isDay || number.value < 2 || number.value > 30) return null;
+  const [from, to] = [place - 1, place].map(it => Math.floor(100 * it / parts));
+  return { year: { value: 100 * (number.value - 1) + century + from, digits: 4 }, years: to - from };
+}
+
+const tensOf = year => year.value % 10 === 0 && year.value % 100 !== 0 && !isOtherEra(year.era) ? { year, years: 10 } : null;
+
+// What items say of which one is a part of a year or a century, a century, ten years, or the last day of a month.
+function period(items) {
+  const [a, b, c] = items, [place, parts] = a.part ?? [1, 1], isOne = place <= parts;
+  switch (formOf(items)) {
+    case "pn": return partOf(a, b);
+    case "np": return partOf(b, a);
+    case "cn": return centuryOf(a, b);
+    case "nc": return centuryOf(b, a);
+    case "nz": return tensOf(a);
+    case "qn": return isOne ? shareOf(a.part, b) : null;
+    case "qcn": return isOne ? centuryOf(b, c, a.part) : null;
+    case "qnc": return isOne ? centuryOf(c, b, a.part) : null;
+    case "lmn": return { year: c, from: b.month, to: b.month, isLast: true };
+    default: return null;
+  }
+}
 
 function plain(items, { order, slashed, mixed }) {
   const months = items.map(it => it.adar ? { month: 12 } : it), isAdar = items.some(it => it.adar);
@@ -42,6 +81,8 @@ function plain(items, { order, slashed, mixed }) {
       return small(a) ? { year: b, from: a.value, to: a.value } : null;
     case "nnn": if (mixed) return null;
   }
+  const said = period(months);
+  if (said !== null) return isAdar ? null : said;
   const three = ofThree("", order, months);
   if (three === null) return null;
   const { month: number, day } = three.find();
@@ -50,12 +91,13 @@ function plain(items, { order, slashed, mixed }) {
 
 // A feast, or a Sunday by its number, in a year that is never short: the day on which it is, where a church reckons.
 function ofFeast(items, year, { calendar, isDual }) {
-  const [a, b] = items, form = formOf(items), isWhole = year.value >= 1 && (year.value >= 100 || year.digits >= 3);
-  if (isDual || !isWhole || year.value > 9999 || !["gregorian", "julian"].includes(calendar)) return null;
+  const form = formOf(items), isWhole = year.value >= 1 && (year.value >= 100 || year.digits >= 3), inYear = counted(year);
+  if (isDual || !isWhole || inYear === null || inYear > 9999 || !["gregorian", "julian"].includes(calendar)) return null;
+  const [a, b] = items;
   const feast = form === "ns" && !isLong(a) && !a.isDay ? { sunday: [b.season, a.value] } : form === "f" ? a.feast : null;
   if (feast === null) return null;
-  const found = feast.sunday ? sundayOf(calendar, year.value, ...feast.sunday) : placed(calendar, year.value, feast.day);
-  const date = found === null ? null : dateIn(calendar, year.value, found);
+  const found = feast.sunday ? sundayOf(calendar, inYear, ...feast.sunday) : placed(calendar, inYear, feast.day);
+  const date = found === null ? null : dateIn(calendar, inYear, found);
   return date === null ? null : { year, from: date.month, to: date.month, day: date.day };
 }
 
@@ -71,11 +113,19 @@ function extent(items, beside, by) {
   return checked(items.length > 0 ? plain(items, by) ?? feastSide(items, by) : null, beside, by);
 }
 
+// A part of a Hebrew year, which begins with the seventh month, does not go over the sixth; and what is a third of a year, or
+// the like, is one of twelve months.
+const hasTwelve = calendar =>
+  monthsOf(calendar, 1).length === 12 && monthsOf(calendar, 1).every(([month], i) => month === i + 1);
+const isInOrder = ({ isPart, isShare, from, to }, calendar) =>
+  (!isPart || calendar !== "hebrew" || (from < 7) === (to < 7)) && (!isShare || hasTwelve(calendar));
+
 // What is said, where its year is long and one that the calendar can have, and a weekday beside it is that of a day.
 function checked(found, beside, by) {
+  if (found !== null && !isInOrder(found, by.calendar)) return null;
   if (found === null || !isLong(found.year) || isOneLetter(found.year) || beside && !found.day && found.day !== 0) return null;
-  const isNone = REPUBLICAN.includes(by.calendar) && found.year.value > 99 || isHalfYear(found.year, by.calendar);
-  return isNone ? null : { ...found, beside };
+  const inRepublic = counted(found.year, found.from ?? 9) <= 99 || !REPUBLICAN.includes(by.calendar);
+  return !inRepublic || isHalfYear(found.year, by.calendar) ? null : { ...found, beside };
 }
 
 const own = (items, by) => { const { beside, rest } = parted(items); return extent(rest, beside, by); };
@@ -95,7 +145,10 @@ function leftOf(left, right, by, shared) {
 const isWord = (item, ...words) => item !== undefined && words.includes(item.word);
 const withoutAbout = items => isWord(items[0], "about") ? items.slice(1) : items;
 const one = (kind, said) => said === null ? null : { kind, first: said, last: said };
-const two = (kind, first, last) => first === null || last === null ? null : { kind, first, last };
+// Two years of which a word for the years of another era stands beside one alone say nothing: the other may be of it too.
+const isOfOther = ({ year }) => isOtherEra(year.era);
+const two = (kind, first, last) =>
+  first === null || last === null || isOfOther(first) !== isOfOther(last) ? null : { kind, first, last };
 
 function range(kind, left, right, byLeft, shared, byRight) {
   const bare = withoutAbout(right);
@@ -108,6 +161,7 @@ function byWords(items, single, double) {
   if (first === undefined) return null;
   if (first.relation === "before" || first.relation === "after") return alone(first.relation);
   if (isWord(first, "to")) return alone("to");
+  if (isWord(first, "undated")) return rest.length === 0 ? { kind: "undated" } : null;
   if (isWord(first, "and")) return null;
   const between = isWord(first, "between"), whole = between || isWord(first, "from") ? rest : items;
   const at = whole.findIndex(it => isWord(it, "to") || between && isWord(it, "and"));
@@ -144,13 +198,17 @@ function wideSides(text) {
 
 // ---- dual years
 
+// Two years can be those of a day, a month or a year of the calendar.
+const canBeDual = ({ year, years, isPart, isLast }) =>
+  year.value < 99999 && !isPart && !years && !isLast && !isOtherEra(year.era);
+
 function dualSides(text, names, by) {
   const cut = ONLY_SLASH.exec(text);
   if (cut === null) return null;
   const before = sideItems(cut[1], names), behind = sideItems(cut[2], names);
   if (before === null || behind === null || formOf(behind) !== "n") return null;
   const left = own(withoutAbout(before), { ...by, slashed: false, mixed: hasMixedSigns(cut[1]), isDual: true });
-  if (left === null || left.year.value >= 99999) return null;
+  if (left === null || !canBeDual(left)) return null;
   const [next] = behind, later = left.year.value + 1;
   const isNext = next.value === later || next.digits === 2 && next.value === later % 100;
   return isNext ? { left, later: { ...left.year, value: later } } : null;
@@ -171,7 +229,7 @@ function ofOldYear(text, names, by) {
   const before = sideItems(cut[1], names), behind = sideItems(cut[2], names), ending = before && endOf(before);
   if (!ending || !isLong(ending) || behind === null || formOf(behind) !== "n") return null;
   const left = own(withoutAbout(before), { ...by, slashed: false, mixed: hasMixedSigns(cut[1]), isDual: true });
-  if (left === null || left.from === undefined || left.year.value >= 99999) return null;
+  if (left === null || left.from === undefined || !canBeDual(left)) return null;
   const [{ digits, value }] = behind, later = String(left.year.value + 1), old = String(left.year.value);
   const isShort = digits === 1 ? later === old.slice(0, -1) + value : digits === 2 && Number(later.slice(-2)) === value;
   return isShort ? ofDual({ left, later: { ...left.year, value: Number(later) } }, by.calendar) : null;
@@ -179,10 +237,11 @@ function ofOldYear(text, names, by) {
 
 // ---- the days
 
-// The year by the rule for short ones; null where it is refused or too large.
-function yearOf({ year }, calendar, choice) {
-  const found = byYear(year, choice, calendar);
-  return found === null || found > 99999 ? null : found;
+// The year by the rule for short ones, in which what is said begins; null where it is refused or too large. A year from the
+// creation of the world begins in September.
+function yearOf({ year, from, years = 1 }, calendar, choice) {
+  const found = byYear(year, choice, calendar, from ?? 9);
+  return found === null || found + years - 1 > 99999 ? null : found;
 }
 
 const monthsIn = (calendar, year) => calendar === "gregorian" && year === 0
@@ -191,12 +250,16 @@ const daysOf = (calendar, year, month) => (monthsIn(calendar, year).find(([numbe
 
 function ends(said, calendar, year) {
   if (said.day !== undefined) return Array(2).fill([year, said.from, said.day]);
+  if (said.isLast) return Array(2).fill([year, said.from, daysOf(calendar, year, said.from)]);
+  if (said.isPart) return [[year, said.from, 1], [year, said.to, daysOf(calendar, year, said.to)]];
   if (said.from !== undefined) {
     const last = said.to !== said.from && daysOf(calendar, year, said.to) > 0 ? said.to : said.from;
     return [[year, said.from, 1], [year, last, daysOf(calendar, year, last)]];
   }
-  const months = monthsIn(calendar, year), [first] = months[0] || [0], [last, days] = months[months.length - 1] || [0, 0];
-  return [[year, first, 1], [year, last, days]];
+  if (said.year.era === "creation") return [[year, 9, 1], [year + 1, 8, daysOf(calendar, year + 1, 8)]];
+  const later = year + (said.years ?? 1) - 1, [first] = monthsIn(calendar, year)[0] || [0];
+  const [last, days] = monthsIn(calendar, later).at(-1) || [0, 0];
+  return [[year, first, 1], [later, last, days]];
 }
 
 // Whether a day is on the weekday beside it, and in no Adar of which there are two.
@@ -223,6 +286,7 @@ function beside(calendar, date, step) {
 }
 
 function datesOf({ kind, first, last }, calendar, choice) {
+  if (kind === "undated") return ["", ""];
   const years = [first, last].map(it => yearOf(it, calendar, choice));
   if (![first, last].every((it, i) => isSo(it, calendar, years[i]))) return null;
   const from = years[0] === null ? null : ends(first, calendar, years[0])[0];

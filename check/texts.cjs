@@ -39,6 +39,8 @@ const NUMBERED = words("1,6,0 easter,0 easter,49 easter,56");
 const NEAR = {
   hebrew: 5507, islamic: 1200, coptic: 1500, ethiopic: 1798, egyptian: 2500, armenian: 1200, french: 1, republican: 1,
 };
+// The years of other eras, and a few before and behind these.
+const ERAS = { spanish: [30, 1470], creation: [5500, 7220] };
 const ODD_YEARS = [0, 100, 507, 806, 1582, 1583, 1800, 1900, 9999, 10000, 99999, 100000];
 
 function romanOf(number) {
@@ -73,7 +75,9 @@ class Texts {
     this.kinds = {
       m: saying("month"), k: saying("mark"), w: saying("weekday"), a: saying("decade"), r: saying("relation"),
       f: saying("feast"), s: saying("season"), n: saying("value"), o: names.filter(it => it.item === null),
-      y: saying("yearWord"), t: saying("dayWord"),
+      y: saying("yearWord"), t: saying("dayWord"), p: saying("months"), c: saying("century"), z: saying("tens"),
+      q: saying("part"), l: saying("lastDay"),
+      u: names.filter(it => it.item !== null && it.item.word === "undated"),
     };
   }
 
@@ -102,10 +106,14 @@ class Texts {
     return parts.map(it => changed(one(it).text)).join(one([" ", "-", " "]));
   }
 
-  // A number, now and then beside a word for year or for day.
+  // A number, now and then beside a word for year or for day; beside one for the years of another era mostly one of these.
   besideWord(kind, text) {
     if (this.kinds[kind].length === 0 || !chance(8)) return text;
-    return chance(4) ? `${text} ${this.name(kind)}` : `${this.name(kind)} ${text}`;
+    const other = this.kinds[kind].filter(it => it.item.yearWord in ERAS);
+    const { text: name, item } = one(other.length > 0 && chance(3) ? other : this.kinds[kind]);
+    const word = changed(name), era = ERAS[item.yearWord];
+    const number = era !== undefined && below(6) ? this.number(from(...era)) : text;
+    return chance(4) ? `${number} ${word}` : `${word} ${number}`;
   }
 
   year() {
@@ -227,7 +235,7 @@ class Texts {
 
   anything() {
     const parts = Array.from({ length: from(1, 6) }, () => {
-      const kind = one([..."mwarfsnok", "digits", "digits", "digits", "other", "Roman"]);
+      const kind = one([..."mwarfsnokpczuql", "digits", "digits", "digits", "other", "Roman"]);
       if (kind === "digits") return String(one([below(32), below(2000), this.year(), "1234567890", "00"]));
       return kind === "other" ? one(OTHERS) : kind === "Roman" ? one(ROMANS) : this.name(kind);
     });

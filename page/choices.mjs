@@ -10,31 +10,32 @@ export const AS_EMPTY = 'as empty';
 const ORDERS = ['year', 'day', 'month'];
 const DELIMITERS = [['comma', 44], ['semicolon', 59], ['tab', 9]];
 // Where the numbers of a choice say whether spans are read, and where those of its columns of dates begin.
-const SPANS_AT = 7;
-export const DATES_AT = 8;
+const SPANS_AT = 8;
+export const DATES_AT = 9;
 // What the file of choices begins with.
 const KIND = 'choices of a sheet';
+const OTHER_YEARS = 'short years of other calendars';
 /** No columns with years, months and days are chosen. */
 export const NO_THREE = ['', '', ''];
 
 /**
  * Columns are places, from 0. `date` is '' where none is chosen yet, and `calendar` too, which is a column or the name of
  * one calendar for all, or `AS_EMPTY`. An `id` of '-1' is the number of the record. Short years are `refuse`, `keep`, or
- * what is added. A name says what it means: a calendar, `both`, `julian/gregorian:` and the first Gregorian day, or `change`
+ * what is added; `other` are those of the Islamic, Coptic, Ethiopic and Armenian calendars. A name says what it means: a calendar, `both`, `julian/gregorian:` and the first Gregorian day, or `change`
  * while that day is not typed yet; `month 1` to `month 13`, `number N`, `K`, `N`, `I` or `nothing`; `where` is the calendar in
  * whose dates it stands, or '' for a name of a calendar. The calendar's name '' says what no calendar means. `spans` are
  * months, years and ranges, whose texts of EDTF are put beside them where `edtf`.
  * @typedef {{ date: string, calendar: string }} DateColumn
  * @typedef {{ name: string, where: string, means: string }} Name
- * @typedef {{ order: string, short: string, hebrew: string, charters: boolean, spans: boolean, edtf: boolean,
- *   names: Name[] }} Rules
+ * @typedef {{ order: string, short: string, hebrew: string, other: string, charters: boolean, spans: boolean,
+ *   edtf: boolean, names: Name[] }} Rules
  * @typedef {Rules & { id: string, dates: DateColumn[] }} Picks
  */
 
 /** @returns {Picks} */
 export const noPicks = () => ({
-  id: '-1', dates: [{ date: '', calendar: '' }], order: 'year', short: 'refuse', hebrew: 'refuse', charters: false,
-  spans: false, edtf: false, names: [],
+  id: '-1', dates: [{ date: '', calendar: '' }], order: 'year', short: 'refuse', hebrew: 'refuse', other: 'refuse',
+  charters: false, spans: false, edtf: false, names: [],
 });
 
 /** Whether the columns with years, months and days are all chosen, each another: then there is one of their dates. */
@@ -44,8 +45,8 @@ export const isThree = (three) => Boolean(three) && !three.includes('') && new S
  * How dates are read, whatever columns they stand in.
  * @returns {Rules}
  */
-export const rulesOf = ({ order, short, hebrew, charters, spans, edtf, names }) =>
-  ({ order, short, hebrew, charters, spans, edtf, names });
+export const rulesOf = ({ order, short, hebrew, other, charters, spans, edtf, names }) =>
+  ({ order, short, hebrew, other, charters, spans, edtf, names });
 
 export const isColumn = (calendar) => /^\d+$/.test(calendar);
 
@@ -54,13 +55,13 @@ export const isColumn = (calendar) => /^\d+$/.test(calendar);
 const yearRule = (rule) => ({ refuse: 0, keep: 1 })[rule] ?? Number(rule);
 
 /** The choice as the module takes it. */
-export function numbersOf({ delimiter, above }, { id, dates, order, short, hebrew, charters, spans, edtf }) {
+export function numbersOf({ delimiter, above }, { id, dates, order, short, hebrew, other, charters, spans, edtf }) {
   const triples = dates.flatMap(({ date, calendar }) => {
     if (calendar === AS_EMPTY) return [Number(date), ABSENT, 0];
     return isColumn(calendar) ? [Number(date), Number(calendar), 0] : [Number(date), NONE, CALENDARS.indexOf(calendar)];
   });
   return [delimiter, above, Number(id) < 0 ? NONE : Number(id), ORDERS.indexOf(order), yearRule(short), yearRule(hebrew),
-    charters ? 1 : 0, spans ? 1 + Number(edtf) : 0, ...triples];
+    yearRule(other), charters ? 1 : 0, spans ? 1 + Number(edtf) : 0, ...triples];
 }
 
 /** Whether months, years and ranges are read by a choice: 0, 1, or 2 with their texts of EDTF. */
@@ -118,14 +119,14 @@ function calendarCalled(heading, calendar) {
 
 /** The choices as a text that can be read and kept. */
 export function choicesText({ encoding, delimiter, above, three }, heading, picks, columns) {
-  const { id, dates, order, short, hebrew, charters, spans, edtf, names } = picks;
+  const { id, dates, order, short, hebrew, other, charters, spans, edtf, names } = picks;
   return `${JSON.stringify({
     what: KIND, encoding, delimiter: DELIMITERS.find(([, byte]) => byte === delimiter)[0], 'records above the names': above,
     ...(isThree(three) ? { 'year, month and day': three.map((it) => columnCalled(heading, it)) } : {}),
     dates: dates.filter(({ date }) => date !== '').map(({ date, calendar }) =>
       ({ ...columnCalled(heading, date), ...calendarCalled(heading, calendar) })),
     id: Number(id) < 0 ? 'number of the record' : columnCalled(heading, id),
-    order, 'short years': short, 'short Hebrew years': hebrew, 'charter years': charters,
+    order, 'short years': short, 'short Hebrew years': hebrew, [OTHER_YEARS]: other, 'charter years': charters,
     'months, years and ranges': spans, EDTF: edtf, columns,
     names: names.map(({ name, where, means }) => ({ name, means, in: where })),
   }, null, 2)}\n`;
@@ -159,6 +160,8 @@ export function choicesOf(text) {
     order: either(kept.order, (it) => ORDERS.includes(it), own.order),
     short: either(kept['short years'], isRule, own.short),
     hebrew: either(kept['short Hebrew years'], isRule, own.hebrew),
+    // Before they had a choice of their own they were kept where short years were.
+    other: either(kept[OTHER_YEARS], isRule, kept['short years'] === 'keep' ? 'keep' : own.other),
     charters: kept['charter years'] === true,
     spans: kept['months, years and ranges'] === true,
     edtf: kept.EDTF === true,

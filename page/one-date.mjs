@@ -13,7 +13,8 @@ const ENDS = [0, 1];
 
 // The day stands first, and short years are as they are written.
 const choiceFor = (calendar) => numbersOf({ delimiter: COMMA, above: 0 }, {
-  ...noPicks(), order: 'day', short: 'keep', hebrew: 'keep', spans: true, edtf: true, dates: [{ date: '0', calendar }],
+  ...noPicks(), order: 'day', short: 'keep', hebrew: 'keep', other: 'keep', spans: true, edtf: true,
+  dates: [{ date: '0', calendar }],
 });
 
 /**

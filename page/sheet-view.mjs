@@ -18,7 +18,7 @@ import {
 } from './sheet.mjs';
 import { WORDS } from './language.mjs';
 
-// What is added to short years, and what becomes of those of Hebrew dates.
+// What is added to short years, what becomes of those of Hebrew dates, and what of those of others.
 const CENTURIES = [...Array(20).keys()].map((i) => String(100 * (20 - i)));
 const YEAR_RULES = ['refuse', 'keep', '5000'];
 // What is chosen by a tick.
@@ -189,10 +189,12 @@ function takeSource(step) {
 }
 
 function takeRules(step) {
-  byId('sheet-short').append(...['refuse', 'keep'].map((value) => option(WORDS.shortRules[value], value)),
-    ...CENTURIES.map((value) => option(WORDS.shortAdds(Number(value)), value)));
+  for (const name of ['short', 'other']) {
+    byId(`sheet-${name}`).append(...['refuse', 'keep'].map((value) => option(WORDS.shortRules[value], value)),
+      ...CENTURIES.map((value) => option(WORDS.shortAdds(Number(value)), value)));
+  }
   byId('sheet-hebrew').append(...YEAR_RULES.map((value) => option(WORDS.hebrewRules[value], value)));
-  for (const name of ['id', 'short', 'hebrew']) {
+  for (const name of ['id', 'short', 'hebrew', 'other']) {
     byId(`sheet-${name}`).addEventListener('change', ({ target }) => step(picked, { [name]: target.value }));
   }
   for (const name of TICKS) {
@@ -252,14 +254,14 @@ function drawBeginning(state) {
   }
 }
 
-function drawPicks({ id, dates, names, order, short, hebrew, ...ticks }) {
+function drawPicks({ id, dates, names, order, short, hebrew, other, ...ticks }) {
   dates.forEach(({ date, calendar }, place) => {
     byId(`sheet-date-${place}`).value = date;
     byId(`sheet-calendar-${place}`).value = calendar;
   });
   byId('sheet-empty-field').hidden = !dates.some(({ calendar }) => isColumn(calendar) || calendar === AS_EMPTY);
   drawMeaning(byId('sheet-empty-0'), byId('sheet-empty-day'), meantByEmpty(names));
-  Object.entries({ id, short, hebrew }).forEach(([name, value]) => { byId(`sheet-${name}`).value = value; });
+  Object.entries({ id, short, hebrew, other }).forEach(([name, value]) => { byId(`sheet-${name}`).value = value; });
   for (const name of TICKS) byId(`sheet-${name}`).checked = ticks[name];
   byId('sheet-edtf-field').hidden = !ticks.spans;
   check('sheet-order', order);

@@ -536,7 +536,7 @@ export const WORDS = {
   dayOrderIs: 'Ein Monat mit Namen wird in jeder Reihenfolge gelesen, `30. November 1699`, `Nov. 30, 1699`, wenn das Jahr mehr als ' +
     'zwei Ziffern hat. Sonst legt diese Einstellung fest, welche Zahl das Jahr ist: bei `15 Ventôse 6` steht der Tag zuerst.',
   short: 'Ein- und zweistellige Jahre',
-  shortIs: 'Wie `12.5.82`. Ein Jahrhundert kommt nur zu gregorianischen und julianischen Jahren; andere, außer französischen, werden dann abgelehnt.',
+  shortIs: 'In gregorianischen und julianischen Datumsangaben, wie `12.5.82`.',
   shortRules: { refuse: 'solche Datumsangaben weglassen', keep: 'wie geschrieben: 82 ist das Jahr 82' },
   shortAdds: (n) => `${n} dazuzählen: 82 ist ${n + 82}`,
   spans: 'Auch Monate, Jahre und Zeiträume',
@@ -544,12 +544,14 @@ export const WORDS = {
     'Tag, und ebenso jede Spalte hinter dem Tabellenblatt.',
   edtf: 'Mit einem Text in EDTF (ISO 8601-2)',
   edtfIs: 'Wie `1806-05`, `1750/1755`, `1750~`, `../1806-05-11`.',
-  otherYears: 'Jahre hebräischer und römischer Datumsangaben',
+  otherYears: 'Jahre anderer Kalender und römischer Datumsangaben',
   hebrew: 'Kurze hebräische Jahre',
   hebrewIs: 'Wie `5 Tischri 507`.',
   hebrewRules: {
     refuse: 'solche Datumsangaben weglassen', keep: 'wie geschrieben: 507 ist das Jahr 507', 5000: '5000 dazuzählen: 507 ist 5507',
   },
+  other: 'Kurze islamische, koptische, äthiopische und armenische Jahre',
+  otherIs: 'Ein- und zweistellige, wie `12.5.82`.',
   charters: 'Das Jahr eines römischen Datums ist das seines Tages',
   chartersIs: 'Dann ist `XVI. Kal. Ian. 1499` der 17. Dezember 1499. Sonst ist sein Jahr das der Kalenden, Nonen ' +
     'oder Iden, und es liegt in 1498.',

@@ -513,7 +513,7 @@ export const WORDS = {
   dayOrderIs: 'A month by its name is read in any order, `30. November 1699`, `Nov. 30, 1699`, where the year has more than ' +
     'two digits. Else this choice says which number is the year: for `15 Ventôse 6` the day stands first.',
   short: 'Years of one or two digits',
-  shortIs: 'As `12.5.82`. A century is added to Gregorian and Julian years; others, but French ones, are then refused.',
+  shortIs: 'Of Gregorian and Julian dates, as `12.5.82`.',
   shortRules: { refuse: 'leave such dates out', keep: 'as written: 82 is the year 82' },
   shortAdds: (n) => `add ${n}: 82 is ${n + 82}`,
   spans: 'Months, years and ranges too',
@@ -521,10 +521,12 @@ export const WORDS = {
     'column behind the sheet.',
   edtf: 'With a text of EDTF (ISO 8601-2)',
   edtfIs: 'As `1806-05`, `1750/1755`, `1750~`, `../1806-05-11`.',
-  otherYears: 'Years of Hebrew and Roman dates',
+  otherYears: 'Years of other calendars, and of Roman dates',
   hebrew: 'Short Hebrew years',
   hebrewIs: 'As `5 Tischri 507`.',
   hebrewRules: { refuse: 'leave such dates out', keep: 'as written: 507 is the year 507', 5000: 'add 5000: 507 is 5507' },
+  other: 'Short Islamic, Coptic, Ethiopic and Armenian years',
+  otherIs: 'Of one or two digits, as `12.5.82`.',
   charters: 'The year of a Roman date is that of its day',
   chartersIs: 'Then `XVI. Kal. Ian. 1499` is 17 December 1499. Else its year is that of the Kalends, Nones or Ides, ' +
     'and it is in 1498.',

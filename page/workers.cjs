@@ -77,11 +77,11 @@ const unreadable = { name: 'folder', size: 10, stream: broken };
 // A choice of a sheet. Each column of dates is its place, the place of its calendars, and a calendar for all; without the
 // second all have the third.
 function choiceOf(dates, choices = {}) {
-  const { delimiter, above, id, order, short, hebrew, charters, spans } = {
-    delimiter: COMMA, above: 0, id: NONE, order: 'year', short: 0, hebrew: 0, charters: 0, spans: 0, ...choices,
+  const { delimiter, above, id, order, short, hebrew, other, charters, spans } = {
+    delimiter: COMMA, above: 0, id: NONE, order: 'year', short: 0, hebrew: 0, other: 0, charters: 0, spans: 0, ...choices,
   };
   const triples = dates.flatMap(([date, column, all]) => [date, column ?? NONE, all ? calendars.indexOf(all) : 0]);
-  return [delimiter, above, id, ['year', 'day', 'month'].indexOf(order), short, hebrew, charters, spans, ...triples];
+  return [delimiter, above, id, ['year', 'day', 'month'].indexOf(order), short, hebrew, other, charters, spans, ...triples];
 }
 
 // What a sheet is read from.

@@ -14,12 +14,12 @@ use Rattle.register_page_exports.specs.AskedViews.{all_before}
 use Rattle.register_page_exports.specs.SheetChoices.{asked_by, before, column_by, columns_by, date_by, dates_by, id_by}
 use Rattle.register_page_exports.specs.SheetChoices.{reading_by, spans_by}
 
--- what is asked by eight numbers in front and the others
+-- what is asked by nine numbers in front and the others
 pub asked_made : (head dates columns : List ℕ) (delimiter : ℕ) (reading : Choice) (spans : Spans)
-    (ds : Option (List DateColumn)) (cs : Option (List AskedColumn)) → length head ≡ 8
+    (ds : Option (List DateColumn)) (cs : Option (List AskedColumn)) → length head ≡ 9
     → (slice_index_or head 0 0 < 256) × (delimiter ≡ slice_index_or head 0 0)
     → reading_by (slice_index_or head 3 0) (slice_index_or head 4 0) (slice_index_or head 5 0) (slice_index_or head 6 0)
-    ≡ Some reading → spans_by (slice_index_or head 7 0) ≡ Some spans
+    (slice_index_or head 7 0) ≡ Some reading → spans_by (slice_index_or head 8 0) ≡ Some spans
     → dates_by dates ≡ ds → columns_by columns ≡ cs
     → asked_by (head ++ dates) columns ≡ (ds >>= λ d. cs >>= λ c. Some (record {
       delimiter = delimiter;
@@ -30,11 +30,11 @@ pub asked_made : (head dates columns : List ℕ) (delimiter : ℕ) (reading : Ch
       dates = d;
       columns = c;
     }))
-asked_made (a ∷ b ∷ c ∷ d ∷ e ∷ f ∷ g ∷ h ∷ []) dates columns delimiter reading spans ds cs eight (byte, is) read said
+asked_made (a ∷ b ∷ c ∷ d ∷ e ∷ f ∷ g ∷ h ∷ i ∷ []) dates columns delimiter reading spans ds cs nine (byte, is) read said
     dated asked =
     let low : nat_lt a 256 ≡ true = lt-ltb _ _ byte in rw (is, low, read, said, dated, asked) refl
-asked_made head dates columns delimiter reading spans ds cs eight low read said dated asked =
-    absurd (omega (arith, eight))
+asked_made head dates columns delimiter reading spans ds cs nine low read said dated asked =
+    absurd (omega (arith, nine))
 
 -- a column asked by a number from 2 on is that of a target
 target_in_front : (targets : List Target) (k : ℕ) (target : Target) → slice_get targets k ≡ Some target

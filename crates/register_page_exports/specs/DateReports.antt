@@ -28,7 +28,13 @@ order_by (suc (suc n)) = MonthFirst
 -- how one date is read: in this order, with its year as it stands
 abbrev pub choice_by : ℕ → Choice
 choice_by order =
-    record { order = order_by order; short_years = Keep; short_hebrew_years = Keep; charters = false }
+    record {
+      order = order_by order;
+      short_years = Keep;
+      short_hebrew_years = Keep;
+      short_other_years = Keep;
+      charters = false;
+    }
 
 -- why nothing is said of a date: memory ran out, the text is no list of names, or there is no such calendar
 abbrev pub IsEnding : ℕ → List ℕ → ℕ → Type 0

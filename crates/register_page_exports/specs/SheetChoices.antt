@@ -47,13 +47,16 @@ short_hebrew_by n =
 abbrev pub flag_by : ℕ → Option Bool
 flag_by n = if n == 0 then Some false else if n == 1 then Some true else None
 
-abbrev pub reading_by : ℕ → ℕ → ℕ → ℕ → Option Choice
-reading_by order years hebrew charters = do
+-- how dates are read: in which order, what is done with short Gregorian and Julian years, Hebrew ones and those of
+-- other calendars, and whether the year of a Roman date is that of its day
+abbrev pub reading_by : ℕ → ℕ → ℕ → ℕ → ℕ → Option Choice
+reading_by order years hebrew others charters = do
   o ← order_in order
   y ← short_by years
   h ← short_hebrew_by hebrew
+  s ← short_by others
   c ← flag_by charters
-  Some (record { order = o; short_years = y; short_hebrew_years = h; charters = c })
+  Some (record { order = o; short_years = y; short_hebrew_years = h; short_other_years = s; charters = c })
 
 -- dates that say no single day are not read, or have a first and a last day, or the text of EDTF too
 abbrev pub spans_by : ℕ → Option Spans
@@ -99,8 +102,8 @@ abbrev pub if_byte : {A : Type 0} → ℕ → Option A → Option A
 if_byte delimiter asked = if nat_lt delimiter 256 then asked else None
 
 abbrev pub asked_by : List ℕ → List ℕ → Option SheetAsked
-asked_by (delimiter ∷ above ∷ id ∷ order ∷ years ∷ hebrew ∷ charters ∷ number ∷ numbers) columns =
-    if_byte delimiter (reading_by order years hebrew charters >>= λ reading. spans_by number >>= λ read.
+asked_by (delimiter ∷ above ∷ id ∷ order ∷ years ∷ hebrew ∷ others ∷ charters ∷ number ∷ numbers) columns =
+    if_byte delimiter (reading_by order years hebrew others charters >>= λ reading. spans_by number >>= λ read.
     dates_by numbers >>= λ dates. columns_by columns >>= λ asked. Some (record {
       delimiter = delimiter;
       above = above;

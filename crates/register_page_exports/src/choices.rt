@@ -19,7 +19,7 @@ use written_dates::{CalendarMeaning, Choice, Order, Short};
 const NO_PLACE: u32 = 4_294_967_295;
 
 /// How many numbers stand before those of the columns of dates.
-const HEAD: usize = 8;
+const HEAD: usize = 9;
 
 /// How many numbers a column of dates has.
 const DATE: usize = 3;
@@ -95,13 +95,14 @@ fn spans_of(number: u32) -> Option<Spans>
 }
 
 /// How dates are read.
-fn reading_of(order: u32, years: u32, hebrew: u32, charters: u32) -> Option<Choice>
-    ensures { result ≡ reading_by order years hebrew charters }
+fn reading_of(order: u32, years: u32, hebrew: u32, others: u32, charters: u32) -> Option<Choice>
+    ensures { result ≡ reading_by order years hebrew others charters }
 {
     Some(Choice {
         order: order_of(order)?,
         short_years: short_of(years)?,
         short_hebrew_years: short_hebrew_of(hebrew)?,
+        short_other_years: short_of(others)?,
         charters: flag_of(charters)?,
     })
 }
@@ -192,10 +193,10 @@ fn asked_of(
     let Ok(delimiter) = u8::try_from(head[0]) else {
         return Ok(None);
     };
-    let Some(reading) = reading_of(head[3], head[4], head[5], head[6]) else {
+    let Some(reading) = reading_of(head[3], head[4], head[5], head[6], head[7]) else {
         return Ok(None);
     };
-    let Some(spans) = spans_of(head[7]) else {
+    let Some(spans) = spans_of(head[8]) else {
         return Ok(None);
     };
     let Some(dates) = dates_of(alloc, dates)? else {

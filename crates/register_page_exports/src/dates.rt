@@ -40,6 +40,7 @@ fn choice_by(order: u8) -> Choice
         },
         short_years: Short::Keep,
         short_hebrew_years: Short::Keep,
+        short_other_years: Short::Keep,
         charters: false,
     }
 }

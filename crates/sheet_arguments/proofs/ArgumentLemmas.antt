@@ -8,7 +8,7 @@ use Rattle.command_lines.proofs.MeaningLemmas.{AllPass, AreSound, IsClear, IsSou
 use Rattle.command_lines.proofs.MeaningLemmas.{sound_option}
 use Rattle.sheet_arguments.specs.CommandLine.{Values, command_line, values_of}
 use Rattle.sheet_arguments.specs.Faults.{Fault, tree_at_odds}
-use Rattle.sheet_arguments.specs.OptionValues.{order_option, short_hebrew_option, short_option, skip_option}
+use Rattle.sheet_arguments.specs.OptionValues.{order_option, other_word, short_hebrew_option, short_option, skip_option}
 use Rattle.sheet_arguments.specs.Requests.{Ask, AskMeant, Task, false_check, given_checks, result_check}
 use Rattle.sheet_arguments.specs.Requests.{sheet_line, value_checks}
 use Rattle.sheet_arguments.specs.ThreeColumns.{three_asked}
@@ -48,11 +48,12 @@ all_pass : (values : Values) (task : Task) → Ask values task → AllPass (valu
 all_pass values task asks = search rules
 
 same_reading : (a b : Choice) → a.order ≡ b.order → a.short_years ≡ b.short_years
-    → a.short_hebrew_years ≡ b.short_hebrew_years → a.charters ≡ b.charters → a ≡ b
-same_reading a b order years hebrew charters = search rules
+    → a.short_hebrew_years ≡ b.short_hebrew_years → a.short_other_years ≡ b.short_other_years
+    → a.charters ≡ b.charters → a ≡ b
+same_reading a b order years hebrew other charters = search rules
 
-same_task : (a b : Task) → a.tree ≡ b.tree → a.dates ≡ b.dates → a.three ≡ b.three → a.calendars ≡ b.calendars → a.id ≡ b.id → a.columns ≡ b.columns
-    → a.spans ≡ b.spans
+same_task : (a b : Task) → a.tree ≡ b.tree → a.dates ≡ b.dates → a.three ≡ b.three → a.calendars ≡ b.calendars
+    → a.id ≡ b.id → a.columns ≡ b.columns → a.spans ≡ b.spans
     → a.reading ≡ b.reading → a.names ≡ b.names → a.skip ≡ b.skip → a.delimiter ≡ b.delimiter
     → a.register ≡ b.register → a.unknown ≡ b.unknown → a.summary ≡ b.summary → a.files ≡ b.files → a ≡ b
 same_task a b tree dates three calendars id columns spans reading names skip delimiter register unknown summary files =
@@ -74,6 +75,9 @@ one_task values a b asked same =
     let hebrew : a.reading.short_hebrew_years ≡ b.reading.short_hebrew_years
     = same_short _ _ (one_asked short_hebrew_option one_short_hebrew values.short_hebrew_years _ _
     asked.short_hebrew_years same.short_hebrew_years) in
+    let other : a.reading.short_other_years ≡ b.reading.short_other_years
+    = same_short _ _ (one_asked short_option one_short (other_word values.short_other_years values.short_years) _ _
+    asked.short_other_years same.short_other_years) in
     let charters : a.reading.charters ≡ b.reading.charters = asked.charters ∙ sym same.charters in
     let skip : a.skip ≡ b.skip = one_asked skip_option one_skip values.skip _ _ asked.skip same.skip in
     let delimiter : a.delimiter ≡ b.delimiter
@@ -86,7 +90,8 @@ one_task values a b asked same =
     let summary : a.summary ≡ b.summary = asked.summary ∙ sym same.summary in
     let files : a.files ≡ b.files = asked.files ∙ sym same.files in
     same_task a b tree dates three calendars id columns spans
-    (same_reading a.reading b.reading order years hebrew charters) names skip delimiter register unknown summary files
+    (same_reading a.reading b.reading order years hebrew other charters) names skip delimiter register unknown
+    summary files
 
 -- so arguments mean one thing
 pub is_clear : IsClear sheet_line

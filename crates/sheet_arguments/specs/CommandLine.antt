@@ -3,14 +3,17 @@ use Rattle.std.specs.Prelude.{List, [], ◌∷◌, Bool, codes, fold, Option, un
 use Rattle.clap.specs.Words.{App, Row, Rule, Text, all_of, first_of, one_of, with_rule}
 use Rattle.command_lines.specs.Rules.{bare_command, files_rule, flag_rule, is_set, option_rule, repeated_rule}
 
--- the rules of the arguments: four options as often as wanted, nine with a value each, seven flags, and files
+-- the rules of the arguments: four options as often as wanted, ten with a value each, seven flags, and files
 abbrev pub argument_rules : List Rule
 argument_rules =
-    flag_rule (codes "tree") ∷ repeated_rule (codes "date") ∷ option_rule (codes "three") ∷ repeated_rule (codes "calendar") ∷ repeated_rule (codes "all")
+    flag_rule (codes "tree") ∷ repeated_rule (codes "date") ∷ option_rule (codes "three")
+    ∷ repeated_rule (codes "calendar") ∷ repeated_rule (codes "all")
     ∷ option_rule (codes "else") ∷ option_rule (codes "id") ∷ option_rule (codes "order") ∷ repeated_rule (codes "names")
-    ∷ option_rule (codes "short-years") ∷ option_rule (codes "short-hebrew-years") ∷ flag_rule (codes "charter-years")
+    ∷ option_rule (codes "short-years") ∷ option_rule (codes "short-hebrew-years")
+    ∷ option_rule (codes "short-other-years") ∷ flag_rule (codes "charter-years")
     ∷ option_rule (codes "skip") ∷ option_rule (codes "delimiter") ∷ option_rule (codes "to")
-    ∷ flag_rule (codes "spans") ∷ flag_rule (codes "edtf") ∷ flag_rule (codes "register") ∷ flag_rule (codes "unknown") ∷ flag_rule (codes "summary")
+    ∷ flag_rule (codes "spans") ∷ flag_rule (codes "edtf") ∷ flag_rule (codes "register")
+    ∷ flag_rule (codes "unknown") ∷ flag_rule (codes "summary")
     ∷ files_rule (codes "file") ∷ []
 
 -- the command line: the command with all arguments
@@ -30,6 +33,7 @@ pub record Values : Type 0 where
   pub names : List Text
   pub short_years : Option Text
   pub short_hebrew_years : Option Text
+  pub short_other_years : Option Text
   pub charter_years : Bool
   pub skip : Option Text
   pub delimiter : Option Text
@@ -55,6 +59,7 @@ values_of found = record {
   names = unwrap_or (all_of (codes "names") found) [];
   short_years = first_of (codes "short-years") found;
   short_hebrew_years = first_of (codes "short-hebrew-years") found;
+  short_other_years = first_of (codes "short-other-years") found;
   charter_years = is_set (one_of (codes "charter-years") found);
   skip = first_of (codes "skip") found;
   delimiter = first_of (codes "delimiter") found;

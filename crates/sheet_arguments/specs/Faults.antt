@@ -12,9 +12,9 @@ use Rattle.sheet_arguments.specs.declared.request_faults.RequestFault.TheVariant
 
 -- what is wrong: the options are not written as they are taken, with a tree the columns or the form of a sheet are given,
 -- no column of dates is named or more than eight, the calendars are not as many, a calendar is said for empty fields of no
--- column, a word says no order, no rule of short years, no number or no delimiter, a
--- name names no column or one twice, a list is not of three words, registers of standard input are asked for, there are more than 32 files, or a file
--- is named twice
+-- column, a word says no order, no rule of short years, no number or no delimiter, a name names no column or one twice,
+-- a list is not of three words, registers of standard input are asked for, there are more than 32 files, or a file is
+-- named twice
 pub data Fault : Type 0 where
   usage : ErrorKind → Fault
   tree_at_odds : Fault
@@ -25,6 +25,7 @@ pub data Fault : Type 0 where
   unknown_order : List ℕ → Fault
   bad_short_years : List ℕ → Fault
   bad_short_hebrew_years : List ℕ → Fault
+  bad_short_other_years : List ℕ → Fault
   bad_skip : List ℕ → Fault
   unknown_delimiter : List ℕ → Fault
   unknown_column : List ℕ → Fault
@@ -46,6 +47,7 @@ fault_of_error request_fault.ElseAlone = Some else_alone
 fault_of_error (request_fault.UnknownOrder word) = Some (unknown_order word.now)
 fault_of_error (request_fault.BadShortYears word) = Some (bad_short_years word.now)
 fault_of_error (request_fault.BadShortHebrewYears word) = Some (bad_short_hebrew_years word.now)
+fault_of_error (request_fault.BadShortOtherYears word) = Some (bad_short_other_years word.now)
 fault_of_error (request_fault.BadSkip word) = Some (bad_skip word.now)
 fault_of_error (request_fault.UnknownDelimiter word) = Some (unknown_delimiter word.now)
 fault_of_error (request_fault.UnknownColumn name) = Some (unknown_column name.now)
@@ -87,6 +89,8 @@ error_line (request_fault.UnknownOrder word) = Some (program_line (codes "unknow
 error_line (request_fault.BadShortYears word) = Some (program_line (codes "bad short years: " ++ word.now))
 error_line (request_fault.BadShortHebrewYears word) =
     Some (program_line (codes "bad short Hebrew years: " ++ word.now))
+error_line (request_fault.BadShortOtherYears word) =
+    Some (program_line (codes "bad short years of other calendars: " ++ word.now))
 error_line (request_fault.BadSkip word) = Some (program_line (codes "bad number of records to skip: " ++ word.now))
 error_line (request_fault.UnknownDelimiter word) = Some (program_line (codes "unknown delimiter: " ++ word.now))
 error_line (request_fault.UnknownColumn name) = Some (program_line (codes "unknown column: " ++ name.now))

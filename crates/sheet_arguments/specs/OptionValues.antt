@@ -1,6 +1,6 @@
 -- What the values of the options mean.
-use Rattle.std.specs.Prelude.{◌≡◌, ◌⊎◌, ◌+◌, ◌%◌, ℕ, List, codes}
-use Rattle.std.specs.Str.{str_to_ascii_lowercase}
+use Rattle.std.specs.Prelude.{◌≡◌, ◌⊎◌, ◌+◌, ◌%◌, ℕ, List, Option, Some, None, codes, if◌then◌else◌}
+use Rattle.std.specs.Str.{bytes_eq, str_to_ascii_lowercase}
 use Rattle.command_lines.specs.Values.{IsNumberWord, ValueOption}
 use Rattle.written_dates.specs.declared.rules.Order.{Order}
 use Rattle.written_dates.specs.declared.rules.Order.TheVariants.{YearFirst, DayFirst, MonthFirst}
@@ -43,6 +43,17 @@ IsShortWord word n = IsBareShortWord word n ⊎ IsCenturyWord word n
 
 abbrev pub IsShortHebrewWord : List ℕ → ℕ → Type 0
 IsShortHebrewWord word n = IsBareShortWord word n ⊎ ((word ≡ codes "5000") × (n ≡ short_number (Add 5000)))
+
+-- what is said of short years counts for those of other calendars too, if it keeps them
+abbrev pub if_keep : List ℕ → Option (List ℕ)
+if_keep word = if bytes_eq word (codes "keep") then Some word else None
+
+-- the word that counts for short years of other calendars: the one for them, and without it `keep`, where that stands
+-- for short years
+abbrev pub other_word : Option (List ℕ) → Option (List ℕ) → Option (List ℕ)
+other_word (Some word) years = Some word
+other_word None (Some years) = if_keep years
+other_word None None = None
 
 -- the word is 0, or a number of at most five digits
 abbrev pub IsSkipWord : List ℕ → ℕ → Type 0

@@ -12,11 +12,12 @@ use Rattle.register_sheets.specs.declared.choices.Spans.{Spans}
 use Rattle.register_sheets.specs.declared.choices.Spans.TheVariants as spans_of
 use Rattle.written_dates.specs.declared.written.Choice.{Choice}
 use Rattle.sheet_arguments.specs.CommandLine.{Values, command_line, values_of}
-use Rattle.sheet_arguments.specs.Faults.{Fault, bad_short_hebrew_years, bad_short_years, bad_skip, calendar_count}
-use Rattle.sheet_arguments.specs.Faults.{else_alone, file_twice, no_date, register_of_input, too_many_dates}
-use Rattle.sheet_arguments.specs.Faults.{too_many_files, tree_at_odds, unknown_delimiter, unknown_order, usage}
-use Rattle.sheet_arguments.specs.OptionValues.{order_number, order_option, short_hebrew_option, short_number}
-use Rattle.sheet_arguments.specs.OptionValues.{short_option, skip_option}
+use Rattle.sheet_arguments.specs.Faults.{Fault, bad_short_hebrew_years, bad_short_other_years, bad_short_years}
+use Rattle.sheet_arguments.specs.Faults.{bad_skip, calendar_count, else_alone, file_twice, no_date, register_of_input}
+use Rattle.sheet_arguments.specs.Faults.{too_many_dates, too_many_files, tree_at_odds, unknown_delimiter}
+use Rattle.sheet_arguments.specs.Faults.{unknown_order, usage}
+use Rattle.sheet_arguments.specs.OptionValues.{order_number, order_option, other_word, short_hebrew_option}
+use Rattle.sheet_arguments.specs.OptionValues.{short_number, short_option, skip_option}
 use Rattle.sheet_arguments.specs.ThreeColumns.{ThreeWords, three_asked, words_seen}
 use Rattle.sheet_arguments.specs.TreeValues.{is_at_odds, meant}
 use Rattle.sheet_arguments.specs.WordLists.{columns_asked}
@@ -96,6 +97,8 @@ pub record Ask (values : Values) (task : Task) : Type 0 where
   pub short_years : IsValueOf short_option values.short_years (short_number task.reading.short_years)
   pub short_hebrew_years : IsValueOf short_hebrew_option values.short_hebrew_years
       (short_number task.reading.short_hebrew_years)
+  pub short_other_years : IsValueOf short_option (other_word values.short_other_years values.short_years)
+      (short_number task.reading.short_other_years)
   pub charters : task.reading.charters ≡ values.charter_years
   pub skip : IsValueOf skip_option values.skip task.skip
   pub delimiter : IsValueOf delimiter_option values.delimiter task.delimiter
@@ -127,6 +130,7 @@ value_checks values =
     ∷ option_check order_option unknown_order values.order
     ∷ option_check short_option bad_short_years values.short_years
     ∷ option_check short_hebrew_option bad_short_hebrew_years values.short_hebrew_years
+    ∷ option_check short_option bad_short_other_years (other_word values.short_other_years values.short_years)
     ∷ option_check skip_option bad_skip values.skip
     ∷ option_check delimiter_option unknown_delimiter values.delimiter
     ∷ result_check (columns_asked values.to)
@@ -209,6 +213,7 @@ values_by options = record {
   names = map (λ v. v.now) options.names.items;
   short_years = option_map (λ v. v.now) options.words.short_years;
   short_hebrew_years = option_map (λ v. v.now) options.words.short_hebrew_years;
+  short_other_years = option_map (λ v. v.now) options.words.short_other_years;
   charter_years = options.charter_years;
   skip = option_map (λ v. v.now) options.words.skip;
   delimiter = option_map (λ v. v.now) options.words.delimiter;
@@ -229,6 +234,7 @@ WordsAre words values =
     (option_map (λ w. w.now) words.order ≡ values.order)
     × (option_map (λ w. w.now) words.short_years ≡ values.short_years)
     × (option_map (λ w. w.now) words.short_hebrew_years ≡ values.short_hebrew_years)
+    × (option_map (λ w. w.now) words.short_other_years ≡ values.short_other_years)
     × (option_map (λ w. w.now) words.skip ≡ values.skip) × (option_map (λ w. w.now) words.delimiter ≡ values.delimiter)
 
 -- there are columns of dates, few enough, and as many calendars as wanted
@@ -238,6 +244,11 @@ FewDates values =
     × (are_misfits (length values.dates) (length values.calendars) (length values.all) ≡ false)
     × (is_else_alone (length values.calendars) values.otherwise ≡ false)
 
+-- the word that counts for short years of other calendars
+abbrev pub other_said : Words → Option Text
+other_said words =
+    other_word (option_map (λ w. w.now) words.short_other_years) (option_map (λ w. w.now) words.short_years)
+
 -- the words say to read so
 abbrev pub AreSaidBy : Words → Reading → Type 0
 AreSaidBy words reading =
@@ -245,6 +256,7 @@ AreSaidBy words reading =
     × IsValueOf short_option (option_map (λ w. w.now) words.short_years) (short_number reading.short_years)
     × IsValueOf short_hebrew_option (option_map (λ w. w.now) words.short_hebrew_years)
     (short_number reading.short_hebrew_years)
+    × IsValueOf short_option (other_said words) (short_number reading.short_other_years)
     × IsValueOf skip_option (option_map (λ w. w.now) words.skip) reading.skip
     × IsValueOf delimiter_option (option_map (λ w. w.now) words.delimiter) reading.delimiter
 
@@ -254,6 +266,7 @@ word_checks words =
     option_check order_option unknown_order (option_map (λ w. w.now) words.order)
     ∷ option_check short_option bad_short_years (option_map (λ w. w.now) words.short_years)
     ∷ option_check short_hebrew_option bad_short_hebrew_years (option_map (λ w. w.now) words.short_hebrew_years)
+    ∷ option_check short_option bad_short_other_years (other_said words)
     ∷ option_check skip_option bad_skip (option_map (λ w. w.now) words.skip)
     ∷ option_check delimiter_option unknown_delimiter (option_map (λ w. w.now) words.delimiter) ∷ []
 

@@ -36,6 +36,7 @@ of_tree values = record {
   names = values.names;
   short_years = values.short_years;
   short_hebrew_years = values.short_hebrew_years;
+  short_other_years = values.short_other_years;
   charter_years = values.charter_years;
   skip = values.skip;
   delimiter = values.delimiter;

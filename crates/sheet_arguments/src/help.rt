@@ -44,13 +44,17 @@ Options:
     --names FILE      a list of names, a CSV text with the columns name, means
                       and in; its names stand before the built-in ones, and,
                       of several such lists, before those of the next.
-    --short-years R   what is done with years of one or two digits, but French
-                      ones: refuse, keep, or a century that is added to
-                      Gregorian and Julian ones alone, 100, 200 and so on to
-                      2000. Without it: refuse, and the date is left empty.
+    --short-years R   what is done with Gregorian and Julian years of one or
+                      two digits: refuse, keep, or a century that is added,
+                      100, 200 and so on to 2000. Without it: refuse, and the
+                      date is left empty.
     --short-hebrew-years R
                       the same of Hebrew years of one to three digits: refuse,
                       keep or 5000.
+    --short-other-years R
+                      the same of Islamic, Coptic, Ethiopic and Armenian years
+                      of one or two digits: refuse, keep, or a century. Where
+                      --short-years keeps, these are kept without it.
     --charter-years   the year of a Roman date is that of its day.
     --skip N          how many records stand above the names. Without it: 0.
     --delimiter WORD  what stands between two fields: comma, semicolon or

@@ -4,10 +4,10 @@ ghost use Rattle.std.specs.Prelude.{◌≡◌, ◌↔◌, ◌%◌, ℕ, IfErr, I
 ghost use Rattle.std.specs.Str.{str_to_ascii_lowercase};
 ghost use Rattle.command_lines.specs.Meanings.{option_check};
 ghost use Rattle.command_lines.specs.Values.{IsNumberWord, IsValueOf, byte_of, delimiter_option};
-ghost use Rattle.sheet_arguments.specs.Faults.{bad_short_hebrew_years, bad_short_years, bad_skip, fault_of_error};
-ghost use Rattle.sheet_arguments.specs.Faults.{unknown_delimiter, unknown_order};
-ghost use Rattle.sheet_arguments.specs.OptionValues.{order_number, order_option, short_hebrew_option, short_number};
-ghost use Rattle.sheet_arguments.specs.OptionValues.{short_option, skip_option};
+ghost use Rattle.sheet_arguments.specs.Faults.{bad_short_hebrew_years, bad_short_other_years, bad_short_years};
+ghost use Rattle.sheet_arguments.specs.Faults.{bad_skip, fault_of_error, unknown_delimiter, unknown_order};
+ghost use Rattle.sheet_arguments.specs.OptionValues.{order_number, order_option, other_word as other_spec};
+ghost use Rattle.sheet_arguments.specs.OptionValues.{short_hebrew_option, short_number, short_option, skip_option};
 
 use crate::request_faults::RequestFault;
 use command_lines::{Delimiter, OptionValue, chosen, number_named};
@@ -215,6 +215,40 @@ pub fn chosen_short_hebrew_years<'a>(
     match chosen::<ShortHebrewYears>(word) {
         Ok(years) => Ok(years),
         Err(word) => Err(RequestFault::BadShortHebrewYears(word)),
+    }
+}
+
+/// The word that counts for short years of other calendars: the one for them, and without it `keep`, where that stands
+/// for short years.
+fn other_word<'a>(word: Option<&'a str>, years: Option<&'a str>) -> Option<&'a str>
+    ensures { option_map (λ w. w.now) result
+        ≡ other_spec (option_map (λ w. w.now) word.entry) (option_map (λ w. w.now) years.entry) }
+{
+    match (word, years) {
+        (None, Some(rule)) if rule == "keep" => Some(rule),
+        (word, _) => word,
+    }
+}
+
+/// What `--short-other-years` asks for, beside the word of `--short-years`.
+///
+/// # Errors
+///
+/// `BadShortOtherYears` for a word that says nothing.
+pub fn chosen_short_other_years<'a>(
+    word: Option<&'a str>,
+    years: Option<&'a str>,
+) -> Result<ShortYears, RequestFault<'a>>
+    ensures value { IfOk result (λ value. IsValueOf short_option
+        (other_spec (option_map (λ w. w.now) word.entry) (option_map (λ w. w.now) years.entry))
+        (short_number value.rule)) }
+    ensures fault { IfErr result (λ error. IsSomeAnd (fault_of_error error)
+        ((option_check short_option bad_short_other_years
+        (other_spec (option_map (λ w. w.now) word.entry) (option_map (λ w. w.now) years.entry))).fails)) }
+{
+    match chosen::<ShortYears>(other_word(word, years)) {
+        Ok(years) => Ok(years),
+        Err(word) => Err(RequestFault::BadShortOtherYears(word)),
     }
 }
 

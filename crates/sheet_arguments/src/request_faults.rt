@@ -36,6 +36,8 @@ pub enum RequestFault<'a> {
     BadShortYears(&'a str),
     /// A rule of short Hebrew years that is none of the three words, as it was given.
     BadShortHebrewYears(&'a str),
+    /// A rule of short years of other calendars that is none of the two words and no such century, as it was given.
+    BadShortOtherYears(&'a str),
     /// A count of records to skip that is no number from 0 to 99999 in one to five digits, as it was given.
     BadSkip(&'a str),
     /// A delimiter that is none of the three words, as it was given.
@@ -133,6 +135,9 @@ impl RequestFault<'_> {
             RequestFault::UnknownOrder(word) => ("unknown order: ", *word),
             RequestFault::BadShortYears(word) => ("bad short years: ", *word),
             RequestFault::BadShortHebrewYears(word) => ("bad short Hebrew years: ", *word),
+            RequestFault::BadShortOtherYears(word) => {
+                ("bad short years of other calendars: ", *word)
+            }
             RequestFault::BadSkip(word) => ("bad number of records to skip: ", *word),
             RequestFault::UnknownDelimiter(word) => ("unknown delimiter: ", *word),
             RequestFault::UnknownColumn(name) => ("unknown column: ", *name),

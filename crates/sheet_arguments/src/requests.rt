@@ -22,7 +22,8 @@ ghost use Rattle.sheet_arguments.specs.Requests.{spans_asked as spans_spec, want
 
 use crate::column_lists::chosen_columns;
 use crate::option_values::{
-    chosen_delimiter, chosen_order, chosen_short_hebrew_years, chosen_short_years, chosen_skip,
+    chosen_delimiter, chosen_order, chosen_short_hebrew_years, chosen_short_other_years,
+    chosen_short_years, chosen_skip,
 };
 use crate::request_faults::RequestFault;
 use crate::three_columns::{ThreeColumns, chosen_three};
@@ -37,7 +38,7 @@ use written_dates::{Choice, Order, Short};
 pub const VERSION: &str = "1.2.0";
 
 /// The options and flags, and the files.
-const ARGUMENTS: [Argument<'static>; 21] = [
+const ARGUMENTS: [Argument<'static>; 22] = [
     Argument::Flag("tree"),
     Argument::Repeated("date", "COLUMN"),
     Argument::Valued("three", "YEAR,MONTH,DAY"),
@@ -49,6 +50,7 @@ const ARGUMENTS: [Argument<'static>; 21] = [
     Argument::Repeated("names", "FILE"),
     Argument::Valued("short-years", "refuse|keep|CENTURY"),
     Argument::Valued("short-hebrew-years", "refuse|keep|5000"),
+    Argument::Valued("short-other-years", "refuse|keep|CENTURY"),
     Argument::Flag("charter-years"),
     Argument::Valued("skip", "N"),
     Argument::Valued("delimiter", "comma|semicolon|tab"),
@@ -122,6 +124,7 @@ struct Words<'a> {
     order: Option<&'a str>,
     short_years: Option<&'a str>,
     short_hebrew_years: Option<&'a str>,
+    short_other_years: Option<&'a str>,
     skip: Option<&'a str>,
     delimiter: Option<&'a str>,
 }
@@ -167,6 +170,7 @@ fn words_found<'a>(matches: &ArgMatches<'a>) -> Words<'a>
         order: value_given(matches, "order"),
         short_years: value_given(matches, "short-years"),
         short_hebrew_years: value_given(matches, "short-hebrew-years"),
+        short_other_years: value_given(matches, "short-other-years"),
         skip: value_given(matches, "skip"),
         delimiter: value_given(matches, "delimiter"),
     }
@@ -291,6 +295,7 @@ struct Reading {
     order: Order,
     short_years: Short,
     short_hebrew_years: Short,
+    short_other_years: Short,
     skip: u32,
     delimiter: u8,
 }
@@ -299,7 +304,8 @@ struct Reading {
 ///
 /// # Errors
 ///
-/// The first that applies: `UnknownOrder`, `BadShortYears`, `BadShortHebrewYears`, `BadSkip` and `UnknownDelimiter`.
+/// The first that applies: `UnknownOrder`, `BadShortYears`, `BadShortHebrewYears`, `BadShortOtherYears`, `BadSkip` and
+/// `UnknownDelimiter`.
 fn chosen_reading<'a>(words: &Words<'a>) -> Result<Reading, RequestFault<'a>>
     ensures value { IfOk result (AreSaidBy words.now) }
     ensures fault { IfErr result (λ error. IfSome (fault_of_error error) (FailFirst (word_checks words.now))) }
@@ -307,12 +313,14 @@ fn chosen_reading<'a>(words: &Words<'a>) -> Result<Reading, RequestFault<'a>>
     let order = chosen_order(words.order)?;
     let short_years = chosen_short_years(words.short_years)?;
     let short_hebrew_years = chosen_short_hebrew_years(words.short_hebrew_years)?;
+    let short_other_years = chosen_short_other_years(words.short_other_years, words.short_years)?;
     let skip = chosen_skip(words.skip)?;
     let delimiter = chosen_delimiter(words.delimiter)?;
     Ok(Reading {
         order: order.order,
         short_years: short_years.rule,
         short_hebrew_years: short_hebrew_years.rule,
+        short_other_years: short_other_years.rule,
         skip: skip.count,
         delimiter: delimiter.byte(),
     })
@@ -352,9 +360,9 @@ fn outputs_fit<'a>(register: bool, files: &[&'a str]) -> Result<(), RequestFault
 /// # Errors
 ///
 /// The first that applies: `NoDate`, `TooManyDates`, `CalendarCount`, `ElseAlone`, `UnknownOrder`,
-/// `BadShortYears`, `BadShortHebrewYears`, `BadSkip`, `UnknownDelimiter`, the faults of the list of columns as
-/// [`chosen_columns`] has them, `BadThree`, `RegisterOfInput`, and the faults of the files as [`check_files`] has them; and
-/// `OutOfMemory` where memory runs out on the way.
+/// `BadShortYears`, `BadShortHebrewYears`, `BadShortOtherYears`, `BadSkip`, `UnknownDelimiter`, the faults of the list
+/// of columns as [`chosen_columns`] has them, `BadThree`, `RegisterOfInput`, and the faults of the files as
+/// [`check_files`] has them; and `OutOfMemory` where memory runs out on the way.
 fn chosen_job<'a>(alloc: Global, options: Options<'a>) -> Result<Job<'a>, RequestFault<'a>>
     ensures asked { IfOk result (λ job. Ask (values_by options.entry) (task_of job)) }
     ensures fault { IfErr result (λ error. IfSome (fault_of_error error)
@@ -377,6 +385,7 @@ fn chosen_job<'a>(alloc: Global, options: Options<'a>) -> Result<Job<'a>, Reques
             order: reading.order,
             short_years: reading.short_years,
             short_hebrew_years: reading.short_hebrew_years,
+            short_other_years: reading.short_other_years,
             charters: options.charter_years,
         },
         names: options.names,
@@ -445,6 +454,7 @@ fn meant<'a>(alloc: Global, options: Options<'a>) -> Result<Options<'a>, AllocEr
             order: Some(options.words.order.unwrap_or("day")),
             short_years: options.words.short_years,
             short_hebrew_years: options.words.short_hebrew_years,
+            short_other_years: options.words.short_other_years,
             skip: options.words.skip,
             delimiter: options.words.delimiter,
         },

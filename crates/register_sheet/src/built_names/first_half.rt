@@ -736,36 +736,96 @@ amic hebrew french republican\nі,and,gregorian julian coptic ethiopic egyptian 
 an\nта,and,gregorian julian coptic ethiopic egyptian armenian islamic hebrew french republican\nκαι,and,gregorian \
 julian coptic ethiopic egyptian armenian islamic hebrew french republican\noch,and,gregorian julian coptic ethiopic egy\
 ptian armenian islamic hebrew french republican\nog,and,gregorian julian coptic ethiopic egyptian armenian islamic hebr\
-ew french republican\nja,and,gregorian julian coptic ethiopic egyptian armenian islamic hebrew french republican\nAdar,\
-month 12-13,hebrew\neve of,eve,gregorian julian\nvigilia,eve,gregorian julian\nin vigilia,eve,gregorian julian\nVigil,e\
-ve,gregorian julian\nVorabend,eve,gregorian julian\nprofesto,eve,gregorian julian\nveille de,eve,gregorian julian\nocta\
-va,octave,gregorian julian\nin octava,octave,gregorian julian\nOktav,octave,gregorian julian\noctave of,octave,gregoria\
-n julian\nin crastino,morrow,gregorian julian\ncrastino,morrow,gregorian julian\nmorrow of,morrow,gregorian julian\nOst\
-ern,easter 0,gregorian julian\nOstersonntag,easter 0,gregorian julian\nOstertag,easter 0,gregorian julian\nPascha,easte\
-r 0,gregorian julian\nPaschae,easter 0,gregorian julian\nPasche,easter 0,gregorian julian\nResurrectionis Domini,easte\
-r 0,gregorian julian\nEaster,easter 0,gregorian julian\nEaster Day,easter 0,gregorian julian\nEaster Sunday,easter 0,gr\
-egorian julian\nPâques,easter 0,gregorian julian\nOstermontag,easter 1,gregorian julian\nEaster Monday,easter 1,gregor\
-ian julian\nlundi de Pâques,easter 1,gregorian julian\nOsterdienstag,easter 2,gregorian julian\nEaster Tuesday,easter \
-2,gregorian julian\nSeptuagesima,easter -63,gregorian julian\nSeptuagesimae,easter -63,gregorian julian\nSeptuagésime,\
-easter -63,gregorian julian\nCircumdederunt,easter -63,gregorian julian\nSexagesima,easter -56,gregorian julian\nSexage\
-simae,easter -56,gregorian julian\nExsurge,easter -56,gregorian julian\nExurge,easter -56,gregorian julian\nQuinquagesi\
-ma,easter -49,gregorian julian\nQuinquagesimae,easter -49,gregorian julian\nEstomihi,easter -49,gregorian julian\nEsto \
-mihi,easter -49,gregorian julian\nHerrenfastnacht,easter -49,gregorian julian\nFastnachtsdienstag,easter -47,gregorian \
-julian\nShrove Tuesday,easter -47,gregorian julian\nMardi gras,easter -47,gregorian julian\nAschermittwoch,easter -46,g\
-regorian julian\ndies Cinerum,easter -46,gregorian julian\nCinerum,easter -46,gregorian julian\nAsh Wednesday,easter -4\
-6,gregorian julian\nmercredi des Cendres,easter -46,gregorian julian\nInvocavit,easter -42,gregorian julian\nInvocabit,\
-easter -42,gregorian julian\nQuadragesima,easter -42,gregorian julian\nReminiscere,easter -35,gregorian julian\nOculi,e\
-aster -28,gregorian julian\nLaetare,easter -21,gregorian julian\nLetare,easter -21,gregorian julian\nLätare,easter -21\
-,gregorian julian\nJudica,easter -14,gregorian julian\nIudica,easter -14,gregorian julian\nPalmarum,easter -7,gregoria\
-n julian\nPalmsonntag,easter -7,gregorian julian\nPalm Sunday,easter -7,gregorian julian\ndimanche des Rameaux,easter -\
-7,gregorian julian\nRameaux,easter -7,gregorian julian\nGründonnerstag,easter -3,gregorian julian\nCoena Domini,easte\
-r -3,gregorian julian\nCoenae Domini,easter -3,gregorian julian\nCene Domini,easter -3,gregorian julian\nMaundy Thursda\
-y,easter -3,gregorian julian\nJeudi saint,easter -3,gregorian julian\nKarfreitag,easter -2,gregorian julian\nCharfreita\
-g,easter -2,gregorian julian\nParasceve,easter -2,gregorian julian\nGood Friday,easter -2,gregorian julian\nVendredi sa\
-int,easter -2,gregorian julian\nKarsamstag,easter -1,gregorian julian\nSabbatum sanctum,easter -1,gregorian julian\nQua\
-simodogeniti,easter 7,gregorian julian\nQuasi modo geniti,easter 7,gregorian julian\nQuasimodo,easter 7,gregorian julia\
-n\nLow Sunday,easter 7,gregorian julian\nMisericordias Domini,easter 14,gregorian julian\nMisericordia Domini,easter 14\
-,gregorian julian\nJubilate,easter 21,gregorian julian\nIubilate,easter 21,gregorian julian\nCantate,easter 28,gregoria\
-n julian\nKantate,easter 28,gregorian julian\nRogate,easter 35,gregorian julian\nVocem jucunditatis,easter 35,gregoria\
-n julian\nRogation Sunday,easter 35,gregorian julian\nHimmelfahrt,easter 39,gregorian julian\n\
+ew french republican\nja,and,gregorian julian coptic ethiopic egyptian armenian islamic hebrew french republican\no. D.\
+,undated,gregorian julian coptic ethiopic egyptian armenian islamic hebrew french republican\no. J.,undated,gregorian j\
+ulian coptic ethiopic egyptian armenian islamic hebrew french republican\nohne Datum,undated,gregorian julian coptic et\
+hiopic egyptian armenian islamic hebrew french republican\nohne Jahr,undated,gregorian julian coptic ethiopic egyptian \
+armenian islamic hebrew french republican\nohne Jahresangabe,undated,gregorian julian coptic ethiopic egyptian armenia\
+n islamic hebrew french republican\nohne Datierung,undated,gregorian julian coptic ethiopic egyptian armenian islamic h\
+ebrew french republican\nundatiert,undated,gregorian julian coptic ethiopic egyptian armenian islamic hebrew french rep\
+ublican\nundat.,undated,gregorian julian coptic ethiopic egyptian armenian islamic hebrew french republican\nnicht dati\
+ert,undated,gregorian julian coptic ethiopic egyptian armenian islamic hebrew french republican\nn. d.,undated,gregoria\
+n julian coptic ethiopic egyptian armenian islamic hebrew french republican\nundated,undated,gregorian julian coptic et\
+hiopic egyptian armenian islamic hebrew french republican\nno date,undated,gregorian julian coptic ethiopic egyptian ar\
+menian islamic hebrew french republican\nnot dated,undated,gregorian julian coptic ethiopic egyptian armenian islamic h\
+ebrew french republican\nwithout date,undated,gregorian julian coptic ethiopic egyptian armenian islamic hebrew french \
+republican\nwithout a date,undated,gregorian julian coptic ethiopic egyptian armenian islamic hebrew french republican\
+\ns. d.,undated,gregorian julian coptic ethiopic egyptian armenian islamic hebrew french republican\ns. a.,undated,greg\
+orian julian coptic ethiopic egyptian armenian islamic hebrew french republican\ns. l. n. d.,undated,gregorian julian c\
+optic ethiopic egyptian armenian islamic hebrew french republican\ns. l. s. d.,undated,gregorian julian coptic ethiopi\
+c egyptian armenian islamic hebrew french republican\nsans date,undated,gregorian julian coptic ethiopic egyptian armen\
+ian islamic hebrew french republican\nsans année,undated,gregorian julian coptic ethiopic egyptian armenian islamic he\
+brew french republican\nnon daté,undated,gregorian julian coptic ethiopic egyptian armenian islamic hebrew french repu\
+blican\nnon datée,undated,gregorian julian coptic ethiopic egyptian armenian islamic hebrew french republican\nnon dat\
+e,undated,gregorian julian coptic ethiopic egyptian armenian islamic hebrew french republican\nsine dato,undated,gregor\
+ian julian coptic ethiopic egyptian armenian islamic hebrew french republican\nsine anno,undated,gregorian julian copti\
+c ethiopic egyptian armenian islamic hebrew french republican\nsine data,undated,gregorian julian coptic ethiopic egypt\
+ian armenian islamic hebrew french republican\nsin fecha,undated,gregorian julian coptic ethiopic egyptian armenian isl\
+amic hebrew french republican\ns. f.,undated,gregorian julian coptic ethiopic egyptian armenian islamic hebrew french r\
+epublican\nsin data,undated,gregorian julian coptic ethiopic egyptian armenian islamic hebrew french republican\nsin a\
+ño,undated,gregorian julian coptic ethiopic egyptian armenian islamic hebrew french republican\nsin ano,undated,gregor\
+ian julian coptic ethiopic egyptian armenian islamic hebrew french republican\nsem data,undated,gregorian julian copti\
+c ethiopic egyptian armenian islamic hebrew french republican\nsem ano,undated,gregorian julian coptic ethiopic egyptia\
+n armenian islamic hebrew french republican\nsenza data,undated,gregorian julian coptic ethiopic egyptian armenian isla\
+mic hebrew french republican\nsenza anno,undated,gregorian julian coptic ethiopic egyptian armenian islamic hebrew fren\
+ch republican\nnon datato,undated,gregorian julian coptic ethiopic egyptian armenian islamic hebrew french republican\n\
+non datata,undated,gregorian julian coptic ethiopic egyptian armenian islamic hebrew french republican\nz. d.,undated,g\
+regorian julian coptic ethiopic egyptian armenian islamic hebrew french republican\nz. j.,undated,gregorian julian copt\
+ic ethiopic egyptian armenian islamic hebrew french republican\nzonder datum,undated,gregorian julian coptic ethiopic e\
+gyptian armenian islamic hebrew french republican\nzonder jaar,undated,gregorian julian coptic ethiopic egyptian armeni\
+an islamic hebrew french republican\nongedateerd,undated,gregorian julian coptic ethiopic egyptian armenian islamic heb\
+rew french republican\nbez daty,undated,gregorian julian coptic ethiopic egyptian armenian islamic hebrew french republ\
+ican\nb. d.,undated,gregorian julian coptic ethiopic egyptian armenian islamic hebrew french republican\nbez roku,undat\
+ed,gregorian julian coptic ethiopic egyptian armenian islamic hebrew french republican\nniedatowany,undated,gregorian j\
+ulian coptic ethiopic egyptian armenian islamic hebrew french republican\nniedatowane,undated,gregorian julian coptic e\
+thiopic egyptian armenian islamic hebrew french republican\nniedatowana,undated,gregorian julian coptic ethiopic egypti\
+an armenian islamic hebrew french republican\nbez data,undated,gregorian julian coptic ethiopic egyptian armenian islam\
+ic hebrew french republican\nnedatováno,undated,gregorian julian coptic ethiopic egyptian armenian islamic hebrew fren\
+ch republican\nnedatovano,undated,gregorian julian coptic ethiopic egyptian armenian islamic hebrew french republican\n\
+keltezés nélkül,undated,gregorian julian coptic ethiopic egyptian armenian islamic hebrew french republican\nkelteze\
+tlen,undated,gregorian julian coptic ethiopic egyptian armenian islamic hebrew french republican\nk. n.,undated,gregori\
+an julian coptic ethiopic egyptian armenian islamic hebrew french republican\né. n.,undated,gregorian julian coptic et\
+hiopic egyptian armenian islamic hebrew french republican\név nélkül,undated,gregorian julian coptic ethiopic egypti\
+an armenian islamic hebrew french republican\névszám nélkül,undated,gregorian julian coptic ethiopic egyptian armen\
+ian islamic hebrew french republican\ndátum nélkül,undated,gregorian julian coptic ethiopic egyptian armenian islami\
+c hebrew french republican\nб. д.,undated,gregorian julian coptic ethiopic egyptian armenian islamic hebrew french re\
+publican\nб. г.,undated,gregorian julian coptic ethiopic egyptian armenian islamic hebrew french republican\nбез \
+даты,undated,gregorian julian coptic ethiopic egyptian armenian islamic hebrew french republican\nбез года,u\
+ndated,gregorian julian coptic ethiopic egyptian armenian islamic hebrew french republican\nбез числа и год\
+а,undated,gregorian julian coptic ethiopic egyptian armenian islamic hebrew french republican\nнедатирован\
+о,undated,gregorian julian coptic ethiopic egyptian armenian islamic hebrew french republican\nнедатирован\
+ный,undated,gregorian julian coptic ethiopic egyptian armenian islamic hebrew french republican\nнедатиров\
+анная,undated,gregorian julian coptic ethiopic egyptian armenian islamic hebrew french republican\nбез дати\
+,undated,gregorian julian coptic ethiopic egyptian armenian islamic hebrew french republican\nбез року,undated,g\
+regorian julian coptic ethiopic egyptian armenian islamic hebrew french republican\nнедатовано,undated,gregor\
+ian julian coptic ethiopic egyptian armenian islamic hebrew french republican\nu. å.,undated,gregorian julian coptic e\
+thiopic egyptian armenian islamic hebrew french republican\nutan år,undated,gregorian julian coptic ethiopic egyptian \
+armenian islamic hebrew french republican\nutan datum,undated,gregorian julian coptic ethiopic egyptian armenian islami\
+c hebrew french republican\nodaterad,undated,gregorian julian coptic ethiopic egyptian armenian islamic hebrew french r\
+epublican\nodaterat,undated,gregorian julian coptic ethiopic egyptian armenian islamic hebrew french republican\nodat.,\
+undated,gregorian julian coptic ethiopic egyptian armenian islamic hebrew french republican\nodaterade,undated,gregoria\
+n julian coptic ethiopic egyptian armenian islamic hebrew french republican\nuden år,undated,gregorian julian coptic e\
+thiopic egyptian armenian islamic hebrew french republican\nuden dato,undated,gregorian julian coptic ethiopic egyptia\
+n armenian islamic hebrew french republican\nudateret,undated,gregorian julian coptic ethiopic egyptian armenian islami\
+c hebrew french republican\nuten år,undated,gregorian julian coptic ethiopic egyptian armenian islamic hebrew french r\
+epublican\nuten dato,undated,gregorian julian coptic ethiopic egyptian armenian islamic hebrew french republican\nudate\
+rt,undated,gregorian julian coptic ethiopic egyptian armenian islamic hebrew french republican\npäiväämätön,undate\
+d,gregorian julian coptic ethiopic egyptian armenian islamic hebrew french republican\npäiväämättä,undated,gregori\
+an julian coptic ethiopic egyptian armenian islamic hebrew french republican\nilman päiväystä,undated,gregorian juli\
+an coptic ethiopic egyptian armenian islamic hebrew french republican\ntarihsiz,undated,gregorian julian coptic ethiopi\
+c egyptian armenian islamic hebrew french republican\nχωρίς ημερομηνία,undated,gregorian julian coptic e\
+thiopic egyptian armenian islamic hebrew french republican\nχωρίς χρονολογία,undated,gregorian julian co\
+ptic ethiopic egyptian armenian islamic hebrew french republican\nαχρονολόγητο,undated,gregorian julian cop\
+tic ethiopic egyptian armenian islamic hebrew french republican\nἀχρονολόγητον,undated,gregorian julian c\
+optic ethiopic egyptian armenian islamic hebrew french republican\nAdar,month 12-13,hebrew\neve of,eve,gregorian julian\
+\nvigilia,eve,gregorian julian\nin vigilia,eve,gregorian julian\nVigil,eve,gregorian julian\nVorabend,eve,gregorian jul\
+ian\nprofesto,eve,gregorian julian\nveille de,eve,gregorian julian\noctava,octave,gregorian julian\nin octava,octave,gr\
+egorian julian\nOktav,octave,gregorian julian\noctave of,octave,gregorian julian\nin crastino,morrow,gregorian julian\n\
+crastino,morrow,gregorian julian\nmorrow of,morrow,gregorian julian\nOstern,easter 0,gregorian julian\nOstersonntag,eas\
+ter 0,gregorian julian\nOstertag,easter 0,gregorian julian\nPascha,easter 0,gregorian julian\nPaschae,easter 0,gregoria\
+n julian\nPasche,easter 0,gregorian julian\nResurrectionis Domini,easter 0,gregorian julian\nEaster,easter 0,gregorian \
+julian\nEaster Day,easter 0,gregorian julian\nEaster Sunday,easter 0,gregorian julian\nPâques,easter 0,gregorian julia\
+n\nOstermontag,easter 1,gregorian julian\nEaster Monday,easter 1,gregorian julian\nlundi de Pâques,easter 1,gregorian \
+julian\nOsterdienstag,easter 2,gregorian julian\nEaster Tuesday,easter 2,gregorian julian\nSeptuagesima,easter -63,greg\
+orian julian\n\
 ";

@@ -7,7 +7,7 @@ pub returns-in_default-2 : goal.returns-in_default-2
 returns-in_default-2 c =
     let head = c.args.head.now in
     let read : reading_by (slice_index_or head 3 0) (slice_index_or head 4 0) (slice_index_or head 5 0)
-    (slice_index_or head 6 0) ≡ Some c.in-Some.reading = search rules in
+    (slice_index_or head 6 0) (slice_index_or head 7 0) ≡ Some c.in-Some.reading = search rules in
     let low : (slice_index_or head 0 0 < 256) × (c.in-Ok.delimiter ≡ slice_index_or head 0 0)
     = rw c.in-Ok.is at c.try_from.ensures in
     sym (asked_made head c.args.dates.now c.args.columns.now c.in-Ok.delimiter c.in-Some.reading c.in-Some-spans_of.spans None _
@@ -17,7 +17,7 @@ pub returns : goal.returns
 returns c =
     let head = c.args.head.now in
     let read : reading_by (slice_index_or head 3 0) (slice_index_or head 4 0) (slice_index_or head 5 0)
-    (slice_index_or head 6 0) ≡ Some c.in-Some.reading = search rules in
+    (slice_index_or head 6 0) (slice_index_or head 7 0) ≡ Some c.in-Some.reading = search rules in
     let low : (slice_index_or head 0 0 < 256) × (c.in-Ok.delimiter ≡ slice_index_or head 0 0)
     = rw c.in-Ok.is at c.try_from.ensures in
     rw c.id_of.ensures (sym (asked_made head c.args.dates.now c.args.columns.now c.in-Ok.delimiter c.in-Some.reading
@@ -28,7 +28,7 @@ pub returns-in_default-3 : goal.returns-in_default-3
 returns-in_default-3 c =
     let head = c.args.head.now in
     let read : reading_by (slice_index_or head 3 0) (slice_index_or head 4 0) (slice_index_or head 5 0)
-    (slice_index_or head 6 0) ≡ Some c.in-Some.reading = search rules in
+    (slice_index_or head 6 0) (slice_index_or head 7 0) ≡ Some c.in-Some.reading = search rules in
     let low : (slice_index_or head 0 0 < 256) × (c.in-Ok.delimiter ≡ slice_index_or head 0 0)
     = rw c.in-Ok.is at c.try_from.ensures in
     sym (asked_made head c.args.dates.now c.args.columns.now c.in-Ok.delimiter c.in-Some.reading c.in-Some-spans_of.spans

@@ -19,7 +19,7 @@ passed_four v few = (few.0, (few.1, (few.2, (few.3, tt))))
 
 passed_words : (words : Words) (reading : Reading) → AreSaidBy words reading → AllPass (word_checks words)
 passed_words words reading said =
-    ((_, said.0), ((_, said.1), ((_, said.2), ((_, said.3), ((_, said.4), tt)))))
+    ((_, said.0), ((_, said.1), ((_, said.2), ((_, said.3), ((_, said.4), ((_, said.5), tt))))))
 
 pub returns-in_err-dates_fit-clause-fault : goal.returns-in_err-dates_fit-clause-fault
 returns-in_err-dates_fit-clause-fault c =
@@ -34,7 +34,7 @@ returns-in_err-reading-clause-fault c =
     let words = word_checks c.args.options.words in
     let four = passed_four v c.in_ok-dates_fit.ensures.fine in
     let first : (fault : Fault) → FailFirst words fault → FailFirst checks fault
-    = λ fault is. behind (take 4 checks) (drop 4 checks) fault four (among_first words (drop 9 checks) fault is) in
+    = λ fault is. behind (take 4 checks) (drop 4 checks) fault four (among_first words (drop 10 checks) fault is) in
     found_up c.from_residual-in_err-reading.result c.in_err-reading.field-0.0 checks (FailFirst words)
     c.from_residual-in_err-reading.ensures.1 c.in_err-reading.ensures.fault first
 
@@ -48,7 +48,7 @@ returns-in_err-columns-clause-fault c =
     let fails = (result_check (columns_asked v.to)).fails in
     let first : (fault : Fault) → fails fault → FailFirst checks fault
     = λ fault is. behind (take 4 checks) (drop 4 checks) fault four
-    (behind words (drop 9 checks) fault said (inl is)) in
+    (behind words (drop 10 checks) fault said (inl is)) in
     found_up c.from_residual-in_err-columns.result c.in_err-columns.field-0.0 checks fails
     c.from_residual-in_err-columns.ensures.1 c.in_err-columns.ensures.fault first
 
@@ -62,7 +62,7 @@ returns-in_err-three-clause-fault c =
     let fails = (result_check (three_asked v.three)).fails in
     let first : (fault : Fault) → fails fault → FailFirst checks fault
     = λ fault is. behind (take 4 checks) (drop 4 checks) fault four
-    (behind words (drop 9 checks) fault said (inr ((_, c.in_ok-columns.ensures.value), inl is))) in
+    (behind words (drop 10 checks) fault said (inr ((_, c.in_ok-columns.ensures.value), inl is))) in
     found_up c.from_residual-in_err-three.result c.in_err-three.field-0.0 checks fails
     c.from_residual-in_err-three.ensures.1 c.in_err-three.ensures.fault first
 
@@ -76,7 +76,7 @@ returns-in_err-outputs_fit-clause-fault c =
     let outputs = output_checks v.register v.files in
     let first : (fault : Fault) → FailFirst outputs fault → FailFirst checks fault
     = λ fault is. behind (take 4 checks) (drop 4 checks) fault four
-    (behind words (drop 9 checks) fault said
+    (behind words (drop 10 checks) fault said
     (inr ((_, c.in_ok-columns.ensures.value), inr ((_, c.in_ok-three.ensures.value), is)))) in
     found_up c.from_residual-in_err-outputs_fit.result c.in_err-outputs_fit.field-0.0 checks (FailFirst outputs)
     c.from_residual-in_err-outputs_fit.ensures.1 (rw c.as_slice.ensures.value at c.in_err-outputs_fit.ensures.fault) first
@@ -99,9 +99,10 @@ returns-clause-asked c =
       order = said.0;
       short_years = said.1;
       short_hebrew_years = said.2;
+      short_other_years = said.3;
       charters = refl;
-      skip = said.3;
-      delimiter = said.4;
+      skip = said.4;
+      delimiter = said.5;
       columns = c.in_ok-columns.ensures.value;
       spans = c.spans_asked.ensures;
       names = refl;

@@ -101,6 +101,7 @@ export function shown(state) {
   }
   const read = readOf(answer, text), refusal = Number(answer.refusal);
   if (refusal) {
+    if (marksOf(answer).includes('undated')) return { line: WORDS.isNoDay(WORDS.spanMarks.undated), kind: 'wrong', cells: [] };
     const why = answer.stop ? stopWords(answer.stop, text) : WORDS.refusals[refusal - 1];
     const reason = refusal === TOO_LONG ? WORDS.isTooLong : why;
     return { line: WORDS.isNoDay(reason, read), kind: 'wrong', cells: [] };

@@ -77,6 +77,7 @@ export const WORDS = {
   spanMarks: {
     about: 'ungefähr dann', uncertain: 'unsicher', between: 'ein Tag dazwischen', before: 'irgendwann davor',
     after: 'irgendwann danach', from: 'von da an', to: 'bis dahin', inferred: 'teilweise ergänzt, in Klammern',
+    undated: 'es ist kein Datum bekannt',
   },
   noEnds: ['kein erster Tag', 'kein letzter Tag'],
   church: 'Sonntag oder Fest',

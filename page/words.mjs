@@ -74,6 +74,7 @@ export const WORDS = {
   spanMarks: {
     about: 'about then', uncertain: 'uncertain', between: 'a day between these', before: 'some time before',
     after: 'some time after', from: 'from then on', to: 'up to then', inferred: 'partly supplied, in brackets',
+    undated: 'no date is known',
   },
   noEnds: ['no first day', 'no last day'],
   church: 'Sunday or feast',

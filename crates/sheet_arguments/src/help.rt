@@ -68,7 +68,8 @@ Options:
                       date the columns come for its first day and for its
                       last, and behind them mark, which says what else a
                       date is: between, before, after, from, to, about,
-                      uncertain, inferred. An end that is open is empty.
+                      uncertain, inferred, undated. An end that is open is
+                      empty.
     --edtf            the same, and before mark a column edtf, with the date
                       in the Extended Date/Time Format of ISO 8601-2.
     --register        write the register of each column of dates too, which

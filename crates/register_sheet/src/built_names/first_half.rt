@@ -649,183 +649,183 @@ n julian coptic ethiopic egyptian armenian islamic hebrew french republican\nμ�
 iopic egyptian armenian islamic hebrew french republican\nefter,after,gregorian julian coptic ethiopic egyptian armenia\
 n islamic hebrew french republican\netter,after,gregorian julian coptic ethiopic egyptian armenian islamic hebrew frenc\
 h republican\ndepois de,after,gregorian julian coptic ethiopic egyptian armenian islamic hebrew french republican\nca,a\
-bout,gregorian julian coptic ethiopic egyptian armenian islamic hebrew french republican\ncirca,about,gregorian julian \
-coptic ethiopic egyptian armenian islamic hebrew french republican\num,about,gregorian julian coptic ethiopic egyptian \
-armenian islamic hebrew french republican\ngegen,about,gregorian julian coptic ethiopic egyptian armenian islamic hebre\
-w french republican\netwa,about,gregorian julian coptic ethiopic egyptian armenian islamic hebrew french republican\nab\
-out,about,gregorian julian coptic ethiopic egyptian armenian islamic hebrew french republican\nabt,about,gregorian juli\
-an coptic ethiopic egyptian armenian islamic hebrew french republican\nest,about,gregorian julian coptic ethiopic egypt\
-ian armenian islamic hebrew french republican\ncal,about,gregorian julian coptic ethiopic egyptian armenian islamic heb\
-rew french republican\nvers,about,gregorian julian coptic ethiopic egyptian armenian islamic hebrew french republican\n\
-environ,about,gregorian julian coptic ethiopic egyptian armenian islamic hebrew french republican\nomstreeks,about,greg\
-orian julian coptic ethiopic egyptian armenian islamic hebrew french republican\nongeveer,about,gregorian julian copti\
-c ethiopic egyptian armenian islamic hebrew french republican\nverso,about,gregorian julian coptic ethiopic egyptian ar\
-menian islamic hebrew french republican\nhacia,about,gregorian julian coptic ethiopic egyptian armenian islamic hebrew \
-french republican\nokoło,about,gregorian julian coptic ethiopic egyptian armenian islamic hebrew french republican\nko\
-lem,about,gregorian julian coptic ethiopic egyptian armenian islamic hebrew french republican\nasi,about,gregorian juli\
-an coptic ethiopic egyptian armenian islamic hebrew french republican\ncirciter,about,gregorian julian coptic ethiopic \
-egyptian armenian islamic hebrew french republican\nоколо,about,gregorian julian coptic ethiopic egyptian armenia\
-n islamic hebrew french republican\nок,about,gregorian julian coptic ethiopic egyptian armenian islamic hebrew frenc\
-h republican\nпримерно,about,gregorian julian coptic ethiopic egyptian armenian islamic hebrew french republica\
-n\nблизько,about,gregorian julian coptic ethiopic egyptian armenian islamic hebrew french republican\nбіля,a\
-bout,gregorian julian coptic ethiopic egyptian armenian islamic hebrew french republican\nokolo,about,gregorian julian \
-coptic ethiopic egyptian armenian islamic hebrew french republican\ncerca de,about,gregorian julian coptic ethiopic egy\
-ptian armenian islamic hebrew french republican\npor volta de,about,gregorian julian coptic ethiopic egyptian armenian \
-islamic hebrew french republican\nalrededor de,about,gregorian julian coptic ethiopic egyptian armenian islamic hebrew \
-french republican\nyaklaşık,about,gregorian julian coptic ethiopic egyptian armenian islamic hebrew french republican\
-\nπερί,about,gregorian julian coptic ethiopic egyptian armenian islamic hebrew french republican\nπερίπου,ab\
-out,gregorian julian coptic ethiopic egyptian armenian islamic hebrew french republican\nnoin,about,gregorian julian co\
-ptic ethiopic egyptian armenian islamic hebrew french republican\nomkring,about,gregorian julian coptic ethiopic egypti\
-an armenian islamic hebrew french republican\nkörülbelül,about,gregorian julian coptic ethiopic egyptian armenian is\
-lamic hebrew french republican\nkb,about,gregorian julian coptic ethiopic egyptian armenian islamic hebrew french repub\
-lican\nseit,from,gregorian julian coptic ethiopic egyptian armenian islamic hebrew french republican\nab,from,gregoria\
-n julian coptic ethiopic egyptian armenian islamic french republican\nfrom,from,gregorian julian coptic ethiopic egypti\
-an armenian islamic hebrew french republican\nsince,from,gregorian julian coptic ethiopic egyptian armenian islamic heb\
-rew french republican\ndepuis,from,gregorian julian coptic ethiopic egyptian armenian islamic hebrew french republican\
-\nà partir de,from,gregorian julian coptic ethiopic egyptian armenian islamic hebrew french republican\nvanaf,from,gre\
-gorian julian coptic ethiopic egyptian armenian islamic hebrew french republican\nsinds,from,gregorian julian coptic et\
-hiopic egyptian armenian islamic hebrew french republican\ndal,from,gregorian julian coptic ethiopic egyptian armenian \
-islamic hebrew french republican\ndesde,from,gregorian julian coptic ethiopic egyptian armenian islamic hebrew french r\
-epublican\nod,from,gregorian julian coptic ethiopic egyptian armenian islamic hebrew french republican\nnotBefore,from,\
-gregorian julian coptic ethiopic egyptian armenian islamic hebrew french republican\nnicht vor,from,gregorian julian co\
-ptic ethiopic egyptian armenian islamic hebrew french republican\nnot before,from,gregorian julian coptic ethiopic egyp\
-tian armenian islamic hebrew french republican\nс,from,gregorian julian coptic ethiopic egyptian armenian islamic hebr\
-ew french republican\nз,from,gregorian julian coptic ethiopic egyptian armenian islamic hebrew french republican\nві\
-д,from,gregorian julian coptic ethiopic egyptian armenian islamic hebrew french republican\nαπό,from,gregorian juli\
-an coptic ethiopic egyptian armenian islamic hebrew french republican\nfrån,from,gregorian julian coptic ethiopic egyp\
-tian armenian islamic hebrew french republican\na partir de,from,gregorian julian coptic ethiopic egyptian armenian isl\
-amic hebrew french republican\nbis,to,gregorian julian coptic ethiopic egyptian armenian islamic hebrew french republic\
-an\nto,to,gregorian julian coptic ethiopic egyptian armenian islamic hebrew french republican\nuntil,to,gregorian julia\
-n coptic ethiopic egyptian armenian islamic hebrew french republican\ntill,to,gregorian julian coptic ethiopic egyptia\
-n armenian islamic hebrew french republican\njusqu'à,to,gregorian julian coptic ethiopic egyptian armenian islamic heb\
-rew french republican\njusqu’à,to,gregorian julian coptic ethiopic egyptian armenian islamic hebrew french republica\
-n\nau,to,gregorian julian coptic ethiopic egyptian armenian islamic hebrew french republican\nà,to,gregorian julian co\
-ptic ethiopic egyptian armenian islamic hebrew french republican\ntot,to,gregorian julian coptic ethiopic egyptian arme\
-nian islamic hebrew french republican\ntot en met,to,gregorian julian coptic ethiopic egyptian armenian islamic hebrew \
-french republican\nfino a,to,gregorian julian coptic ethiopic egyptian armenian islamic hebrew french republican\nal,to\
-,gregorian julian coptic ethiopic egyptian armenian islamic hebrew french republican\nhasta,to,gregorian julian coptic \
-ethiopic egyptian armenian islamic hebrew french republican\nusque ad,to,gregorian julian coptic ethiopic egyptian arme\
-nian islamic hebrew french republican\nnotAfter,to,gregorian julian coptic ethiopic egyptian armenian islamic hebrew fr\
-ench republican\nnicht nach,to,gregorian julian coptic ethiopic egyptian armenian islamic hebrew french republican\nno\
-t after,to,gregorian julian coptic ethiopic egyptian armenian islamic hebrew french republican\nдо,to,gregorian julia\
-n coptic ethiopic egyptian armenian islamic hebrew french republican\nпо,to,gregorian julian coptic ethiopic egyptia\
-n armenian islamic hebrew french republican\nέως,to,gregorian julian coptic ethiopic egyptian armenian islamic hebre\
-w french republican\nμέχρι,to,gregorian julian coptic ethiopic egyptian armenian islamic hebrew french republican\
-\naté,to,gregorian julian coptic ethiopic egyptian armenian islamic hebrew french republican\nzwischen,between,gregori\
-an julian coptic ethiopic egyptian armenian islamic hebrew french republican\nzw,between,gregorian julian coptic ethiop\
-ic egyptian armenian islamic hebrew french republican\nbetween,between,gregorian julian coptic ethiopic egyptian armeni\
-an islamic hebrew french republican\nbet,between,gregorian julian coptic ethiopic egyptian armenian islamic hebrew fren\
-ch republican\nentre,between,gregorian julian coptic ethiopic egyptian armenian islamic hebrew french republican\ntusse\
-n,between,gregorian julian coptic ethiopic egyptian armenian islamic hebrew french republican\ntra,between,gregorian ju\
-lian coptic ethiopic egyptian armenian islamic hebrew french republican\nfra,between,gregorian julian coptic ethiopic e\
-gyptian armenian islamic hebrew french republican\nmiędzy,between,gregorian julian coptic ethiopic egyptian armenian i\
-slamic hebrew french republican\nmezi,between,gregorian julian coptic ethiopic egyptian armenian islamic hebrew french \
-republican\ninter,between,gregorian julian coptic ethiopic egyptian armenian islamic hebrew french republican\nмежд\
-у,between,gregorian julian coptic ethiopic egyptian armenian islamic hebrew french republican\nміж,between,gregoria\
-n julian coptic ethiopic egyptian armenian islamic hebrew french republican\nμεταξύ,between,gregorian julian copt\
-ic ethiopic egyptian armenian islamic hebrew french republican\nmellan,between,gregorian julian coptic ethiopic egyptia\
-n armenian islamic hebrew french republican\nmellem,between,gregorian julian coptic ethiopic egyptian armenian islamic \
-hebrew french republican\nmellom,between,gregorian julian coptic ethiopic egyptian armenian islamic hebrew french repub\
-lican\nund,and,gregorian julian coptic ethiopic egyptian armenian islamic hebrew french republican\nu,and,gregorian jul\
-ian coptic ethiopic egyptian armenian islamic hebrew french republican\nand,and,gregorian julian coptic ethiopic egypti\
-an armenian islamic hebrew french republican\net,and,gregorian julian coptic ethiopic egyptian armenian islamic hebrew \
-french republican\ned,and,gregorian julian coptic ethiopic egyptian armenian islamic hebrew french republican\ny,and,gr\
-egorian julian coptic ethiopic egyptian armenian islamic hebrew french republican\noraz,and,gregorian julian coptic eth\
-iopic egyptian armenian islamic hebrew french republican\nи,and,gregorian julian coptic ethiopic egyptian armenian isl\
-amic hebrew french republican\nі,and,gregorian julian coptic ethiopic egyptian armenian islamic hebrew french republic\
-an\nта,and,gregorian julian coptic ethiopic egyptian armenian islamic hebrew french republican\nκαι,and,gregorian \
-julian coptic ethiopic egyptian armenian islamic hebrew french republican\noch,and,gregorian julian coptic ethiopic egy\
-ptian armenian islamic hebrew french republican\nog,and,gregorian julian coptic ethiopic egyptian armenian islamic hebr\
-ew french republican\nja,and,gregorian julian coptic ethiopic egyptian armenian islamic hebrew french republican\no. D.\
-,undated,gregorian julian coptic ethiopic egyptian armenian islamic hebrew french republican\no. J.,undated,gregorian j\
-ulian coptic ethiopic egyptian armenian islamic hebrew french republican\nohne Datum,undated,gregorian julian coptic et\
-hiopic egyptian armenian islamic hebrew french republican\nohne Jahr,undated,gregorian julian coptic ethiopic egyptian \
-armenian islamic hebrew french republican\nohne Jahresangabe,undated,gregorian julian coptic ethiopic egyptian armenia\
-n islamic hebrew french republican\nohne Datierung,undated,gregorian julian coptic ethiopic egyptian armenian islamic h\
-ebrew french republican\nundatiert,undated,gregorian julian coptic ethiopic egyptian armenian islamic hebrew french rep\
-ublican\nundat.,undated,gregorian julian coptic ethiopic egyptian armenian islamic hebrew french republican\nnicht dati\
-ert,undated,gregorian julian coptic ethiopic egyptian armenian islamic hebrew french republican\nn. d.,undated,gregoria\
-n julian coptic ethiopic egyptian armenian islamic hebrew french republican\nundated,undated,gregorian julian coptic et\
-hiopic egyptian armenian islamic hebrew french republican\nno date,undated,gregorian julian coptic ethiopic egyptian ar\
-menian islamic hebrew french republican\nnot dated,undated,gregorian julian coptic ethiopic egyptian armenian islamic h\
-ebrew french republican\nwithout date,undated,gregorian julian coptic ethiopic egyptian armenian islamic hebrew french \
-republican\nwithout a date,undated,gregorian julian coptic ethiopic egyptian armenian islamic hebrew french republican\
-\ns. d.,undated,gregorian julian coptic ethiopic egyptian armenian islamic hebrew french republican\ns. a.,undated,greg\
-orian julian coptic ethiopic egyptian armenian islamic hebrew french republican\ns. l. n. d.,undated,gregorian julian c\
-optic ethiopic egyptian armenian islamic hebrew french republican\ns. l. s. d.,undated,gregorian julian coptic ethiopi\
-c egyptian armenian islamic hebrew french republican\nsans date,undated,gregorian julian coptic ethiopic egyptian armen\
-ian islamic hebrew french republican\nsans année,undated,gregorian julian coptic ethiopic egyptian armenian islamic he\
-brew french republican\nnon daté,undated,gregorian julian coptic ethiopic egyptian armenian islamic hebrew french repu\
-blican\nnon datée,undated,gregorian julian coptic ethiopic egyptian armenian islamic hebrew french republican\nnon dat\
-e,undated,gregorian julian coptic ethiopic egyptian armenian islamic hebrew french republican\nsine dato,undated,gregor\
-ian julian coptic ethiopic egyptian armenian islamic hebrew french republican\nsine anno,undated,gregorian julian copti\
-c ethiopic egyptian armenian islamic hebrew french republican\nsine data,undated,gregorian julian coptic ethiopic egypt\
-ian armenian islamic hebrew french republican\nsin fecha,undated,gregorian julian coptic ethiopic egyptian armenian isl\
-amic hebrew french republican\ns. f.,undated,gregorian julian coptic ethiopic egyptian armenian islamic hebrew french r\
-epublican\nsin data,undated,gregorian julian coptic ethiopic egyptian armenian islamic hebrew french republican\nsin a\
-ño,undated,gregorian julian coptic ethiopic egyptian armenian islamic hebrew french republican\nsin ano,undated,gregor\
-ian julian coptic ethiopic egyptian armenian islamic hebrew french republican\nsem data,undated,gregorian julian copti\
-c ethiopic egyptian armenian islamic hebrew french republican\nsem ano,undated,gregorian julian coptic ethiopic egyptia\
-n armenian islamic hebrew french republican\nsenza data,undated,gregorian julian coptic ethiopic egyptian armenian isla\
-mic hebrew french republican\nsenza anno,undated,gregorian julian coptic ethiopic egyptian armenian islamic hebrew fren\
-ch republican\nnon datato,undated,gregorian julian coptic ethiopic egyptian armenian islamic hebrew french republican\n\
-non datata,undated,gregorian julian coptic ethiopic egyptian armenian islamic hebrew french republican\nz. d.,undated,g\
-regorian julian coptic ethiopic egyptian armenian islamic hebrew french republican\nz. j.,undated,gregorian julian copt\
-ic ethiopic egyptian armenian islamic hebrew french republican\nzonder datum,undated,gregorian julian coptic ethiopic e\
-gyptian armenian islamic hebrew french republican\nzonder jaar,undated,gregorian julian coptic ethiopic egyptian armeni\
-an islamic hebrew french republican\nongedateerd,undated,gregorian julian coptic ethiopic egyptian armenian islamic heb\
-rew french republican\nbez daty,undated,gregorian julian coptic ethiopic egyptian armenian islamic hebrew french republ\
-ican\nb. d.,undated,gregorian julian coptic ethiopic egyptian armenian islamic hebrew french republican\nbez roku,undat\
-ed,gregorian julian coptic ethiopic egyptian armenian islamic hebrew french republican\nniedatowany,undated,gregorian j\
-ulian coptic ethiopic egyptian armenian islamic hebrew french republican\nniedatowane,undated,gregorian julian coptic e\
-thiopic egyptian armenian islamic hebrew french republican\nniedatowana,undated,gregorian julian coptic ethiopic egypti\
-an armenian islamic hebrew french republican\nbez data,undated,gregorian julian coptic ethiopic egyptian armenian islam\
-ic hebrew french republican\nnedatováno,undated,gregorian julian coptic ethiopic egyptian armenian islamic hebrew fren\
-ch republican\nnedatovano,undated,gregorian julian coptic ethiopic egyptian armenian islamic hebrew french republican\n\
-keltezés nélkül,undated,gregorian julian coptic ethiopic egyptian armenian islamic hebrew french republican\nkelteze\
-tlen,undated,gregorian julian coptic ethiopic egyptian armenian islamic hebrew french republican\nk. n.,undated,gregori\
-an julian coptic ethiopic egyptian armenian islamic hebrew french republican\né. n.,undated,gregorian julian coptic et\
-hiopic egyptian armenian islamic hebrew french republican\név nélkül,undated,gregorian julian coptic ethiopic egypti\
-an armenian islamic hebrew french republican\névszám nélkül,undated,gregorian julian coptic ethiopic egyptian armen\
-ian islamic hebrew french republican\ndátum nélkül,undated,gregorian julian coptic ethiopic egyptian armenian islami\
-c hebrew french republican\nб. д.,undated,gregorian julian coptic ethiopic egyptian armenian islamic hebrew french re\
-publican\nб. г.,undated,gregorian julian coptic ethiopic egyptian armenian islamic hebrew french republican\nбез \
-даты,undated,gregorian julian coptic ethiopic egyptian armenian islamic hebrew french republican\nбез года,u\
-ndated,gregorian julian coptic ethiopic egyptian armenian islamic hebrew french republican\nбез числа и год\
-а,undated,gregorian julian coptic ethiopic egyptian armenian islamic hebrew french republican\nнедатирован\
-о,undated,gregorian julian coptic ethiopic egyptian armenian islamic hebrew french republican\nнедатирован\
-ный,undated,gregorian julian coptic ethiopic egyptian armenian islamic hebrew french republican\nнедатиров\
-анная,undated,gregorian julian coptic ethiopic egyptian armenian islamic hebrew french republican\nбез дати\
-,undated,gregorian julian coptic ethiopic egyptian armenian islamic hebrew french republican\nбез року,undated,g\
-regorian julian coptic ethiopic egyptian armenian islamic hebrew french republican\nнедатовано,undated,gregor\
-ian julian coptic ethiopic egyptian armenian islamic hebrew french republican\nu. å.,undated,gregorian julian coptic e\
-thiopic egyptian armenian islamic hebrew french republican\nutan år,undated,gregorian julian coptic ethiopic egyptian \
-armenian islamic hebrew french republican\nutan datum,undated,gregorian julian coptic ethiopic egyptian armenian islami\
-c hebrew french republican\nodaterad,undated,gregorian julian coptic ethiopic egyptian armenian islamic hebrew french r\
-epublican\nodaterat,undated,gregorian julian coptic ethiopic egyptian armenian islamic hebrew french republican\nodat.,\
-undated,gregorian julian coptic ethiopic egyptian armenian islamic hebrew french republican\nodaterade,undated,gregoria\
-n julian coptic ethiopic egyptian armenian islamic hebrew french republican\nuden år,undated,gregorian julian coptic e\
-thiopic egyptian armenian islamic hebrew french republican\nuden dato,undated,gregorian julian coptic ethiopic egyptia\
-n armenian islamic hebrew french republican\nudateret,undated,gregorian julian coptic ethiopic egyptian armenian islami\
-c hebrew french republican\nuten år,undated,gregorian julian coptic ethiopic egyptian armenian islamic hebrew french r\
-epublican\nuten dato,undated,gregorian julian coptic ethiopic egyptian armenian islamic hebrew french republican\nudate\
-rt,undated,gregorian julian coptic ethiopic egyptian armenian islamic hebrew french republican\npäiväämätön,undate\
-d,gregorian julian coptic ethiopic egyptian armenian islamic hebrew french republican\npäiväämättä,undated,gregori\
-an julian coptic ethiopic egyptian armenian islamic hebrew french republican\nilman päiväystä,undated,gregorian juli\
-an coptic ethiopic egyptian armenian islamic hebrew french republican\ntarihsiz,undated,gregorian julian coptic ethiopi\
-c egyptian armenian islamic hebrew french republican\nχωρίς ημερομηνία,undated,gregorian julian coptic e\
-thiopic egyptian armenian islamic hebrew french republican\nχωρίς χρονολογία,undated,gregorian julian co\
-ptic ethiopic egyptian armenian islamic hebrew french republican\nαχρονολόγητο,undated,gregorian julian cop\
-tic ethiopic egyptian armenian islamic hebrew french republican\nἀχρονολόγητον,undated,gregorian julian c\
-optic ethiopic egyptian armenian islamic hebrew french republican\nAdar,month 12-13,hebrew\neve of,eve,gregorian julian\
-\nvigilia,eve,gregorian julian\nin vigilia,eve,gregorian julian\nVigil,eve,gregorian julian\nVorabend,eve,gregorian jul\
-ian\nprofesto,eve,gregorian julian\nveille de,eve,gregorian julian\noctava,octave,gregorian julian\nin octava,octave,gr\
-egorian julian\nOktav,octave,gregorian julian\noctave of,octave,gregorian julian\nin crastino,morrow,gregorian julian\n\
-crastino,morrow,gregorian julian\nmorrow of,morrow,gregorian julian\nOstern,easter 0,gregorian julian\nOstersonntag,eas\
-ter 0,gregorian julian\nOstertag,easter 0,gregorian julian\nPascha,easter 0,gregorian julian\nPaschae,easter 0,gregoria\
-n julian\nPasche,easter 0,gregorian julian\nResurrectionis Domini,easter 0,gregorian julian\nEaster,easter 0,gregorian \
-julian\nEaster Day,easter 0,gregorian julian\nEaster Sunday,easter 0,gregorian julian\nPâques,easter 0,gregorian julia\
-n\nOstermontag,easter 1,gregorian julian\nEaster Monday,easter 1,gregorian julian\nlundi de Pâques,easter 1,gregorian \
-julian\nOsterdienstag,easter 2,gregorian julian\nEaster Tuesday,easter 2,gregorian julian\nSeptuagesima,easter -63,greg\
-orian julian\n\
+bout,gregorian julian coptic ethiopic egyptian armenian islamic hebrew french republican\nc,about,gregorian julian copt\
+ic ethiopic egyptian armenian islamic hebrew french republican\ncirca,about,gregorian julian coptic ethiopic egyptian a\
+rmenian islamic hebrew french republican\num,about,gregorian julian coptic ethiopic egyptian armenian islamic hebrew fr\
+ench republican\ngegen,about,gregorian julian coptic ethiopic egyptian armenian islamic hebrew french republican\netwa,\
+about,gregorian julian coptic ethiopic egyptian armenian islamic hebrew french republican\nabout,about,gregorian julia\
+n coptic ethiopic egyptian armenian islamic hebrew french republican\nabt,about,gregorian julian coptic ethiopic egypti\
+an armenian islamic hebrew french republican\nest,about,gregorian julian coptic ethiopic egyptian armenian islamic hebr\
+ew french republican\ncal,about,gregorian julian coptic ethiopic egyptian armenian islamic hebrew french republican\nve\
+rs,about,gregorian julian coptic ethiopic egyptian armenian islamic hebrew french republican\nenviron,about,gregorian j\
+ulian coptic ethiopic egyptian armenian islamic hebrew french republican\nomstreeks,about,gregorian julian coptic ethio\
+pic egyptian armenian islamic hebrew french republican\nongeveer,about,gregorian julian coptic ethiopic egyptian armeni\
+an islamic hebrew french republican\nverso,about,gregorian julian coptic ethiopic egyptian armenian islamic hebrew fren\
+ch republican\nhacia,about,gregorian julian coptic ethiopic egyptian armenian islamic hebrew french republican\nokoło,\
+about,gregorian julian coptic ethiopic egyptian armenian islamic hebrew french republican\nkolem,about,gregorian julia\
+n coptic ethiopic egyptian armenian islamic hebrew french republican\nasi,about,gregorian julian coptic ethiopic egypti\
+an armenian islamic hebrew french republican\ncirciter,about,gregorian julian coptic ethiopic egyptian armenian islami\
+c hebrew french republican\nоколо,about,gregorian julian coptic ethiopic egyptian armenian islamic hebrew french r\
+epublican\nок,about,gregorian julian coptic ethiopic egyptian armenian islamic hebrew french republican\nпример\
+но,about,gregorian julian coptic ethiopic egyptian armenian islamic hebrew french republican\nблизько,about,gr\
+egorian julian coptic ethiopic egyptian armenian islamic hebrew french republican\nбіля,about,gregorian julian copt\
+ic ethiopic egyptian armenian islamic hebrew french republican\nokolo,about,gregorian julian coptic ethiopic egyptian a\
+rmenian islamic hebrew french republican\ncerca de,about,gregorian julian coptic ethiopic egyptian armenian islamic heb\
+rew french republican\npor volta de,about,gregorian julian coptic ethiopic egyptian armenian islamic hebrew french repu\
+blican\nalrededor de,about,gregorian julian coptic ethiopic egyptian armenian islamic hebrew french republican\nyaklaş\
+ık,about,gregorian julian coptic ethiopic egyptian armenian islamic hebrew french republican\nπερί,about,gregoria\
+n julian coptic ethiopic egyptian armenian islamic hebrew french republican\nπερίπου,about,gregorian julian copt\
+ic ethiopic egyptian armenian islamic hebrew french republican\nnoin,about,gregorian julian coptic ethiopic egyptian ar\
+menian islamic hebrew french republican\nomkring,about,gregorian julian coptic ethiopic egyptian armenian islamic hebre\
+w french republican\nkörülbelül,about,gregorian julian coptic ethiopic egyptian armenian islamic hebrew french repub\
+lican\nkb,about,gregorian julian coptic ethiopic egyptian armenian islamic hebrew french republican\nseit,from,gregoria\
+n julian coptic ethiopic egyptian armenian islamic hebrew french republican\nab,from,gregorian julian coptic ethiopic e\
+gyptian armenian islamic french republican\nfrom,from,gregorian julian coptic ethiopic egyptian armenian islamic hebre\
+w french republican\nsince,from,gregorian julian coptic ethiopic egyptian armenian islamic hebrew french republican\nde\
+puis,from,gregorian julian coptic ethiopic egyptian armenian islamic hebrew french republican\nà partir de,from,gregor\
+ian julian coptic ethiopic egyptian armenian islamic hebrew french republican\nvanaf,from,gregorian julian coptic ethio\
+pic egyptian armenian islamic hebrew french republican\nsinds,from,gregorian julian coptic ethiopic egyptian armenian i\
+slamic hebrew french republican\ndal,from,gregorian julian coptic ethiopic egyptian armenian islamic hebrew french repu\
+blican\ndesde,from,gregorian julian coptic ethiopic egyptian armenian islamic hebrew french republican\nod,from,gregori\
+an julian coptic ethiopic egyptian armenian islamic hebrew french republican\nnotBefore,from,gregorian julian coptic et\
+hiopic egyptian armenian islamic hebrew french republican\nnicht vor,from,gregorian julian coptic ethiopic egyptian arm\
+enian islamic hebrew french republican\nnot before,from,gregorian julian coptic ethiopic egyptian armenian islamic hebr\
+ew french republican\nс,from,gregorian julian coptic ethiopic egyptian armenian islamic hebrew french republican\nз,f\
+rom,gregorian julian coptic ethiopic egyptian armenian islamic hebrew french republican\nвід,from,gregorian julian c\
+optic ethiopic egyptian armenian islamic hebrew french republican\nαπό,from,gregorian julian coptic ethiopic egyptia\
+n armenian islamic hebrew french republican\nfrån,from,gregorian julian coptic ethiopic egyptian armenian islamic hebr\
+ew french republican\na partir de,from,gregorian julian coptic ethiopic egyptian armenian islamic hebrew french republi\
+can\nbis,to,gregorian julian coptic ethiopic egyptian armenian islamic hebrew french republican\nto,to,gregorian julia\
+n coptic ethiopic egyptian armenian islamic hebrew french republican\nuntil,to,gregorian julian coptic ethiopic egyptia\
+n armenian islamic hebrew french republican\ntill,to,gregorian julian coptic ethiopic egyptian armenian islamic hebrew \
+french republican\njusqu'à,to,gregorian julian coptic ethiopic egyptian armenian islamic hebrew french republican\njus\
+qu’à,to,gregorian julian coptic ethiopic egyptian armenian islamic hebrew french republican\nau,to,gregorian julian \
+coptic ethiopic egyptian armenian islamic hebrew french republican\nà,to,gregorian julian coptic ethiopic egyptian arm\
+enian islamic hebrew french republican\ntot,to,gregorian julian coptic ethiopic egyptian armenian islamic hebrew frenc\
+h republican\ntot en met,to,gregorian julian coptic ethiopic egyptian armenian islamic hebrew french republican\nfino a\
+,to,gregorian julian coptic ethiopic egyptian armenian islamic hebrew french republican\nal,to,gregorian julian coptic \
+ethiopic egyptian armenian islamic hebrew french republican\nhasta,to,gregorian julian coptic ethiopic egyptian armenia\
+n islamic hebrew french republican\nusque ad,to,gregorian julian coptic ethiopic egyptian armenian islamic hebrew frenc\
+h republican\nnotAfter,to,gregorian julian coptic ethiopic egyptian armenian islamic hebrew french republican\nnicht na\
+ch,to,gregorian julian coptic ethiopic egyptian armenian islamic hebrew french republican\nnot after,to,gregorian julia\
+n coptic ethiopic egyptian armenian islamic hebrew french republican\nдо,to,gregorian julian coptic ethiopic egyptia\
+n armenian islamic hebrew french republican\nпо,to,gregorian julian coptic ethiopic egyptian armenian islamic hebrew \
+french republican\nέως,to,gregorian julian coptic ethiopic egyptian armenian islamic hebrew french republican\nμέ\
+χρι,to,gregorian julian coptic ethiopic egyptian armenian islamic hebrew french republican\naté,to,gregorian julia\
+n coptic ethiopic egyptian armenian islamic hebrew french republican\nzwischen,between,gregorian julian coptic ethiopi\
+c egyptian armenian islamic hebrew french republican\nzw,between,gregorian julian coptic ethiopic egyptian armenian isl\
+amic hebrew french republican\nbetween,between,gregorian julian coptic ethiopic egyptian armenian islamic hebrew frenc\
+h republican\nbet,between,gregorian julian coptic ethiopic egyptian armenian islamic hebrew french republican\nentre,be\
+tween,gregorian julian coptic ethiopic egyptian armenian islamic hebrew french republican\ntussen,between,gregorian jul\
+ian coptic ethiopic egyptian armenian islamic hebrew french republican\ntra,between,gregorian julian coptic ethiopic eg\
+yptian armenian islamic hebrew french republican\nfra,between,gregorian julian coptic ethiopic egyptian armenian islami\
+c hebrew french republican\nmiędzy,between,gregorian julian coptic ethiopic egyptian armenian islamic hebrew french re\
+publican\nmezi,between,gregorian julian coptic ethiopic egyptian armenian islamic hebrew french republican\ninter,betwe\
+en,gregorian julian coptic ethiopic egyptian armenian islamic hebrew french republican\nмежду,between,gregorian ju\
+lian coptic ethiopic egyptian armenian islamic hebrew french republican\nміж,between,gregorian julian coptic ethiopi\
+c egyptian armenian islamic hebrew french republican\nμεταξύ,between,gregorian julian coptic ethiopic egyptian ar\
+menian islamic hebrew french republican\nmellan,between,gregorian julian coptic ethiopic egyptian armenian islamic hebr\
+ew french republican\nmellem,between,gregorian julian coptic ethiopic egyptian armenian islamic hebrew french republica\
+n\nmellom,between,gregorian julian coptic ethiopic egyptian armenian islamic hebrew french republican\nund,and,gregoria\
+n julian coptic ethiopic egyptian armenian islamic hebrew french republican\nu,and,gregorian julian coptic ethiopic egy\
+ptian armenian islamic hebrew french republican\nand,and,gregorian julian coptic ethiopic egyptian armenian islamic heb\
+rew french republican\net,and,gregorian julian coptic ethiopic egyptian armenian islamic hebrew french republican\ned,a\
+nd,gregorian julian coptic ethiopic egyptian armenian islamic hebrew french republican\ny,and,gregorian julian coptic e\
+thiopic egyptian armenian islamic hebrew french republican\noraz,and,gregorian julian coptic ethiopic egyptian armenia\
+n islamic hebrew french republican\nи,and,gregorian julian coptic ethiopic egyptian armenian islamic hebrew french rep\
+ublican\nі,and,gregorian julian coptic ethiopic egyptian armenian islamic hebrew french republican\nта,and,gregoria\
+n julian coptic ethiopic egyptian armenian islamic hebrew french republican\nκαι,and,gregorian julian coptic ethiopi\
+c egyptian armenian islamic hebrew french republican\noch,and,gregorian julian coptic ethiopic egyptian armenian islami\
+c hebrew french republican\nog,and,gregorian julian coptic ethiopic egyptian armenian islamic hebrew french republican\
+\nja,and,gregorian julian coptic ethiopic egyptian armenian islamic hebrew french republican\no. D.,undated,gregorian j\
+ulian coptic ethiopic egyptian armenian islamic hebrew french republican\no. J.,undated,gregorian julian coptic ethiopi\
+c egyptian armenian islamic hebrew french republican\nohne Datum,undated,gregorian julian coptic ethiopic egyptian arme\
+nian islamic hebrew french republican\nohne Jahr,undated,gregorian julian coptic ethiopic egyptian armenian islamic heb\
+rew french republican\nohne Jahresangabe,undated,gregorian julian coptic ethiopic egyptian armenian islamic hebrew fren\
+ch republican\nohne Datierung,undated,gregorian julian coptic ethiopic egyptian armenian islamic hebrew french republic\
+an\nundatiert,undated,gregorian julian coptic ethiopic egyptian armenian islamic hebrew french republican\nundat.,undat\
+ed,gregorian julian coptic ethiopic egyptian armenian islamic hebrew french republican\nnicht datiert,undated,gregoria\
+n julian coptic ethiopic egyptian armenian islamic hebrew french republican\nn. d.,undated,gregorian julian coptic ethi\
+opic egyptian armenian islamic hebrew french republican\nundated,undated,gregorian julian coptic ethiopic egyptian arme\
+nian islamic hebrew french republican\nno date,undated,gregorian julian coptic ethiopic egyptian armenian islamic hebre\
+w french republican\nnot dated,undated,gregorian julian coptic ethiopic egyptian armenian islamic hebrew french republi\
+can\nwithout date,undated,gregorian julian coptic ethiopic egyptian armenian islamic hebrew french republican\nwithout \
+a date,undated,gregorian julian coptic ethiopic egyptian armenian islamic hebrew french republican\ns. d.,undated,grego\
+rian julian coptic ethiopic egyptian armenian islamic hebrew french republican\ns. a.,undated,gregorian julian coptic e\
+thiopic egyptian armenian islamic hebrew french republican\ns. l. n. d.,undated,gregorian julian coptic ethiopic egypti\
+an armenian islamic hebrew french republican\ns. l. s. d.,undated,gregorian julian coptic ethiopic egyptian armenian is\
+lamic hebrew french republican\nsans date,undated,gregorian julian coptic ethiopic egyptian armenian islamic hebrew fre\
+nch republican\nsans année,undated,gregorian julian coptic ethiopic egyptian armenian islamic hebrew french republican\
+\nnon daté,undated,gregorian julian coptic ethiopic egyptian armenian islamic hebrew french republican\nnon datée,und\
+ated,gregorian julian coptic ethiopic egyptian armenian islamic hebrew french republican\nnon date,undated,gregorian ju\
+lian coptic ethiopic egyptian armenian islamic hebrew french republican\nsine dato,undated,gregorian julian coptic ethi\
+opic egyptian armenian islamic hebrew french republican\nsine anno,undated,gregorian julian coptic ethiopic egyptian ar\
+menian islamic hebrew french republican\nsine data,undated,gregorian julian coptic ethiopic egyptian armenian islamic h\
+ebrew french republican\nsin fecha,undated,gregorian julian coptic ethiopic egyptian armenian islamic hebrew french rep\
+ublican\ns. f.,undated,gregorian julian coptic ethiopic egyptian armenian islamic hebrew french republican\nsin data,un\
+dated,gregorian julian coptic ethiopic egyptian armenian islamic hebrew french republican\nsin año,undated,gregorian j\
+ulian coptic ethiopic egyptian armenian islamic hebrew french republican\nsin ano,undated,gregorian julian coptic ethio\
+pic egyptian armenian islamic hebrew french republican\nsem data,undated,gregorian julian coptic ethiopic egyptian arme\
+nian islamic hebrew french republican\nsem ano,undated,gregorian julian coptic ethiopic egyptian armenian islamic hebre\
+w french republican\nsenza data,undated,gregorian julian coptic ethiopic egyptian armenian islamic hebrew french republ\
+ican\nsenza anno,undated,gregorian julian coptic ethiopic egyptian armenian islamic hebrew french republican\nnon datat\
+o,undated,gregorian julian coptic ethiopic egyptian armenian islamic hebrew french republican\nnon datata,undated,grego\
+rian julian coptic ethiopic egyptian armenian islamic hebrew french republican\nz. d.,undated,gregorian julian coptic e\
+thiopic egyptian armenian islamic hebrew french republican\nz. j.,undated,gregorian julian coptic ethiopic egyptian arm\
+enian islamic hebrew french republican\nzonder datum,undated,gregorian julian coptic ethiopic egyptian armenian islami\
+c hebrew french republican\nzonder jaar,undated,gregorian julian coptic ethiopic egyptian armenian islamic hebrew frenc\
+h republican\nongedateerd,undated,gregorian julian coptic ethiopic egyptian armenian islamic hebrew french republican\n\
+bez daty,undated,gregorian julian coptic ethiopic egyptian armenian islamic hebrew french republican\nb. d.,undated,gre\
+gorian julian coptic ethiopic egyptian armenian islamic hebrew french republican\nbez roku,undated,gregorian julian cop\
+tic ethiopic egyptian armenian islamic hebrew french republican\nniedatowany,undated,gregorian julian coptic ethiopic e\
+gyptian armenian islamic hebrew french republican\nniedatowane,undated,gregorian julian coptic ethiopic egyptian armeni\
+an islamic hebrew french republican\nniedatowana,undated,gregorian julian coptic ethiopic egyptian armenian islamic heb\
+rew french republican\nbez data,undated,gregorian julian coptic ethiopic egyptian armenian islamic hebrew french republ\
+ican\nnedatováno,undated,gregorian julian coptic ethiopic egyptian armenian islamic hebrew french republican\nnedatova\
+no,undated,gregorian julian coptic ethiopic egyptian armenian islamic hebrew french republican\nkeltezés nélkül,unda\
+ted,gregorian julian coptic ethiopic egyptian armenian islamic hebrew french republican\nkeltezetlen,undated,gregorian \
+julian coptic ethiopic egyptian armenian islamic hebrew french republican\nk. n.,undated,gregorian julian coptic ethiop\
+ic egyptian armenian islamic hebrew french republican\né. n.,undated,gregorian julian coptic ethiopic egyptian armenia\
+n islamic hebrew french republican\név nélkül,undated,gregorian julian coptic ethiopic egyptian armenian islamic heb\
+rew french republican\névszám nélkül,undated,gregorian julian coptic ethiopic egyptian armenian islamic hebrew fren\
+ch republican\ndátum nélkül,undated,gregorian julian coptic ethiopic egyptian armenian islamic hebrew french republi\
+can\nб. д.,undated,gregorian julian coptic ethiopic egyptian armenian islamic hebrew french republican\nб. г.,undat\
+ed,gregorian julian coptic ethiopic egyptian armenian islamic hebrew french republican\nбез даты,undated,gregori\
+an julian coptic ethiopic egyptian armenian islamic hebrew french republican\nбез года,undated,gregorian julian \
+coptic ethiopic egyptian armenian islamic hebrew french republican\nбез числа и года,undated,gregorian jul\
+ian coptic ethiopic egyptian armenian islamic hebrew french republican\nнедатировано,undated,gregorian juli\
+an coptic ethiopic egyptian armenian islamic hebrew french republican\nнедатированный,undated,gregorian j\
+ulian coptic ethiopic egyptian armenian islamic hebrew french republican\nнедатированная,undated,gregoria\
+n julian coptic ethiopic egyptian armenian islamic hebrew french republican\nбез дати,undated,gregorian julian c\
+optic ethiopic egyptian armenian islamic hebrew french republican\nбез року,undated,gregorian julian coptic ethi\
+opic egyptian armenian islamic hebrew french republican\nнедатовано,undated,gregorian julian coptic ethiopic \
+egyptian armenian islamic hebrew french republican\nu. å.,undated,gregorian julian coptic ethiopic egyptian armenian i\
+slamic hebrew french republican\nutan år,undated,gregorian julian coptic ethiopic egyptian armenian islamic hebrew fre\
+nch republican\nutan datum,undated,gregorian julian coptic ethiopic egyptian armenian islamic hebrew french republican\
+\nodaterad,undated,gregorian julian coptic ethiopic egyptian armenian islamic hebrew french republican\nodaterat,undate\
+d,gregorian julian coptic ethiopic egyptian armenian islamic hebrew french republican\nodat.,undated,gregorian julian c\
+optic ethiopic egyptian armenian islamic hebrew french republican\nodaterade,undated,gregorian julian coptic ethiopic e\
+gyptian armenian islamic hebrew french republican\nuden år,undated,gregorian julian coptic ethiopic egyptian armenian \
+islamic hebrew french republican\nuden dato,undated,gregorian julian coptic ethiopic egyptian armenian islamic hebrew f\
+rench republican\nudateret,undated,gregorian julian coptic ethiopic egyptian armenian islamic hebrew french republican\
+\nuten år,undated,gregorian julian coptic ethiopic egyptian armenian islamic hebrew french republican\nuten dato,undat\
+ed,gregorian julian coptic ethiopic egyptian armenian islamic hebrew french republican\nudatert,undated,gregorian julia\
+n coptic ethiopic egyptian armenian islamic hebrew french republican\npäiväämätön,undated,gregorian julian coptic \
+ethiopic egyptian armenian islamic hebrew french republican\npäiväämättä,undated,gregorian julian coptic ethiopic \
+egyptian armenian islamic hebrew french republican\nilman päiväystä,undated,gregorian julian coptic ethiopic egyptia\
+n armenian islamic hebrew french republican\ntarihsiz,undated,gregorian julian coptic ethiopic egyptian armenian islami\
+c hebrew french republican\nχωρίς ημερομηνία,undated,gregorian julian coptic ethiopic egyptian armenian \
+islamic hebrew french republican\nχωρίς χρονολογία,undated,gregorian julian coptic ethiopic egyptian arm\
+enian islamic hebrew french republican\nαχρονολόγητο,undated,gregorian julian coptic ethiopic egyptian arme\
+nian islamic hebrew french republican\nἀχρονολόγητον,undated,gregorian julian coptic ethiopic egyptian ar\
+menian islamic hebrew french republican\nAdar,month 12-13,hebrew\neve of,eve,gregorian julian\nvigilia,eve,gregorian ju\
+lian\nin vigilia,eve,gregorian julian\nVigil,eve,gregorian julian\nVorabend,eve,gregorian julian\nprofesto,eve,gregoria\
+n julian\nveille de,eve,gregorian julian\noctava,octave,gregorian julian\nin octava,octave,gregorian julian\nOktav,octa\
+ve,gregorian julian\noctave of,octave,gregorian julian\nin crastino,morrow,gregorian julian\ncrastino,morrow,gregorian \
+julian\nmorrow of,morrow,gregorian julian\nOstern,easter 0,gregorian julian\nOstersonntag,easter 0,gregorian julian\nOs\
+tertag,easter 0,gregorian julian\nPascha,easter 0,gregorian julian\nPaschae,easter 0,gregorian julian\nPasche,easter 0,\
+gregorian julian\nResurrectionis Domini,easter 0,gregorian julian\nEaster,easter 0,gregorian julian\nEaster Day,easter \
+0,gregorian julian\nEaster Sunday,easter 0,gregorian julian\nPâques,easter 0,gregorian julian\nOstermontag,easter 1,gr\
+egorian julian\nEaster Monday,easter 1,gregorian julian\nlundi de Pâques,easter 1,gregorian julian\nOsterdienstag,east\
+er 2,gregorian julian\n\
 ";

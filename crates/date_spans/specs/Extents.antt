@@ -175,10 +175,10 @@ year_in (extent.Months year from last to) = year
 year_in (extent.Years year last) = year
 
 -- ---- other eras
--- so many years before, by the calendar's own count
+-- so many years before, by the calendar's own count, written in full: never short
 abbrev pub years_before : ℕ → Numeral → Numeral
 years_before years n =
-    record { value = n.value - years; digits = n.digits; named = n.named; year = Some eras.Calendar; day = n.day }
+    record { value = n.value - years; digits = 4; named = n.named; year = Some eras.Calendar; day = n.day }
 
 abbrev pub day_of_year : SaidDay → Numeral → SaidDay
 day_of_year d year = record { year = year; month = d.month; day = d.day; adar = d.adar; beside = d.beside }

@@ -151,9 +151,11 @@ abbrev pub said_of_sides : Calendar → RangeSigns → Order → List Item → L
 said_of_sides calendar signs order left right =
     range_of (is_between left) calendar signs order (left_side left) right
 
--- what is said before the slash of a dual year: no feast, which is on another day in the other year
+-- what is said before the slash of a dual year: no feast, which is on another day in the other year, and no year of
+-- another era
 abbrev pub before_slash : Calendar → Signs → Order → List Item → Option Extent
-before_slash calendar signs order items = extent_of calendar signs order (without_about items)
+before_slash calendar signs order items =
+    if list_any is_of_other_era items then None else extent_of calendar signs order (without_about items)
 
 -- the year after a year, and whether a number behind a slash says it: in full, or by its last two digits
 abbrev pub next_year : Numeral → Numeral

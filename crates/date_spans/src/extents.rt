@@ -432,13 +432,13 @@ pub fn year_in(said: Extent) -> Number
     }
 }
 
-/// So many years before, by the calendar's own count.
+/// So many years before, by the calendar's own count, written in full.
 fn years_before(years: u32, number: Number) -> Number
     ensures { result ≡ before_spec years number }
 {
     Number {
         value: number.value.saturating_sub(years),
-        digits: number.digits,
+        digits: 4,
         named: number.named,
         year: Some(Era::Calendar),
         day: number.day,

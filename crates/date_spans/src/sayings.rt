@@ -605,6 +605,9 @@ fn before_slash(calendar: Calendar, signs: Signs, order: Order, items: &[Item]) 
     requires { length items.now ≤ 16 }
     ensures { result ≡ slash_spec calendar signs order items.now }
 {
+    if has_other_era(items) {
+        return None;
+    }
     extent_of(calendar, signs, order, without_about(items))
 }
 

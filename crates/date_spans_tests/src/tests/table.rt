@@ -288,6 +288,11 @@ era 1381 bis era 1385|1343-1-1|1347-12-31|
 vor era 1381||1342-12-31|before
 Frühjahr era 1381|1343-3-1|1343-5-31|
 era 1461|=|=|unread
+era 1381/44|=|=|unread
+era 1381/82|=|=|unread
+Mai era 1381/4|=|=|unread
+mundi 7157/58|=|=|unread
+era 90|52-1-1|52-12-31|
 7157 mundi|1648-9-1|1649-8-31|
 Ultimo Feb 7157 mundi|1649-2-28|1649-2-28|
 Anfang 7157 mundi|=|=|unread
@@ -349,6 +354,10 @@ Feb 1660-61|1661-2-1|1661-2-28|
 1648.01.30-49|=|=|unread
 vor 1699/1700|=|=|unread
 000|0-0-1|0-0-0|
+#julian day 1800 refuse
+era 90|52-1-1|52-12-31|
+era CXX|82-1-1|82-12-31|
+5.-7. Mai era 90|52-5-5|52-5-7|
 #republican day refuse refuse
 an VI|6-1-1|6-13-5|
 an III|3-1-1|3-13-6|

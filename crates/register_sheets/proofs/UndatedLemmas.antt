@@ -1,6 +1,6 @@
 -- A text that says that no date is known has an empty first end, so that nothing stops it.
-use Rattle.std.proofs.Common.{◌≡◌, ◌∙◌, ◌&&◌, ◌||◌, ℕ, ℤ, Bool, true, false, List, [], None, Option, Some, ap, get_or, not}
-use Rattle.std.proofs.Common.{option_map, refl, sym}
+use Rattle.std.proofs.Common.{◌≡◌, ◌∙◌, ◌&&◌, ◌||◌, ℕ, ℤ, Bool, true, false, List, [], None, Option, Some, ap}
+use Rattle.std.proofs.Common.{get_or, not, option_map, refl, sym}
 use Rattle.date_texts.specs.declared.calendar.Calendar.{Calendar}
 use Rattle.date_spans.specs.Brackets.{without_brackets}
 use Rattle.date_spans.specs.Ends.{AreEnds as AreEndsSaid}
@@ -44,8 +44,8 @@ no_unread : kinds.Unread ≡ kinds.Undated → ⊥
 no_unread e = cc
 
 -- ---- what is said
-of_saying : (choice : Choice) (calendar : Calendar) (text : List ℕ) (saying : Said) (first last : List ℕ) (turned : Bool)
-    → AreEndsSaid choice calendar text saying first last turned → kind_of saying ≡ kinds.Undated → first ≡ []
+of_saying : (choice : Choice) (calendar : Calendar) (text : List ℕ) (saying : Said) (first last : List ℕ)
+    (turned : Bool) → AreEndsSaid choice calendar text saying first last turned → kind_of saying ≡ kinds.Undated → first ≡ []
 of_saying choice calendar text (sayings.One e) first last turned h kind = absurd (cc)
 of_saying choice calendar text (sayings.Range a b) first last turned h kind = absurd (cc)
 of_saying choice calendar text (sayings.Between a b) first last turned h kind = absurd (cc)
@@ -84,8 +84,8 @@ of_plain choice calendar names text first last found h kind =
     of_text choice calendar names text (kept_of choice calendar names text) first last found
     (is_date choice calendar names (kept_of choice calendar names text).0) h kind
 
-of_inferred : (choice : Choice) (calendar : Calendar) (names : List Name) (text bare first last : List ℕ) (found : Marks)
-    → IsInferred choice calendar names text bare first last found → found.kind ≡ kinds.Undated → first ≡ []
+of_inferred : (choice : Choice) (calendar : Calendar) (names : List Name) (text bare first last : List ℕ)
+    (found : Marks) → IsInferred choice calendar names text bare first last found → found.kind ≡ kinds.Undated → first ≡ []
 of_inferred choice calendar names text bare first last found (said plain is span e) kind =
     of_plain choice calendar names bare first last plain span (kind_as _ _ e kind)
 of_inferred choice calendar names text bare first last found (unsaid a b plain none span f l e) kind =

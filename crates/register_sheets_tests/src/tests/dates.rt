@@ -63,7 +63,7 @@ const DAY_FIRST_HEBREW_5000: Choice = Choice {
     charters: false,
 };
 
-const CASES: [Case; 43] = [
+const CASES: [Case; 21] = [
     Case {
         delimiter: b';',
         above: 0,
@@ -319,6 +319,9 @@ const CASES: [Case; 43] = [
         rows: 1,
         counts: &[(0, 0)],
     },
+];
+
+const OTHER_CASES: [Case; 22] = [
     Case {
         delimiter: b';',
         above: 0,
@@ -588,6 +591,16 @@ const CASES: [Case; 43] = [
 #[test]
 fn dates_come_back_as_python_has_their_days(rt: HostRuntime) -> Result<(), Fail> {
     for case in &CASES {
+        let (text, end) = converted(rt.alloc(), case)?;
+        assert!(rt; text.as_slice() == case.wanted.as_bytes());
+        assert!(rt; is_whole(end, case));
+    }
+    Ok(())
+}
+
+#[test]
+fn other_dates_come_back_as_python_has_their_days(rt: HostRuntime) -> Result<(), Fail> {
+    for case in &OTHER_CASES {
         let (text, end) = converted(rt.alloc(), case)?;
         assert!(rt; text.as_slice() == case.wanted.as_bytes());
         assert!(rt; is_whole(end, case));

@@ -190,7 +190,7 @@ pub(super) const DAY_FIRST: Choice = Choice {
     charters: false,
 };
 
-const CASES: [Case; 23] = [
+const CASES: [Case; 12] = [
     Case {
         delimiter: b';',
         above: 0,
@@ -288,7 +288,6 @@ const CASES: [Case; 23] = [
         rows: 2,
         counts: &[(0, 0)],
     },
-    // Easter was on 9 April 1699, Julian, four weeks after Oculi, and on 27 March 1712, Gregorian, which is that Coptic day.
     Case {
         delimiter: b';',
         above: 0,
@@ -341,6 +340,9 @@ const CASES: [Case; 23] = [
         rows: 2,
         counts: &[(0, 0)],
     },
+];
+
+const OTHER_CASES: [Case; 11] = [
     Case {
         delimiter: b';',
         above: 0,
@@ -580,6 +582,16 @@ pub(super) fn is_whole(end: SheetEnd, case: &Case) -> bool {
 #[test]
 fn sheets_come_back_with_the_columns_asked(rt: HostRuntime) -> Result<(), Fail> {
     for case in &CASES {
+        let (text, end) = converted(rt.alloc(), case)?;
+        assert!(rt; text.as_slice() == case.wanted.as_bytes());
+        assert!(rt; is_whole(end, case));
+    }
+    Ok(())
+}
+
+#[test]
+fn other_sheets_come_back_with_the_columns_asked(rt: HostRuntime) -> Result<(), Fail> {
+    for case in &OTHER_CASES {
         let (text, end) = converted(rt.alloc(), case)?;
         assert!(rt; text.as_slice() == case.wanted.as_bytes());
         assert!(rt; is_whole(end, case));

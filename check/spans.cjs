@@ -48,7 +48,11 @@ function centuryOf({ century }, number, [place, parts] = [1, 1]) {
   return { year: { value: 100 * (number.value - 1) + century + from, digits: 4 }, years: to - from };
 }
 
-const tensOf = year => year.value >= 100 && year.value % 10 === 0 && year.value % 100 !== 0 && !isOtherEra(year.era) ? { year, years: 10 } : null;
+// Ten years from 100 on, that are no hundred.
+function tensOf(year) {
+  const isOne = year.value > 100 && year.value % 10 === 0 && year.value % 100 !== 0;
+  return isOne && !isOtherEra(year.era) ? { year, years: 10 } : null;
+}
 
 // What items say of which one is a part of a year or a century, a century, ten years, or the last day of a month.
 function period(items) {
@@ -91,8 +95,8 @@ function plain(items, { order, slashed, mixed }) {
 
 // A feast, or a Sunday by its number, in a year that is never short: the day on which it is, where a church reckons.
 function ofFeast(items, year, { calendar, isDual }) {
-  const form = formOf(items), isWhole = year.value >= 1 && (year.value >= 100 || year.digits >= 3), inYear = counted(year);
-  if (isDual || !isWhole || isOtherEra(year.era) || inYear === null || inYear > 9999 || !["gregorian", "julian"].includes(calendar)) return null;
+  const form = formOf(items), isWhole = year.value >= 1 && (year.value >= 100 || year.digits >= 3), inYear = year.value;
+  if (isDual || !isWhole || isOtherEra(year.era) || inYear > 9999 || !["gregorian", "julian"].includes(calendar)) return null;
   const [a, b] = items;
   const feast = form === "ns" && !isLong(a) && !a.isDay ? { sunday: [b.season, a.value] } : form === "f" ? a.feast : null;
   if (feast === null) return null;

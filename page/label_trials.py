@@ -120,6 +120,13 @@ class LabelTrials:
             self.option("#sheet-hebrew", f"^{re.escape(label)}$")
             year = re.search(r"(\d+)$", label)
             self.check(f"Hebrew years: {label}", [f"{year[1]}-7-5" if year else ""], self.register_of())
+        self.given("islamic.csv", "D\n82-5-12\n", "Islami")
+        offered = self.options("#sheet-other")
+        self.check(f"what can be done with short Islamic years, {language}", self.options("#sheet-short"), offered)
+        for label in (offered[0], offered[1], offered[9]):
+            self.option("#sheet-other", f"^{re.escape(label)}$")
+            year = re.search(r"(\d+)$", label)
+            self.check(f"Islamic years: {label}", [f"{year[1]}-5-12" if year else ""], self.register_of())
         self.given("roman.csv", "D\nXVI. Kal. Ian. 1499\n", "(Roman|Römisch)")
         self.press_label("input[name=sheet-order]", 1)
         self.tick("julian")

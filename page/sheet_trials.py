@@ -340,6 +340,7 @@ class SheetTrials:
             self.name(name, value)
         self.click("#sheet-columns [value=hebrew]")
         self.choose("#sheet-hebrew", "5000")
+        self.choose("#sheet-other", "1300")
         self.click("#sheet-charters")
         self.wait_for_counts()
         self.check("the first sheet", re.compile("1\tjulian\t1706-5-2"), self.text("#sheet-made"))
@@ -356,8 +357,8 @@ class SheetTrials:
             self.text("#sheet-fit"))
         self.check("the next sheet", re.compile("1\tjulian\t1707-5-3"), self.text("#sheet-made"))
         drawn = self.page.run("const of = (it) => document.querySelector(`#sheet-${it}`); return [of('id').value, of('short').value,"
-            "of('hebrew').value, of('charters').checked, document.querySelector('input[name=sheet-order]:checked').value]")
-        self.check("they are drawn", ["-1", "1700", "5000", True, "day"], drawn)
+            "of('hebrew').value, of('other').value, of('charters').checked, document.querySelector('input[name=sheet-order]:checked').value]")
+        self.check("they are drawn", ["-1", "1700", "5000", "1300", True, "day"], drawn)
         self.check("its columns", re.compile("weekday\tgregorian\thebrew\trefusal"), self.text("#sheet-register"))
         self.choose_sheet(self.file("none.json", "{}"))
         self.check("choices that are none", re.compile("none.json, 2 bytes: .*is none that this page saved"), self.text("#files-list"))

@@ -3,7 +3,7 @@
 --   SheetLemmas: `pick`, and that records come one after the other.
 --   MeaningLemmas, NameListLemmas: `NameList::read`. HeadingLemmas: `headings`. StopLemmas, FoundLemmas,
 --     NoteLemmas: `unknown_names`.
---   The others: `convert_outputs`.
+--   UndatedLemmas: `undated_is_not_unread`. The others: `convert_outputs`.
 pub mod ListLemmas
 pub mod LineLemmas
 pub mod SheetLemmas
@@ -17,6 +17,7 @@ pub mod OwnCalendarLemmas
 pub mod DateLemmas
 pub mod AcceptedLemmas
 pub mod LawLemmas
+pub mod UndatedLemmas
 pub mod WidthLemmas
 pub mod AskedLemmas
 pub mod AskedOfSheetLemmas

@@ -25,6 +25,7 @@ pub mod Registers
 pub mod DateStops
 pub mod UnknownNames
 pub mod UnknownViews
+pub mod UndatedLaws
 pub mod SheetRecords
 pub mod DateViews
 pub mod SheetReaders

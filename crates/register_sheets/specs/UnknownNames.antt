@@ -68,8 +68,8 @@ pub record AreNames (most : ℕ) (stops : List NameStop) (names : List NameCount
 abbrev pub is_emptied : List ℕ → List ℕ → Bool
 is_emptied field date = nat_lt 0 (length field) && (length date == 0)
 
--- an end that is open, or both, may be so by what the words say: that the day lies before a date, which may be the first
--- one that a calendar has, or after it; or that no date is known
+-- ends may be open by what the words say: that the day lies before a date, which may be the first one that a calendar
+-- has, or after it; or that no date is known
 abbrev pub says_open : Kind → Bool
 says_open kinds.Before = true
 says_open kinds.After = true

@@ -123,20 +123,20 @@ impl NameList {
     /// Reads a list: CSV with commas, of which the first record is the header `name,means,in`, with any columns behind
     /// these. `means` is one of the following.
     ///
-    /// - A month, `month 1` to `month 13`, or `month 12-13`, Adar; months as `months 3-5`; a part of a year or a century as
-    ///   `part 1/3`; `century 0` or `century 1`, by whether its first year ends with 00 or 01; `decade`; `last day`.
-    /// - A number up to 999999999; a word for year, of the years of the calendar, the Spanish era or the creation: `year`,
-    ///   `year spanish` or `year creation`; a word for day, `day`; the mark `K`, `N` or `I`.
+    /// - A month, `month 1` to `month 13`, or `month 12-13`, Adar; months as `months 3-5`; a part of a year or a century
+    ///   as `part 1/3`; `century 0` or `century 1`, by whether its first year ends with 00 or 01; `decade`; `last day`.
+    /// - A number up to 999999999; a word for year, of the years of the calendar, the Spanish era or the creation:
+    ///   `year`, `year spanish` or `year creation`; a word for day, `day`; the mark `K`, `N` or `I`.
     /// - `weekday 0` for Sunday to `weekday 6`; `decade 1` to `decade 10`, a day of ten.
-    /// - A feast as `easter -28`, `feast 9-29`, `feast 3-1 -5` or `sunday advent 3`; Sundays as `sundays lent`; `after`,
-    ///   `before`, `eve`, `morrow`, `octave`.
+    /// - A feast as `easter -28`, `feast 9-29`, `feast 3-1 -5` or `sunday advent 3`; Sundays as `sundays lent`;
+    ///   `after`, `before`, `eve`, `morrow`, `octave`.
     /// - `about`, `from`, `to`, `between`, `and`; `undated`, by which a text says that no date is known.
     /// - A calendar, `both` styles, or a change as `julian/gregorian:1582-10-15`.
     /// - Nothing; or `?`, by which a name stays open.
     ///
-    /// `in` has the calendars in which the name means this, with a space between two; all where it is empty. `name` is any
-    /// text where it means a calendar or both styles, or stays open; else it has a number or a word, and no character that
-    /// no date has.
+    /// `in` has the calendars in which the name means this, with a space between two; all where it is empty. `name` is
+    /// any text where it means a calendar or both styles, or stays open; else it has a number or a word, and no
+    /// character that no date has.
     ///
     /// # Errors
     ///

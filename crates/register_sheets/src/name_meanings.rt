@@ -232,7 +232,8 @@ fn counted_said(field: &str) -> Option<Meaning>
 /// What a field that says one of some names says of a name in dates.
 fn named_said(field: &str) -> Option<Meaning>
     ensures some { IfSome result (SaysMeaning field.now) }
-    ensures none { result ≡ None → (meaning : MeaningValue) → is_named meaning ≡ true → ¬ SaysMeaning field.now meaning }
+    ensures none { result ≡ None → (meaning : MeaningValue) → is_named meaning ≡ true
+        → ¬ SaysMeaning field.now meaning }
 {
     if let Some(era) = era_said(field) {
         Some(Meaning::YearWord(era))

@@ -69,7 +69,7 @@ const BOTH_STYLES: Case = Case {
     counts: &[(3, 1)],
 };
 
-/// A part of a year, centuries, ten years, the first part of three of a year, the last day of a month, and none of these.
+/// A part of a year, centuries, ten years, the first third of a year, the last day of a month, and none of these.
 const PARTS: Case = Case {
     delimiter: b';',
     above: 0,
@@ -145,8 +145,7 @@ fn dates_in_both_styles(rt: HostRuntime) -> Result<(), Fail> {
     Ok(())
 }
 
-/// Whether two dates were stopped by a name, of the word and of the calendar, and one for no other reason than that it is no
-/// date.
+/// Whether two dates were stopped by a name, one of a word and one of a calendar, and one as it is no date.
 fn is_unread(unread: UnreadDates) -> bool {
     let reasons = unread.reasons;
     let mut other = UnreadDates::none().reasons;

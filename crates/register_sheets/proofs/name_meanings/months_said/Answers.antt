@@ -23,7 +23,8 @@ returns-in_err-first-2-clause-none c none first last (low, later, high, is) =
     dropped ∙ ap (λ (k : ℕ). drop k c.args.field.now) finds.0 ∙ ap (drop 7) is) in
     let (cut, lack) = rw c.in_ok-first.was at
     (split_parts 45 rest c.split_once.result c.split_once.ensures.cases (omega arith)) in
-    let (front, behind) = first_same 45 c.in_ok-first.first.now (decimal first) c.in_ok-first.last.now (decimal last) lack
+    let (front, behind) =
+    first_same 45 c.in_ok-first.first.now (decimal first) c.in_ok-first.last.now (decimal last) lack
     (decimal_lacks first 45 (omega arith) (omega arith)) (sym cut ∙ text) in
     c.number_said.ensures.none c.in_err-first-2.was first (low, omega arith, front)
 
@@ -35,7 +36,8 @@ returns-in_err-last-clause-none c none first last (low, later, high, is) =
     dropped ∙ ap (λ (k : ℕ). drop k c.args.field.now) finds.0 ∙ ap (drop 7) is) in
     let (cut, lack) = rw c.in_ok-first.was at
     (split_parts 45 rest c.split_once.result c.split_once.ensures.cases (omega arith)) in
-    let (front, behind) = first_same 45 c.in_ok-first.first.now (decimal first) c.in_ok-first.last.now (decimal last) lack
+    let (front, behind) =
+    first_same 45 c.in_ok-first.first.now (decimal first) c.in_ok-first.last.now (decimal last) lack
     (decimal_lacks first 45 (omega arith) (omega arith)) (sym cut ∙ text) in
     let (one, most, said) = c.in_ok-first-2.ensures.some in
     let same : c.in_ok-first-2.first ≡ first

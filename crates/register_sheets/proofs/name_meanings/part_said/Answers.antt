@@ -23,7 +23,8 @@ returns-in_err-parts-clause-none c none place parts (low, high, two, four, is) =
     dropped ∙ ap (λ (k : ℕ). drop k c.args.field.now) finds.0 ∙ ap (drop 5) is) in
     let (cut, lack) = rw c.in_ok-place.was at
     (split_parts 47 rest c.split_once.result c.split_once.ensures.cases (omega arith)) in
-    let (front, behind) = first_same 47 c.in_ok-place.place.now (decimal place) c.in_ok-place.parts.now (decimal parts) lack
+    let (front, behind) =
+    first_same 47 c.in_ok-place.place.now (decimal place) c.in_ok-place.parts.now (decimal parts) lack
     (decimal_lacks place 47 (omega arith) (omega arith)) (sym cut ∙ text) in
     c.number_said.ensures.none c.in_err-parts.was parts (two, four, behind)
 
@@ -35,7 +36,8 @@ returns-in_err-place-2-clause-none c none place parts (low, high, two, four, is)
     dropped ∙ ap (λ (k : ℕ). drop k c.args.field.now) finds.0 ∙ ap (drop 5) is) in
     let (cut, lack) = rw c.in_ok-place.was at
     (split_parts 47 rest c.split_once.result c.split_once.ensures.cases (omega arith)) in
-    let (front, behind) = first_same 47 c.in_ok-place.place.now (decimal place) c.in_ok-place.parts.now (decimal parts) lack
+    let (front, behind) =
+    first_same 47 c.in_ok-place.place.now (decimal place) c.in_ok-place.parts.now (decimal parts) lack
     (decimal_lacks place 47 (omega arith) (omega arith)) (sym cut ∙ text) in
     let (least, most, said) = c.in_ok-parts.ensures.some in
     let same : c.in_ok-parts.parts ≡ parts

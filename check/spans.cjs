@@ -307,6 +307,26 @@ function datesOf({ kind, first, last }, calendar, choice) {
   return n !== null && k !== null && k < n ? null : [text(from), text(to)];
 }
 
+// ---- a day in both styles
+
+const OLD = "julian", NEW = "gregorian";
+
+// Before the only slash of a text the Julian date of a day, with what it lacks of what is behind, and behind it the Gregorian
+// one: that of the calendar, where both are one day.
+function inStyles(text, names, calendar, choice) {
+  const cut = [OLD, NEW].includes(calendar) && !hasOther(text) ? ONLY_SLASH.exec(text) : null;
+  if (cut === null) return null;
+  const before = sideItems(cut[1], names.all.get(OLD)), behind = sideItems(cut[2], names.all.get(NEW));
+  if (before === null || behind === null) return null;
+  const by = (side, own) => ({ order: choice.order, calendar: own, slashed: false, mixed: hasMixedSigns(side) });
+  const said = [[leftOf(before, behind, by(cut[1], OLD), by(cut[2], OLD)), OLD], [own(behind, { ...by(cut[2], NEW), isDual: true }), NEW]];
+  if (said.some(([it]) => it === null || it.day === undefined)) return null;
+  const dates = said.map(([it, style]) => datesOf(one("", it), style, choice));
+  if (dates.some(it => it === null || it[0] === "")) return null;
+  const days = dates.map(([date], i) => dayOf(said[i][1], ...date.split("-").map(Number)));
+  return days[0] !== null && days[0] === days[1] ? dates[calendar === OLD ? 0 : 1][0] : null;
+}
+
 // ---- all of it
 
 function sayingOf(text, names, by, dual) {
@@ -354,7 +374,10 @@ function plainSpanOf(text, calendar, choice, names) {
     return { first: date.text, last: date.text, marks: marksOf("", false) };
   }
   const said = sayingOf(kept, names, by, dual), dates = said === null ? null : datesOf(said, calendar, choice);
-  if (dates === null) return stays;
+  if (dates === null) {
+    const day = said === null ? inStyles(kept, names, calendar, choice) : null;
+    return day === null ? stays : { first: day, last: day, marks: marksOf("", false) };
+  }
   const all = words(kept, names), isAbout = all !== null && all.some(it => isWord(it, "about"));
   return { first: dates[0], last: dates[1], marks: marksOf(said.kind, isAbout), isRange: said.first !== said.last };
 }

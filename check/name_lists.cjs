@@ -57,6 +57,7 @@ function listOf(rows, calendars) {
       own.set(first, [...(own.get(first) || []), name]);
     }
   }
+  for (const own of byCalendar.values()) own.all = byCalendar;
   return { names, fields, byCalendar, text: ["name,means,in", ...rows.map(row => row.join(","))].join("\n") };
 }
 

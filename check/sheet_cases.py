@@ -406,12 +406,12 @@ STREAMS = [
      lines("standard input: 1 date is no date of its calendar")),
     (f"{SPANS_COLUMNS} --spans --to rd", "Date\nMai 1806\n", 0,
      "Date,first rd,last rd,mark,refusal\nMai 1806,659383,659413,,\n", ""),
-    # Centuries, parts of years and tens of years, by a list; and a text that says no date.
+    # Centuries, parts of years and tens of years, by a list; and a text that says no date, and so has no day.
     (f"{SPANS_COLUMNS} --spans --edtf --to gregorian --names periods.csv",
      "Date\n18. Jh.\nsiglo XVIII\nLenz 1806\n1790s\no. D.\n", 0,
      "Date,first gregorian,last gregorian,edtf,mark,refusal\n18. Jh.,1701-01-01,1800-12-31,[1701..1800],,\n"
      "siglo XVIII,1700-01-01,1799-12-31,[1700..1799],,\nLenz 1806,1806-03-01,1806-05-31,[1806-03..1806-05],,\n"
-     "1790s,1790-01-01,1799-12-31,[1790..1799],,\no. D.,,,,undated,\n", ""),
+     "1790s,1790-01-01,1799-12-31,[1790..1799],,\no. D.,,,,undated,5\n", ""),
     # How many are no single day: a month, a year, and what ends before a day.
     (f"{SPANS_COLUMNS} --edtf --summary", SPANS, 0, SPANS_CONVERTED,
      lines("standard input: 1 date is no date of its calendar",

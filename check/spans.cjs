@@ -48,7 +48,11 @@ function centuryOf({ century }, number, [place, parts] = [1, 1]) {
   return { year: { value: 100 * (number.value - 1) + century + from, digits: 4 }, years: to - from };
 }
 
-const tensOf = year => year.value >= 100 && year.value % 10 === 0 && year.value % 100 !== 0 && !isOtherEra(year.era) ? { year, years: 10 } : null;
+// Ten years from 100 on, that are no hundred.
+function tensOf(year) {
+  const isOne = year.value > 100 && year.value % 10 === 0 && year.value % 100 !== 0;
+  return isOne && !isOtherEra(year.era) ? { year, years: 10 } : null;
+}
 
 // What items say of which one is a part of a year or a century, a century, ten years, or the last day of a month.
 function period(items) {
@@ -91,8 +95,8 @@ function plain(items, { order, slashed, mixed }) {
 
 // A feast, or a Sunday by its number, in a year that is never short: the day on which it is, where a church reckons.
 function ofFeast(items, year, { calendar, isDual }) {
-  const form = formOf(items), isWhole = year.value >= 1 && (year.value >= 100 || year.digits >= 3), inYear = counted(year);
-  if (isDual || !isWhole || isOtherEra(year.era) || inYear === null || inYear > 9999 || !["gregorian", "julian"].includes(calendar)) return null;
+  const form = formOf(items), isWhole = year.value >= 1 && (year.value >= 100 || year.digits >= 3), inYear = year.value;
+  if (isDual || !isWhole || isOtherEra(year.era) || inYear > 9999 || !["gregorian", "julian"].includes(calendar)) return null;
   const [a, b] = items;
   const feast = form === "ns" && !isLong(a) && !a.isDay ? { sunday: [b.season, a.value] } : form === "f" ? a.feast : null;
   if (feast === null) return null;
@@ -303,6 +307,26 @@ function datesOf({ kind, first, last }, calendar, choice) {
   return n !== null && k !== null && k < n ? null : [text(from), text(to)];
 }
 
+// ---- a day in both styles
+
+const OLD = "julian", NEW = "gregorian";
+
+// Before the only slash of a text the Julian date of a day, with what it lacks of what is behind, and behind it the Gregorian
+// one: that of the calendar, where both are one day.
+function inStyles(text, names, calendar, choice) {
+  const cut = [OLD, NEW].includes(calendar) && !hasOther(text) ? ONLY_SLASH.exec(text) : null;
+  if (cut === null) return null;
+  const before = sideItems(cut[1], names.all.get(OLD)), behind = sideItems(cut[2], names.all.get(NEW));
+  if (before === null || behind === null) return null;
+  const by = (side, own) => ({ order: choice.order, calendar: own, slashed: false, mixed: hasMixedSigns(side) });
+  const said = [[leftOf(before, behind, by(cut[1], OLD), by(cut[2], OLD)), OLD], [own(behind, { ...by(cut[2], NEW), isDual: true }), NEW]];
+  if (said.some(([it]) => it === null || it.day === undefined)) return null;
+  const dates = said.map(([it, style]) => datesOf(one("", it), style, choice));
+  if (dates.some(it => it === null || it[0] === "")) return null;
+  const days = dates.map(([date], i) => dayOf(said[i][1], ...date.split("-").map(Number)));
+  return days[0] !== null && days[0] === days[1] ? dates[calendar === OLD ? 0 : 1][0] : null;
+}
+
 // ---- all of it
 
 function sayingOf(text, names, by, dual) {
@@ -350,7 +374,10 @@ function plainSpanOf(text, calendar, choice, names) {
     return { first: date.text, last: date.text, marks: marksOf("", false) };
   }
   const said = sayingOf(kept, names, by, dual), dates = said === null ? null : datesOf(said, calendar, choice);
-  if (dates === null) return stays;
+  if (dates === null) {
+    const day = said === null ? inStyles(kept, names, calendar, choice) : null;
+    return day === null ? stays : { first: day, last: day, marks: marksOf("", false) };
+  }
   const all = words(kept, names), isAbout = all !== null && all.some(it => isWord(it, "about"));
   return { first: dates[0], last: dates[1], marks: marksOf(said.kind, isAbout), isRange: said.first !== said.last };
 }

@@ -6,7 +6,7 @@ use Rattle.date_texts.specs.declared.calendar.Calendar.{Calendar}
 use Rattle.written_dates.specs.declared.items.Item.{Item}
 use Rattle.written_dates.specs.declared.meanings.Name.{Name}
 use Rattle.written_dates.specs.Sums.{found_items}
-use Rattle.date_spans.specs.Spans.{if_few, words_in}
+use Rattle.date_spans.specs.Sides.{if_few, words_in}
 
 few : (found : Option (List Item)) (xs : List Item) → found ≡ Some xs → length xs ≤ 16 → if_few found ≡ Some xs
 few None xs e h = cc

@@ -7,6 +7,7 @@ use Rattle.day_numbers.specs.declared.ymd.Ymd.{Ymd}
 use Rattle.date_texts.specs.Calendars.{day_number_by, reckoning}
 use Rattle.date_texts.specs.Laws.{OneCell}
 use Rattle.date_texts.specs.declared.calendar.Calendar.{Calendar}
+use Rattle.date_texts.specs.declared.calendar.Calendar.TheVariants.{Gregorian, Julian}
 use Rattle.date_texts.specs.declared.target.Target.TheVariants.{Date as DateTarget}
 use Rattle.written_dates.specs.declared.calendars.Form.{Form}
 use Rattle.written_dates.specs.declared.calendars.Form.TheVariants as forms
@@ -25,7 +26,10 @@ use Rattle.date_spans.specs.Ends.{first_of, in_order, last_of, no_day, no_first,
 use Rattle.date_spans.specs.Laws.{SpansAreOne}
 use Rattle.date_spans.specs.Spans.{AreEndsOf, IsCivilSpan, IsInferred, IsPlainSpan, IsSpanByForm, IsSpanOfText}
 use Rattle.date_spans.specs.Spans.{has_about, inferred, is_date, is_read, kept_of, marks_of, said, said_in, unsaid}
-use Rattle.date_spans.specs.Spans.{words_in}
+use Rattle.date_spans.specs.Spans.{IsDayOrText, IsInStyles}
+use Rattle.date_spans.specs.Sides.{words_in}
+use Rattle.date_spans.specs.Styles.{IsOfBoth, IsOneDay, IsOwnDay, no_gregorian, no_julian, one_day as both_one}
+use Rattle.date_spans.specs.Styles.{own_style, styles_in, two_days}
 
 -- ---- one day of a date, and one text of the day beside it
 one_day : (calendar : Calendar) (date : Numbers) (n k : ℤ) → HasDay calendar date n → HasDay calendar date k → n ≡ k
@@ -100,12 +104,57 @@ one_ends one choice calendar text (sayings.From e) x y h g = (h.0 ∙ sym g.0, h
 one_ends one choice calendar text (sayings.Until e) x y h g = (h.0 ∙ sym g.0, h.1 ∙ sym g.1, h.2 ∙ sym g.2)
 one_ends one choice calendar text sayings.Undated x y h g = (h.0 ∙ sym g.0, h.1 ∙ sym g.1, h.2 ∙ sym g.2)
 
+-- ---- a day in both styles
+one_of_two : (a b : Numbers) (x y : Option Numbers) → IsOneDay a b x → IsOneDay a b y → x ≡ y
+one_of_two a b x y (both_one n h g) (both_one k i f) = refl
+one_of_two a b x y (both_one n h g) (two_days k m i f other) =
+    absurd (other (sym (one_day Julian a n k h i) ∙ one_day Gregorian b n m g f))
+one_of_two a b x y (both_one n h g) (no_julian none) = absurd (none n h)
+one_of_two a b x y (both_one n h g) (no_gregorian none) = absurd (none n g)
+one_of_two a b x y (two_days n k h g other) (both_one m i f) =
+    absurd (other (one_day Julian a n m h i ∙ sym (one_day Gregorian b k m g f)))
+one_of_two a b x y (no_julian none) (both_one k i f) = absurd (none k i)
+one_of_two a b x y (no_gregorian none) (both_one k i f) = absurd (none k f)
+one_of_two a b x y (two_days n k h g other) (two_days m j i f unlike) = refl
+one_of_two a b x y (two_days n k h g other) (no_julian none) = refl
+one_of_two a b x y (two_days n k h g other) (no_gregorian none) = refl
+one_of_two a b x y (no_julian none) (two_days m j i f unlike) = refl
+one_of_two a b x y (no_julian none) (no_julian never) = refl
+one_of_two a b x y (no_julian none) (no_gregorian never) = refl
+one_of_two a b x y (no_gregorian none) (two_days m j i f unlike) = refl
+one_of_two a b x y (no_gregorian none) (no_julian never) = refl
+one_of_two a b x y (no_gregorian none) (no_gregorian never) = refl
+
+one_of_both : (two : Option (Numbers × Numbers)) (x y : Option Numbers) → IsOfBoth two x → IsOfBoth two y → x ≡ y
+one_of_both None x y h g = h ∙ sym g
+one_of_both (Some two) x y h g = one_of_two two.0 two.1 x y h g
+
+one_own_day : (choice : Choice) (calendar : Calendar) (names : List Name) (text : List ℕ) (x y : Option Numbers)
+    → IsOwnDay choice calendar names text x → IsOwnDay choice calendar names text y → x ≡ y
+one_own_day choice calendar names text x y (day, both, own) (other, of_both, owned) =
+    own ∙ ap (own_style calendar (styles_in choice calendar names text))
+    (one_of_both (styles_in choice calendar names text) day other both of_both) ∙ sym owned
+
+one_or_text : (day : Option Numbers) (text : List ℕ) (kept : List ℕ × Bool × Bool) (x y : List ℕ × List ℕ × Marks)
+    → IsDayOrText day text kept x.0 x.1 x.2 → IsDayOrText day text kept y.0 y.1 y.2 → Same x y
+one_or_text None text kept x y h g = (h.0 ∙ sym g.0, h.1 ∙ sym g.1, h.2 ∙ sym g.2)
+one_or_text (Some day) text kept x y h g = (h.0 ∙ sym g.0, h.1 ∙ sym g.1, h.2 ∙ sym g.2)
+
+one_in_styles : (choice : Choice) (calendar : Calendar) (names : List Name) (text : List ℕ)
+    (kept : List ℕ × Bool × Bool) (x y : List ℕ × List ℕ × Marks)
+    → IsInStyles choice calendar names text kept x.0 x.1 x.2 → IsInStyles choice calendar names text kept y.0 y.1 y.2
+    → Same x y
+one_in_styles choice calendar names text kept x y (day, own, is) (other, owned, are) =
+    one_or_text other text kept x y
+    (subst (λ (d : Option Numbers). IsDayOrText d text kept x.0 x.1 x.2)
+    (one_own_day choice calendar names kept.0 day other own owned) is) are
+
 -- ---- one span
 one_of_said : OneCell → (choice : Choice) (calendar : Calendar) (names : List Name) (text : List ℕ)
     (kept : List ℕ × Bool × Bool) (saying : Option Said) (x y : List ℕ × List ℕ × Marks)
     → AreEndsOf choice calendar names text kept saying x.0 x.1 x.2
     → AreEndsOf choice calendar names text kept saying y.0 y.1 y.2 → Same x y
-one_of_said one choice calendar names text kept None x y h g = (h.0 ∙ sym g.0, h.1 ∙ sym g.1, h.2 ∙ sym g.2)
+one_of_said one choice calendar names text kept None x y h g = one_in_styles choice calendar names text kept x y h g
 one_of_said one choice calendar names text kept (Some saying) x y h g =
     let same = one_ends one choice calendar text saying (x.0, x.1, h.0) (y.0, y.1, g.0) h.1 g.1 in (
       same.0,

@@ -7,5 +7,6 @@ pub mod Ends
 pub mod Cuts
 pub mod CutViews
 pub mod Brackets
-pub mod Spans
+pub mod Sides
 pub mod Styles
+pub mod Spans

@@ -1,7 +1,7 @@
 -- The first and the last day that a text can mean.
-use Rattle.std.specs.Prelude.{◌≡◌, ◌+◌, ℕ, Bool, true, false, not, ◌&&◌, ◌||◌, ◌==◌, nat_le, if◌then◌else◌, List, length}
+use Rattle.std.specs.Prelude.{◌≡◌, ℕ, Bool, true, false, not, ◌&&◌, ◌||◌, if◌then◌else◌, List}
 use Rattle.std.specs.Prelude.{Option, Some, None, is_some}
-use Rattle.std.specs.List.{count_by, list_any}
+use Rattle.std.specs.List.{list_any}
 use Rattle.date_texts.specs.declared.calendar.Calendar.{Calendar}
 use Rattle.written_dates.specs.declared.calendars.Form.{Form}
 use Rattle.written_dates.specs.declared.calendars.Form.TheVariants as forms
@@ -10,62 +10,23 @@ use Rattle.written_dates.specs.declared.meanings.Name.{Name}
 use Rattle.written_dates.specs.declared.rules.Order.{Order}
 use Rattle.written_dates.specs.declared.written.Choice.{Choice}
 use Rattle.written_dates.specs.Calendars.{form}
-use Rattle.written_dates.specs.Signs.{differ, has_minus, has_mixed_signs, has_other, is_bar, runs_behind_minus}
-use Rattle.written_dates.specs.Signs.{signs_between, three_runs}
-use Rattle.written_dates.specs.Sums.{found_items}
+use Rattle.written_dates.specs.Signs.{has_other, runs_behind_minus, three_runs}
 use Rattle.written_dates.specs.Tokens.{tokens}
 use Rattle.written_dates.specs.Written.{answer, dated_text, is_found, unless_turned, written}
 use Rattle.date_spans.specs.declared.cuts.Cut.{Cut}
 use Rattle.date_spans.specs.declared.cuts.Cut.TheVariants.{Dash, WideDash, Slash}
-use Rattle.date_spans.specs.declared.extents.Signs.{Signs}
 use Rattle.date_spans.specs.declared.sayings.Kind.{Kind}
 use Rattle.date_spans.specs.declared.sayings.Kind.TheVariants as kinds
-use Rattle.date_spans.specs.declared.sayings.RangeSigns.{RangeSigns}
 use Rattle.date_spans.specs.declared.sayings.Said.{Said}
 use Rattle.date_spans.specs.declared.spans.Marks.{Marks}
 use Rattle.date_spans.specs.Brackets.{without_brackets}
-use Rattle.date_spans.specs.Cuts.{has_slash, is_open, sides, unmarked}
-use Rattle.date_spans.specs.Ends.{AreEnds, if_held}
+use Rattle.date_spans.specs.Cuts.{is_open, sides, unmarked}
+use Rattle.date_spans.specs.declared.ends.Numbers.{Numbers}
+use Rattle.date_spans.specs.Ends.{AreEnds, date_text, if_held}
 use Rattle.date_spans.specs.Extents.{or_else}
+use Rattle.date_spans.specs.Sides.{cut_sides, items_in, one_side, two_sides, words_in}
+use Rattle.date_spans.specs.Styles.{IsOwnDay}
 use Rattle.date_spans.specs.Sayings.{is_about, is_dual_of, kind_of, said_by, said_of_dual, said_of_short, said_of_sides}
-
--- the items of a text in a calendar; none where there are more than sixteen
-abbrev pub if_few : Option (List Item) → Option (List Item)
-if_few None = None
-if_few (Some found) = if nat_le (length found) 16 then Some found else None
-
-unfoldable pub words_in : Calendar → List Name → List ℕ → Option (List Item)
-words_in calendar names text = if_few (found_items calendar names text)
-
--- those of a text, or of a side, that no dash or slash opens or ends, and in which no minus may stand
-unfoldable pub items_in : Calendar → List Name → List ℕ → Option (List Item)
-items_in calendar names text = if has_minus (tokens 0 text) || is_open text then None else words_in calendar names text
-
--- ---- signs
-abbrev pub signs : Bool → Bool → Signs
-signs slashed mixed = record { slashed = slashed; mixed = mixed }
-
-abbrev pub count_bars : List ℕ → ℕ
-count_bars text = count_by is_bar (tokens 0 text)
-
--- the signs of a text that is one side
-abbrev pub one_side : List ℕ → Signs
-one_side text = signs (has_slash text) (has_mixed_signs (tokens 0 text))
-
--- those of two sides that a word parts: they differ between the first number and the last, or dashes and slashes are one
--- or two, so that they may part two numbers of one side
-abbrev pub two_sides : List ℕ → Signs
-two_sides text =
-    signs (has_slash text)
-    (differ (signs_between (tokens 0 text)) || (count_bars text == 1) || (count_bars text == 2))
-
--- those of two sides of a text at a dash; a left side that has the right one's last items may have no dash or slash alone
-abbrev pub cut_sides : List ℕ → List ℕ → List ℕ → RangeSigns
-cut_sides text left right = record {
-  left = signs (has_slash text) (has_mixed_signs (tokens 0 left));
-  shared = signs (has_slash text) (has_mixed_signs (tokens 0 right) || (count_bars left + count_bars right == 1));
-  right = signs (has_slash text) (has_mixed_signs (tokens 0 right));
-}
 
 -- ---- what a text says
 -- what is said of two texts, where each has items
@@ -176,11 +137,22 @@ abbrev pub marks_of : Said → Bool → Bool → Bool → Marks
 marks_of said true about uncertain = marks kinds.Unread false false
 marks_of said false about uncertain = marks (kind_of said) about uncertain
 
--- what is said has these ends; where nothing is, or its dates are turned, the text stays
+-- a date is first and last; where there is none, the text stays
+abbrev pub IsDayOrText : Option Numbers → List ℕ → List ℕ × Bool × Bool → List ℕ → List ℕ → Marks → Type 0
+IsDayOrText None text kept first last found =
+    (first ≡ text) × (last ≡ text) × (found ≡ marks kinds.Unread false false)
+IsDayOrText (Some day) text kept first last found =
+    (first ≡ date_text (Some day)) × (last ≡ date_text (Some day)) × (found ≡ marks kinds.One kept.2 kept.1)
+
+abbrev pub IsInStyles : Choice → Calendar → List Name → List ℕ → List ℕ × Bool × Bool → List ℕ → List ℕ → Marks → Type 0
+IsInStyles choice calendar names text kept first last found =
+    (day : Option Numbers) × IsOwnDay choice calendar names kept.0 day × IsDayOrText day text kept first last found
+
+-- what is said has these ends; where nothing is, a day in both styles is read; where the dates are turned, the text stays
 abbrev pub AreEndsOf : Choice → Calendar → List Name → List ℕ → List ℕ × Bool × Bool → Option Said
     → List ℕ → List ℕ → Marks → Type 0
 AreEndsOf choice calendar names text kept None first last found =
-    (first ≡ text) × (last ≡ text) × (found ≡ marks kinds.Unread false false)
+    IsInStyles choice calendar names text kept first last found
 AreEndsOf choice calendar names text kept (Some said) first last found =
     (turned : Bool) × AreEnds choice calendar text said first last turned
     × (found ≡ marks_of said turned (kept.2 || has_about (words_in calendar names kept.0)) kept.1)

@@ -1,10 +1,12 @@
 -- A day in two styles, as `10/22 stycznia 1863`: the Julian date before a slash, and the Gregorian one behind it.
-use Rattle.std.specs.Prelude.{◌≡◌, ◌≢◌, ℕ, ℤ, if◌then◌else◌, List, Option, Some, None}
+use Rattle.std.specs.Prelude.{◌≡◌, ◌≢◌, ℕ, ℤ, Bool, true, false, not, ◌&&◌, if◌then◌else◌, List, Option, Some, None}
 use Rattle.date_texts.specs.declared.calendar.Calendar.{Calendar}
 use Rattle.date_texts.specs.declared.calendar.Calendar.TheVariants.{Gregorian, Julian}
 use Rattle.written_dates.specs.declared.items.Item.{Item}
 use Rattle.written_dates.specs.declared.meanings.Name.{Name}
 use Rattle.written_dates.specs.declared.written.Choice.{Choice}
+use Rattle.written_dates.specs.Signs.{has_other}
+use Rattle.written_dates.specs.Tokens.{tokens}
 use Rattle.date_spans.specs.declared.cuts.Cut.TheVariants.{Slash}
 use Rattle.date_spans.specs.declared.ends.Numbers.{Numbers}
 use Rattle.date_spans.specs.declared.extents.Extent.{Extent}
@@ -14,7 +16,7 @@ use Rattle.date_spans.specs.declared.sayings.RangeSigns.{RangeSigns}
 use Rattle.date_spans.specs.Ends.{HasDay, date_text, first_of, holds}
 use Rattle.date_spans.specs.Extents.{extent_of}
 use Rattle.date_spans.specs.Sayings.{left_of}
-use Rattle.date_spans.specs.Spans.{items_in, one_side}
+use Rattle.date_spans.specs.Sides.{items_in, one_side}
 
 -- the date of a day that is said, where it is so
 abbrev pub date_of : Choice → Calendar → Option Extent → Option Numbers
@@ -70,3 +72,26 @@ written_by text (Some date) = date_text (Some date)
 abbrev pub IsWrittenInBoth : Choice → List Name → List ℕ → List ℕ → Type 0
 IsWrittenInBoth choice names text written =
     (date : Option Numbers) × IsOfBoth (two_dates choice names text) date × (written ≡ written_by text date)
+
+-- ---- in a column of one calendar
+-- in the Gregorian and the Julian calendar the two dates that a text says in both styles, where each of its characters
+-- is one that dates have
+abbrev pub has_styles : Calendar → Bool
+has_styles Gregorian = true
+has_styles Julian = true
+has_styles calendar = false
+
+unfoldable pub styles_in : Choice → Calendar → List Name → List ℕ → Option (Numbers × Numbers)
+styles_in choice calendar names text =
+    if has_styles calendar && not (has_other (tokens 0 text)) then two_dates choice names text else None
+
+-- of these the one of the calendar, where both are one day
+abbrev pub own_style : Calendar → Option (Numbers × Numbers) → Option Numbers → Option Numbers
+own_style Julian (Some two) (Some day) = Some two.0
+own_style calendar two day = day
+
+-- the date in a calendar of the day that a text says in both styles
+abbrev pub IsOwnDay : Choice → Calendar → List Name → List ℕ → Option Numbers → Type 0
+IsOwnDay choice calendar names text own =
+    (day : Option Numbers) × IsOfBoth (styles_in choice calendar names text) day
+    × (own ≡ own_style calendar (styles_in choice calendar names text) day)

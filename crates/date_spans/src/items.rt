@@ -1,7 +1,7 @@
 //! The items of a text, up to sixteen.
 
 ghost use Rattle.std.specs.Prelude.{◌≡◌, option_map};
-ghost use Rattle.date_spans.specs.Spans.{items_in as items_spec, words_in as words_spec};
+ghost use Rattle.date_spans.specs.Sides.{items_in as items_spec, words_in as words_spec};
 
 use crate::cuts::is_open;
 use arrayvec::ArrayVec;
@@ -24,7 +24,7 @@ pub fn words_in(calendar: Calendar, names: &Names, text: &[u8]) -> Option<ArrayV
 }
 
 /// The items of a text, or of a side; nothing either where a dash or a slash opens or ends it, or a minus may stand in it.
-#[tactic(auto, unfolding(crate::specs::Spans::items_in))]
+#[tactic(auto, unfolding(crate::specs::Sides::items_in))]
 pub fn items_in(calendar: Calendar, names: &Names, text: &[u8]) -> Option<ArrayVec<Item, 16>>
     ensures { option_map (λ found. found.items) result ≡ items_spec calendar names.now.listed.now text.now }
 {

@@ -1,30 +1,34 @@
 //! The first and the last day that a text can mean.
 
-ghost use Rattle.std.specs.Prelude.{◌≡◌, false, true, IfOk, List, Some};
+ghost use Rattle.std.specs.Prelude.{◌≡◌, ℕ, false, true, IfOk, List, Some};
 ghost use Rattle.std.specs.List.{list_any};
 ghost use Rattle.written_dates.specs.declared.calendars.Form.TheVariants.{Civil};
 ghost use Rattle.written_dates.specs.Calendars.{form as form_spec};
 ghost use Rattle.written_dates.specs.declared.meanings.Name.{Name};
 ghost use Rattle.written_dates.specs.Written.{written};
 ghost use Rattle.date_spans.specs.Sayings.{is_about as is_about_spec};
-ghost use Rattle.date_spans.specs.Spans.{AreEndsOf, IsDateAlone, IsInferred, IsPlainSpan, IsSpan, IsSpanByForm};
+ghost use Rattle.date_spans.specs.Spans.{AreEndsOf, IsDateAlone, IsDayOrText, IsInferred, IsPlainSpan, IsSpan, IsSpanByForm};
 ghost use Rattle.date_spans.specs.Spans.{inferred as inferred_spec};
 ghost use Rattle.date_spans.specs.Spans.{has_about as about_spec, is_known as known_spec, is_read as read_spec};
 ghost use Rattle.date_spans.specs.Spans.{as_whole as whole_spec, at_dash as dash_spec, at_slash as slash_spec};
 ghost use Rattle.date_spans.specs.Spans.{at_short as short_spec, in_short as in_short_spec, said_or_short as or_short_spec};
-ghost use Rattle.date_spans.specs.Spans.{cut_sides as cut_spec, is_dual as dual_spec};
-ghost use Rattle.date_spans.specs.Spans.{marks as new_marks, marks_of as marks_spec, one_side as one_spec, said_by_sides as by_sides_spec};
-ghost use Rattle.date_spans.specs.Spans.{said_in as said_spec, stands as stands_spec, two_sides as two_spec, words_in as words_spec};
+ghost use Rattle.date_spans.specs.Spans.{is_dual as dual_spec};
+ghost use Rattle.date_spans.specs.Sides.{cut_sides as cut_spec};
+ghost use Rattle.date_spans.specs.Spans.{marks as new_marks, marks_of as marks_spec, said_by_sides as by_sides_spec};
+ghost use Rattle.date_spans.specs.Sides.{one_side as one_spec};
+ghost use Rattle.date_spans.specs.Spans.{said_in as said_spec, stands as stands_spec};
+ghost use Rattle.date_spans.specs.Sides.{two_sides as two_spec, words_in as words_spec};
 
 use crate::brackets::{bracketed, joined};
 use crate::cuts::{Cut, has_slash, has_slash_byte, is_open, sides, unmarked};
-use crate::ends::{if_held, set_ends, set_text};
+use crate::ends::{Numbers, if_held, set_date, set_ends, set_text};
 use crate::extents::Signs;
 use crate::items::{items_in, words_in};
 use crate::sayings::{
     Kind, RangeSigns, Said, Way, is_about, is_dual_of, kind_of, said_by, said_of_dual,
     said_of_short, said_of_sides,
 };
+use crate::styles::day_in_styles;
 use date_texts::Calendar;
 use std::alloc::AllocError;
 use written_dates::{
@@ -363,8 +367,33 @@ fn marks_of(said: Said, turned: bool, about: bool, uncertain: bool) -> Marks
     }
 }
 
-/// Makes two buffers the ends of what a text says; where it says nothing, the text stays. `kept` is the text without a
-/// sign at its end.
+/// Makes two buffers a date, where there is one, and else the text.
+fn set_day_or_text(
+    first: &mut Vec<u8>,
+    last: &mut Vec<u8>,
+    text: &[u8],
+    day: Option<Numbers>,
+    uncertain: bool,
+    about: bool,
+) -> Result<Marks, AllocError>
+    ensures { IfOk result (λ found. (kept : List ℕ)
+        → IsDayOrText day text.now (kept, uncertain, about) first.new.items last.new.items found) }
+{
+    if day.is_none() {
+        return set_unread(first, last, text);
+    }
+    set_date(first, day)?;
+    set_date(last, day)?;
+    Ok(Marks {
+        kind: Kind::One,
+        about,
+        uncertain,
+        inferred: false,
+    })
+}
+
+/// Makes two buffers the ends of what a text says; where it says nothing, its day in both styles, or the text. `kept` is
+/// the text without a sign at its end.
 fn set_said(
     first: &mut Vec<u8>,
     last: &mut Vec<u8>,
@@ -381,7 +410,8 @@ fn set_said(
         first.new.items last.new.items found) }
 {
     let Some(said) = said_in(choice, calendar, names, kept) else {
-        return set_unread(first, last, text);
+        let day = day_in_styles(choice, calendar, names, kept);
+        return set_day_or_text(first, last, text, day, uncertain, about);
     };
     let turned = set_ends(first, last, choice, calendar, text, said)?;
     let about = about || has_about(calendar, names, kept);

@@ -3,6 +3,7 @@
 ghost use Rattle.std.specs.Prelude.{◌≡◌, ◌↔◌, ◌≤◌, IsTrue, OnOk, Some, length};
 ghost use Rattle.date_spans.specs.Styles.{IsOfBoth, IsOneDay, IsWrittenInBoth, both_dates as both_spec};
 ghost use Rattle.date_spans.specs.Styles.{date_of as date_spec, written_by};
+ghost use Rattle.date_spans.specs.Styles.{IsOwnDay, has_styles as styles_spec, styles_in as styles_in_spec};
 ghost use Rattle.date_spans.specs.Styles.{of_items as items_spec, style_sides as sides_spec, two_dates as two_spec};
 
 use crate::cuts::{Cut, sides};
@@ -14,7 +15,7 @@ use crate::spans::one_side;
 use date_texts::Calendar;
 use day_numbers::Day;
 use std::alloc::AllocError;
-use written_dates::{Choice, Item, Names};
+use written_dates::{Choice, Item, Names, signs_of};
 
 /// The date of a day that is said, where it is so.
 fn date_of(choice: &Choice, calendar: Calendar, said: Option<Extent>) -> Option<Numbers>
@@ -119,6 +120,47 @@ pub fn date_in_both(choice: &Choice, names: &Names, text: &[u8]) -> Option<Numbe
     match two_dates(choice, names, text) {
         Some((old, new)) => one_day(old, new),
         None => None,
+    }
+}
+
+/// Whether dates of a calendar may have both styles.
+fn has_styles(calendar: Calendar) -> bool
+    ensures { result ≡ styles_spec calendar }
+{
+    matches!(calendar, Calendar::Gregorian | Calendar::Julian)
+}
+
+/// The two dates that a text says in both styles, in the calendars that have these.
+#[tactic(auto, unfolding(crate::specs::Styles::styles_in))]
+fn styles_in(
+    choice: &Choice,
+    calendar: Calendar,
+    names: &Names,
+    text: &[u8],
+) -> Option<(Numbers, Numbers)>
+    ensures { result ≡ styles_in_spec choice.now calendar names.now.listed.now text.now }
+{
+    let (other, _) = signs_of(text);
+    if !has_styles(calendar) || other {
+        return None;
+    }
+    two_dates(choice, names, text)
+}
+
+/// The date in a calendar of the day that a text says in both styles.
+pub(crate) fn day_in_styles(
+    choice: &Choice,
+    calendar: Calendar,
+    names: &Names,
+    text: &[u8],
+) -> Option<Numbers>
+    ensures { IsOwnDay choice.now calendar names.now.listed.now text.now result }
+{
+    let (old, new) = styles_in(choice, calendar, names, text)?;
+    let day = one_day(old, new)?;
+    match calendar {
+        Calendar::Julian => Some(old),
+        _ => Some(day),
     }
 }
 

@@ -5,8 +5,10 @@ use Rattle.date_texts.specs.declared.calendar.Calendar.{Calendar}
 use Rattle.date_spans.specs.Brackets.{without_brackets}
 use Rattle.date_spans.specs.Ends.{AreEnds as AreEndsSaid}
 use Rattle.date_spans.specs.Sayings.{kind_of}
-use Rattle.date_spans.specs.Spans.{AreEndsOf, IsCivilSpan, IsInferred, IsPlainSpan, IsSpanByForm, IsSpanOfText}
-use Rattle.date_spans.specs.Spans.{has_about, is_date, kept_of, marks_of, said, said_in, unsaid, words_in}
+use Rattle.date_spans.specs.declared.ends.Numbers.{Numbers}
+use Rattle.date_spans.specs.Spans.{AreEndsOf, IsCivilSpan, IsDayOrText, IsInferred, IsPlainSpan, IsSpanByForm, IsSpanOfText}
+use Rattle.date_spans.specs.Spans.{has_about, is_date, kept_of, marks_of, said, said_in, unsaid}
+use Rattle.date_spans.specs.Sides.{words_in}
 use Rattle.date_spans.specs.declared.sayings.Kind.{Kind}
 use Rattle.date_spans.specs.declared.sayings.Kind.TheVariants as kinds
 use Rattle.date_spans.specs.declared.sayings.Said.{Said}
@@ -62,10 +64,16 @@ of_turned choice calendar text saying first last true about uncertain h kind = a
 of_turned choice calendar text saying first last false about uncertain h kind =
     of_saying choice calendar text saying first last false h kind
 
+no_day_undated : (day : Option Numbers) (text : List ℕ) (kept : List ℕ × Bool × Bool) (first last : List ℕ)
+    (found : Marks) → IsDayOrText day text kept first last found → found.kind ≡ kinds.Undated → ⊥
+no_day_undated None text kept first last found h kind = no_unread (kind_as _ _ h.2 kind)
+no_day_undated (Some day) text kept first last found h kind = no_one (kind_as _ _ h.2 kind)
+
 of_said : (choice : Choice) (calendar : Calendar) (names : List Name) (text : List ℕ) (kept : List ℕ × Bool × Bool)
     (saying : Option Said) (first last : List ℕ) (found : Marks)
     → AreEndsOf choice calendar names text kept saying first last found → found.kind ≡ kinds.Undated → first ≡ []
-of_said choice calendar names text kept None first last found h kind = absurd (no_unread (kind_as _ _ h.2 kind))
+of_said choice calendar names text kept None first last found (day, own, is) kind =
+    absurd (no_day_undated day text kept first last found is kind)
 of_said choice calendar names text kept (Some saying) first last found h kind =
     of_turned choice calendar text saying first last h.0 (kept.2 || has_about (words_in calendar names kept.0)) kept.1
     h.1 (kind_as _ _ h.2 kind)

@@ -70,6 +70,14 @@ Ultimo 3. März 1763|=|=|unread
 bis Ultimo März 1763||1763-3-31|to
 vor Ultimo März 1763||1763-03-30|before
 1795s|=|=|unread
+10/22 stycznia 1863|1863-1-22|1863-1-22|
+29.12.1863/10.1.1864|1864-1-10|1864-1-10|
+12./22. Mai 1632|1632-5-22|1632-5-22|
+12/24.5.1806|1806-5-24|1806-5-24|
+10/22 stycznia 1863?|1863-1-22|1863-1-22|uncertain
+[10/22 stycznia 1863]|1863-1-22|1863-1-22|inferred
+10/23 stycznia 1863|=|=|unread
+1/2 Mai 1812|=|=|unread
 o. D.|||undated
 o. D.?|||undated uncertain
 [o. D.]|||undated inferred
@@ -289,6 +297,9 @@ vor era 1381||1342-12-31|before
 Frühjahr era 1381|1343-3-1|1343-5-31|
 era 1461|=|=|unread
 era 1381/44|=|=|unread
+10/22 Januar 1863|1863-1-10|1863-1-10|
+29.12.1863/10.1.1864|1863-12-29|1863-12-29|
+1/2 Mai 1812|=|=|unread
 era 1381/82|=|=|unread
 Mai era 1381/4|=|=|unread
 mundi 7157/58|=|=|unread

@@ -66,6 +66,12 @@ for (const it of all('body *')) {
   const isReached = isFocusable(it) || [...it.querySelectorAll(`${CONTROLS}, [tabindex]`)].some(isFocusable);
   if (isMoved && !isReached) tell('no key moves it', it);
 }
+// What runs out of a box that cannot be moved is in nobody's sight, but for words whose whole stands in a title.
+for (const it of all('body *')) {
+  const { overflowX, overflowY } = getComputedStyle(it), cuts = (how) => ['hidden', 'clip'].includes(how);
+  const isCut = (cuts(overflowX) && it.scrollWidth > it.clientWidth + 1) || (cuts(overflowY) && it.scrollHeight > it.clientHeight + 1);
+  if (isCut && it.title !== textOf(it) && !it.closest('.unseen')) tell('what runs out of it is not seen', it);
+}
 const isMarked = (it) => {
   const { outlineStyle, outlineWidth } = getComputedStyle(it);
   return outlineStyle !== 'none' && parseFloat(outlineWidth) >= 2;

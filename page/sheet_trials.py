@@ -300,6 +300,10 @@ class SheetTrials:
         self.wait_for_counts()
         self.check("more names than are shown", "Others, in 50 dates, are not shown: are these the right columns?",
             self.text("#sheet-more"))
+        self.choose_sheet(self.file("some.csv", "\n".join(["Kalender,Datum", *many.split("\n")[:9]])))
+        self.wait_for_sheet()
+        self.wait_for_counts()
+        self.audited("nine names")
 
     def try_changes(self):
         """A change of calendars is chosen for all dates of a column, with its day; and what is meant where none stands."""

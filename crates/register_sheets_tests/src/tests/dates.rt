@@ -63,7 +63,7 @@ const DAY_FIRST_HEBREW_5000: Choice = Choice {
     charters: false,
 };
 
-const CASES: [Case; 21] = [
+static CASES: [Case; 21] = [
     Case {
         delimiter: b';',
         above: 0,
@@ -321,7 +321,7 @@ const CASES: [Case; 21] = [
     },
 ];
 
-const OTHER_CASES: [Case; 22] = [
+static OTHER_CASES: [Case; 22] = [
     Case {
         delimiter: b';',
         above: 0,

@@ -419,10 +419,13 @@ STREAMS = [
     # Dates in both styles, and lists of names that hold before the built-in one.
     (f"{STYLES_COLUMNS} --summary", STYLES, 0, STYLES_CONVERTED,
      lines("standard input: 1 date is no date of its calendar", "standard input: 3 records, refused: 1, empty: 0")),
-    (f"{STYLES_COLUMNS} --spans --to gregorian --names old-style.csv",
+    (f"{STYLES_COLUMNS} --to gregorian --names old-style.csv",
      "Style,Date\nO.S.,10/22 stycznia 1863\nstary/nowy,10/22 stycznia 1863\n", 0,
-     "Style,Date,first gregorian,last gregorian,mark,refusal\nO.S.,10/22 stycznia 1863,1863-01-22,1863-01-22,,\n"
-     "stary/nowy,10/22 stycznia 1863,,,,5\n", lines("standard input: 1 date is no date of its calendar")),
+     "Style,Date,gregorian,refusal\nO.S.,10/22 stycznia 1863,1863-01-22,\n"
+     "stary/nowy,10/22 stycznia 1863,,5\n", lines("standard input: 1 date is no date of its calendar")),
+    ("--date d --all julian --spans --to gregorian", "d\n12/24 Mai 1806\n12/25 Mai 1806\n", 0,
+     "d,first gregorian,last gregorian,mark,refusal\n12/24 Mai 1806,1806-05-24,1806-05-24,,\n12/25 Mai 1806,,,,5\n",
+     lines("standard input: 1 date is no date of its calendar")),
     # Family trees: a date by the order of its day and month, and of its month and day; and texts that are none.
     ("--tree --to gregorian --summary", TREE, 0, TREE_CONVERTED,
      lines("standard input: 1 date is no date of its calendar", "standard input: 5 records, refused: 1, empty: 0")),

@@ -57,15 +57,18 @@ const BOTH_STYLES: Case = Case {
     spans: Spans::Ends,
     reading: DAY_FIRST,
     sheet: "D;C\n10/22 stycznia 1863;stary/nowy\n29.12.1863/10.1.1864; STARY/nowy\n\
-        10/23 stycznia 1863;stary/nowy\n10 stycznia 1863;stary/nowy\n;stary/nowy\n10/22 stycznia 1863;gregorian\n",
+        10/23 stycznia 1863;stary/nowy\n10 stycznia 1863;stary/nowy\n;stary/nowy\n10/22 stycznia 1863;gregorian\n\
+        10/22 stycznia 1863;julian\n10/23 stycznia 1863;julian\n",
     wanted: "D;C;first rd;first gregorian;last rd;last gregorian;mark;refusal\n\
         10/22 stycznia 1863;stary/nowy;680103;1863-01-22;680103;1863-01-22;;\n\
         29.12.1863/10.1.1864; STARY/nowy;680456;1864-01-10;680456;1864-01-10;;\n\
         10/23 stycznia 1863;stary/nowy;;;;;;5\n\
         10 stycznia 1863;stary/nowy;;;;;;5\n\
         ;stary/nowy;;;;;;5\n\
-        10/22 stycznia 1863;gregorian;;;;;;5\n",
-    rows: 6,
+        10/22 stycznia 1863;gregorian;680103;1863-01-22;680103;1863-01-22;;\n\
+        10/22 stycznia 1863;julian;680103;1863-01-22;680103;1863-01-22;;\n\
+        10/23 stycznia 1863;julian;;;;;;5\n",
+    rows: 8,
     counts: &[(3, 1)],
 };
 

@@ -6,7 +6,7 @@
 
 mod built_names;
 
-use built_names::{FIRST_HALF, SECOND_HALF};
+use built_names::{FIRST_NAMES, SECOND_NAMES, THIRD_NAMES};
 use register_files::{Destination, Disk, LoggedWriter, Source, lines_to};
 use register_records::PlainOutput;
 use sheet_app::{Outcome, answer};
@@ -36,8 +36,9 @@ fn unread_arguments(rt: &impl Eprint, error: &io::Error) -> ExitCode {
 /// The built-in list of names.
 fn whole_list<R: AllocGlobal>(rt: &R) -> Result<Vec<u8>, AllocError> {
     let mut names = Vec::new(rt.alloc());
-    names.extend_from_slice(FIRST_HALF.as_bytes())?;
-    names.extend_from_slice(SECOND_HALF.as_bytes())?;
+    names.extend_from_slice(FIRST_NAMES.as_bytes())?;
+    names.extend_from_slice(SECOND_NAMES.as_bytes())?;
+    names.extend_from_slice(THIRD_NAMES.as_bytes())?;
     Ok(names)
 }
 

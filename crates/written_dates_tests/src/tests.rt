@@ -336,8 +336,10 @@ static LISTED: [(&str, &str); 8] = [
         "#islamic day refuse refuse day-of-mark\n1.9.41|\n1.9.141|141-9-1\n1 Ramadan 41|\n41-9-1|\n041-9-1|=\n\
         -41-9-1|=\n#islamic day refuse refuse day-of-mark keep\n1.9.41|41-9-1\n41-9-1|=\n#islamic day 1800 refuse day-of-mark\n\
         1.9.41|\n41-9-1|\n1.9.1241|1241-9-1\n#islamic day keep keep day-of-mark 1200\n1.9.41|1241-9-1\n\
-        41-9-1|1241-9-1\n041-9-1|=\n1.9.1341|1341-9-1\n#coptic day 1800 refuse day-of-mark\n3 Thout 82|\n3 Thout 1582|1582-1-3\n\
-        #coptic day refuse refuse day-of-mark keep\n3 Thout 82|82-1-3\n#coptic day keep refuse day-of-mark\n3 Thout 82|\n#ethiopic day refuse refuse day-of-mark\n3 Meskerem 82|\n\
+        41-9-1|1241-9-1\n041-9-1|=\n1.9.1341|1341-9-1\n#coptic day 1800 refuse day-of-mark\n3 Thout 82|\n\
+        3 Thout 1582|1582-1-3\n\
+        #coptic day refuse refuse day-of-mark keep\n3 Thout 82|82-1-3\n#coptic day keep refuse day-of-mark\n3 Thout 82|\n\
+        #ethiopic day refuse refuse day-of-mark\n3 Meskerem 82|\n\
         #armenian day 1800 refuse day-of-mark\n3 Navasard 82|\n3 Navasard 1182|1182-1-3\n\
         #republican day refuse refuse day-of-mark\n3 Messidor 8|8-10-3\n8-10-3|=\n#roman day refuse refuse day-of-mark\n\
         99-1-1|=",

@@ -1,8 +1,8 @@
 //! Texts, and what is written for them.
 
 /// After a sign `#`: a calendar, the order, what is done with short years and with short Hebrew ones, and whether the
-/// year of a Roman date is that of its day; and what is done with short years of other calendars. Below it: a text, and what is written for it, `=` where that is the text.
-/// The answers were found by hand.
+/// year of a Roman date is that of its day; and what is done with short years of other calendars. Below it: a text, and
+/// what is written for it, `=` where that is the text. The answers were found by hand.
 pub(super) const DATES: &str = "\
 #gregorian day refuse refuse day-of-mark
 12. Mai 1806|1806-5-12

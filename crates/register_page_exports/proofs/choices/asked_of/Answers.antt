@@ -21,8 +21,8 @@ returns c =
     let low : (slice_index_or head 0 0 < 256) × (c.in-Ok.delimiter ≡ slice_index_or head 0 0)
     = rw c.in-Ok.is at c.try_from.ensures in
     rw c.id_of.ensures (sym (asked_made head c.args.dates.now c.args.columns.now c.in-Ok.delimiter c.in-Some.reading
-    c.in-Some-spans_of.spans (Some c.in-Some-2.dates.items) (Some c.in-Some-3.columns.items) (search rules) low read (search rules)
-    (search rules) (search rules)))
+    c.in-Some-spans_of.spans (Some c.in-Some-2.dates.items) (Some c.in-Some-3.columns.items) (search rules) low read
+    (search rules) (search rules) (search rules)))
 
 pub returns-in_default-3 : goal.returns-in_default-3
 returns-in_default-3 c =

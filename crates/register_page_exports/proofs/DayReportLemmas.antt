@@ -3,8 +3,8 @@ use Rattle.std.proofs.Common.{◌≡◌, ◌≢◌, ◌<◌, ◌∙◌, ℕ, Lis
 use Rattle.std.proofs.Common.{Some, sym}
 use Rattle.std.proofs.Math.Logic.{∥∥₁_map}
 use Rattle.std.specs.Prelude.{IfErr, OnOk}
-use Rattle.entry_days.specs.EntryDays.{ArePartOf, HasDays, PutsDays}
-use Rattle.entry_days.specs.declared.numbers.EntryDay.{EntryDay}
+use Rattle.page_rules.specs.EntryDays.{ArePartOf, HasDays, PutsDays}
+use Rattle.page_rules.specs.declared.entry_days.EntryDay.{EntryDay}
 use Rattle.register_records.specs.Entries.{HasAllEntries, HasEntries, HasNoHeader, HasTooMany, IsNotSealed, Numbered}
 use Rattle.register_records.specs.Entries.{Reading, record_limit}
 use Rattle.register_records.specs.Sources.{cause_number}

@@ -1,7 +1,7 @@
 -- What the numbers of a report of days say.
 use Rattle.std.specs.Prelude.{◌≡◌, ◌≢◌, ◌⊎◌, ℕ, List, [], Some, Result, Ok, Err, length}
-use Rattle.entry_days.specs.EntryDays.{HasDays, PutsDays}
-use Rattle.entry_days.specs.declared.numbers.EntryDay.{EntryDay}
+use Rattle.page_rules.specs.EntryDays.{HasDays, PutsDays}
+use Rattle.page_rules.specs.declared.entry_days.EntryDay.{EntryDay}
 use Rattle.register_records.specs.Entries.{HasAllEntries, HasEntries, HasFirstEntries, HasNoHeader, HasTooMany}
 use Rattle.register_records.specs.Entries.{IsNotSealed, Numbered, Reading, record_limit}
 use Rattle.register_records.specs.Sources.{cause_number}

@@ -5,9 +5,9 @@ use Rattle.register_records.specs.Sources.{cause_number}
 use Rattle.register_records.specs.declared.ends.Note.{Note}
 use Rattle.register_records.specs.declared.ends.SourceEnd.{SourceEnd}
 use Rattle.register_records.specs.declared.ends.SourceEnd.TheVariants as end
-use Rattle.register_page.specs.Requests.{fault_number}
-use Rattle.register_page.specs.declared.converting.Converted.{Converted}
-use Rattle.register_page.specs.declared.requests.RequestFault.{RequestFault}
+use Rattle.page_rules.specs.Requests.{fault_number}
+use Rattle.page_rules.specs.declared.converting.Converted.{Converted}
+use Rattle.page_rules.specs.declared.requests.RequestFault.{RequestFault}
 use Rattle.register_page_exports.specs.declared.Report.{Report}
 
 -- each number of the report

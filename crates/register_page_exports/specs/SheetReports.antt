@@ -2,10 +2,10 @@
 use Rattle.std.specs.Prelude.{◌≡◌, ◌⊎◌, ℕ, List, map, length}
 use Rattle.std.specs.List.{concat}
 use Rattle.register_records.specs.Entries.{Fields}
-use Rattle.register_page.specs.Rooms.{with_front}
+use Rattle.page_rules.specs.Rooms.{with_front}
 use Rattle.date_parts.specs.declared.places.DatePlaces.{DatePlaces}
 use Rattle.register_sheets.specs.Sheets.{widest}
-use Rattle.record_texts.specs.Picks.{all_chosen}
+use Rattle.page_rules.specs.Picks.{all_chosen}
 use Rattle.register_page_exports.specs.declared.sheets.PickReport.{PickReport}
 
 -- this text was put to the front of the room, and its length is reported

@@ -15,7 +15,7 @@ ghost use Rattle.register_page_exports.specs.SheetReports.{PutsText};
 use date_texts::Calendar;
 use date_texts::laws::all_calendars;
 use itoa::Buffer;
-use register_page::copy_if_fits;
+use page_rules::copy_if_fits;
 use register_sheets::{DateStop, NameList, NameListFault, Reason, stop_in};
 use std::alloc::{AllocError, Global};
 use written_dates::{Choice, Names, Order, Short, date_beside_weekday, write_date};

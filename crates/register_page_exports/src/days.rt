@@ -1,13 +1,12 @@
 //! The days of the records of a register, for a page.
 
 ghost use Rattle.std.specs.Prelude.{◌≡◌, ◌↔◌, [], IfSome, IsSome, false, true};
-ghost use Rattle.register_page.specs.Requests.{reading_by};
+ghost use Rattle.page_rules.specs.Requests.{reading_by};
 ghost use Rattle.register_records.specs.SetupRules.{is_delimiter};
 ghost use Rattle.register_records.specs.Views.{reading_of, targets_of};
 ghost use Rattle.register_page_exports.specs.DayReports.{GoesOver, PutsNoDays, ending_by};
 
-use entry_days::{put_days, register_days as days_of};
-use register_page::RequestFault;
+use page_rules::{RequestFault, put_days, register_days as days_of};
 use register_records::{Cause, Form, Setup};
 use std::alloc::Global;
 
@@ -65,7 +64,7 @@ fn go_over(
 
 /// Goes once over the register `text`, as [`register_convert`](crate::register_convert) reads it, and puts the days of its
 /// records to the front of `days` and the numbers of their calendars to the front of `calendars`, as
-/// [`EntryDay`](entry_days::EntryDay) has them. `delimiter`, a comma, a semicolon or a tab, stands between two fields, and
+/// [`EntryDay`](page_rules::EntryDay) has them. `delimiter`, a comma, a semicolon or a tab, stands between two fields, and
 /// `sealed` says whether the register has seals.
 #[unsafe(no_mangle)]
 pub extern "C" fn register_days(

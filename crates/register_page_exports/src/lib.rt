@@ -2,9 +2,9 @@
 #![tactic(auto)]
 
 ghost use Rattle.std.specs.Prelude.{Err, Ok, Result};
-ghost use Rattle.register_page.specs.Conversions.{IsReturned};
-ghost use Rattle.register_page.specs.declared.converting.Converted.{Converted};
-ghost use Rattle.register_page.specs.declared.requests.RequestFault.{RequestFault};
+ghost use Rattle.page_rules.specs.Conversions.{IsReturned};
+ghost use Rattle.page_rules.specs.declared.converting.Converted.{Converted};
+ghost use Rattle.page_rules.specs.declared.requests.RequestFault.{RequestFault};
 ghost use Rattle.register_page_exports.specs.Reports.{Reports, ReportsEnd};
 
 mod choices;
@@ -16,7 +16,7 @@ pub mod sheet_tables;
 pub mod sheets;
 pub mod trees;
 
-use register_page::{Converted, RequestFault, convert_text};
+use page_rules::{Converted, RequestFault, convert_text};
 use register_records::{RefusalCounts, SourceEnd};
 use std::alloc::Global;
 

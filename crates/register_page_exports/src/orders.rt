@@ -1,16 +1,14 @@
 //! The order of entries by their days, and records in an order, for a page.
 
 ghost use Rattle.std.specs.Prelude.{◌≡◌, ◌≢◌, ◌⊎◌, ◌≤◌, ◌<◌, ℕ, List, All, Any, length};
-ghost use Rattle.day_orders.specs.DayOrders.{AreSortingDays, IsDayOrder};
-ghost use Rattle.record_texts.specs.Orders.{records_at};
+ghost use Rattle.page_rules.specs.DayOrders.{AreSortingDays, IsDayOrder};
+ghost use Rattle.page_rules.specs.Orders.{records_at};
 ghost use Rattle.register_records.specs.Entries.{text_records};
 ghost use Rattle.register_sheets.specs.Sheets.{records_text};
 ghost use Rattle.register_page_exports.specs.SheetReports.{PutsText};
 
 use crate::sheets::{TextReport, put_text};
-use day_orders::{day_order as order_of, sorting_days};
-use record_texts::{OrderFault, records_in_order};
-use register_page::copy_if_fits;
+use page_rules::{OrderFault, copy_if_fits, day_order as order_of, records_in_order, sorting_days};
 use std::alloc::Global;
 
 /// What order was found. Where there are more entries than fit into the room, that is as it was.

@@ -19,7 +19,7 @@ ghost use Rattle.register_page_exports.specs.SheetTables.{IsAskedUnknown, IsChoi
 
 use crate::choices::asked_by_numbers;
 use crate::sheets::{TextReport, put_text};
-use register_page::{bytes_for, copy_if_fits};
+use page_rules::{bytes_for, copy_if_fits};
 use register_records::PlainOutput;
 use register_sheets::{
     AskedByNames, AskedOfSheet, End, NameList, NameListFault, SheetCause, SheetCounts, SheetEnd,

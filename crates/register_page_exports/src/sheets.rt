@@ -3,14 +3,13 @@
 ghost use Rattle.std.specs.Prelude.{◌≡◌, ◌≢◌, ◌↔◌, ◌⊎◌, length, take};
 ghost use Rattle.std.specs.Int.{div_ceil};
 ghost use Rattle.register_records.specs.Entries.{text_records};
-ghost use Rattle.register_page.specs.Rooms.{with_front};
+ghost use Rattle.page_rules.specs.Rooms.{with_front};
 ghost use Rattle.register_sheets.specs.Sheets.{records_text};
-ghost use Rattle.record_texts.specs.Fields.{fields_by, groups};
-ghost use Rattle.record_texts.specs.Picks.{HasLongField, all_chosen};
+ghost use Rattle.page_rules.specs.Fields.{fields_by, groups};
+ghost use Rattle.page_rules.specs.Picks.{HasLongField, all_chosen};
 ghost use Rattle.register_page_exports.specs.SheetReports.{PutsFields, PutsNothing, PutsText};
 
-use record_texts::{Picked, pick, write};
-use register_page::copy_if_fits;
+use page_rules::{Picked, copy_if_fits, pick, write};
 use std::alloc::Global;
 
 /// What was picked. Where there are more bytes or fields than fit into the room for them, it is as it was.

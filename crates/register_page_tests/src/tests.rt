@@ -2,8 +2,7 @@
 //! reform of 1582, when 4 October was followed by 15 October, and of the years after it.
 
 use date_texts::Refusal;
-use record_texts::{WriteFault, pick, write};
-use register_page::{Converted, RequestFault, convert_text};
+use page_rules::{Converted, RequestFault, WriteFault, convert_text, pick, write};
 use register_records::SourceEnd;
 use std::alloc::Global;
 

@@ -1,7 +1,6 @@
 //! The days of a register's records. They are counted from 1 January -9999, R.D. -3652424.
 
-use day_orders::NO_DAY;
-use entry_days::{EntryDay, NO_CALENDAR, put_days, register_days};
+use page_rules::{EntryDay, NO_CALENDAR, NO_DAY, put_days, register_days};
 use register_records::{Cause, Form, Setup};
 use std::alloc::Global;
 

@@ -1,9 +1,7 @@
-//! The examples in the doc comments of `register_page`, `register_sheets`, `entry_days` and `record_texts`, each under the
+//! The examples in the doc comments of `page_rules` and `register_sheets`, each under the
 //! name of its item. The lines are the same in both places.
 
-use entry_days::{EntryDay, register_days};
-use record_texts::{pick, records_in_order, write};
-use register_page::convert_text;
+use page_rules::{EntryDay, convert_text, pick, records_in_order, register_days, write};
 use register_records::{Form, Setup};
 use std::test::Fail;
 

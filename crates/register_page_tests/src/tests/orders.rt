@@ -1,7 +1,6 @@
 //! The order of entries by their days, and records in an order.
 
-use day_orders::{NO_DAY, day_order};
-use record_texts::{OrderFault, records_in_order};
+use page_rules::{NO_DAY, OrderFault, day_order, records_in_order};
 use std::alloc::Global;
 
 /// Whether entries of these days come in this order.

@@ -1,5 +1,5 @@
 use Rattle.std.proofs.Common.{◌∙◌, ap, length}
-use Rattle.entry_days.specs.EntryDays.{PutsDays}
+use Rattle.page_rules.specs.EntryDays.{PutsDays}
 use Rattle.register_records.specs.Views.{reading_of}
 use Rattle.register_page_exports.proofs.DayReportLemmas.{gone_over}
 use Rattle.register_page_exports.proofs.days.go_over.Goals as goal

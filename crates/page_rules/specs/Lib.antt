@@ -1,0 +1,10 @@
+pub mod Rooms
+pub mod Requests
+pub mod Conversions
+pub mod DayOrders
+pub mod EntryDays
+pub mod Fields
+pub mod Picks
+pub mod Orders
+pub mod FieldViews
+pub mod RecordViews

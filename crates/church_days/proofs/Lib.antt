@@ -2,3 +2,4 @@ mod NameLemmas
 mod LawLemmas
 mod ComputedLemmas
 mod TestLemmas
+mod TextLemmas

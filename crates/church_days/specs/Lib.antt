@@ -3,3 +3,5 @@ pub mod Names
 pub mod NameViews
 pub mod Laws
 pub mod Computed
+pub mod Cells
+pub mod Texts

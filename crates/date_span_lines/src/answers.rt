@@ -1,9 +1,8 @@
 //! What is printed for a text.
 
-use date_spans::{Kind, Marks, write_span};
+use date_spans::{Kind, Marks, Sense, write_edtf, write_span};
 use date_texts::{Calendar, Target, calendar_named, cell, day_of_date, read_date};
 use day_numbers::Day;
-use edtf_texts::{Sense, write_edtf};
 use std::alloc::{AllocError, Global};
 use written_dates::{Choice, Names, Order, Short};
 

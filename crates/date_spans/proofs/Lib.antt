@@ -10,3 +10,5 @@ pub mod BareTimeLemmas
 pub mod SaidLemmas
 pub mod SpanLemmas
 pub mod OneSpanLemmas
+pub mod TextLemmas
+pub mod EdtfLemmas

@@ -10,3 +10,4 @@ pub mod Brackets
 pub mod Sides
 pub mod Styles
 pub mod Spans
+pub mod Edtf

@@ -4,8 +4,8 @@ use Rattle.std.proofs.Common.{Err, Ok, Result, option_map, sym, true}
 use Rattle.std.specs.declared.alloc.Global.{Global}
 use Rattle.std.specs.Result.{result_ok}
 use Rattle.std.proofs.lemmas.Bool.Decides.{Decides-int_eq}
-use Rattle.edtf_texts.specs.Edtf.{IsEdtf}
-use Rattle.edtf_texts.specs.declared.edtf.Sense.{Sense}
+use Rattle.date_spans.specs.Edtf.{IsEdtf}
+use Rattle.date_spans.specs.declared.edtf.Sense.{Sense}
 use Rattle.date_spans.specs.declared.spans.Marks.{Marks}
 use Rattle.date_texts.specs.declared.refusal.Refusal.{Refusal}
 use Rattle.register_records.specs.Entries.{Fields}

@@ -2,7 +2,7 @@
 use Rattle.std.specs.Prelude.{ℤ, ℕ, List, [], Option, Some, Result, Ok}
 use Rattle.std.specs.Option.{option_and_then}
 use Rattle.std.specs.Result.{result_ok}
-use Rattle.church_day_texts.specs.Cells.{church_text}
+use Rattle.church_days.specs.Cells.{church_text}
 use Rattle.date_texts.specs.declared.calendar.Calendar.{Calendar}
 use Rattle.date_texts.specs.declared.refusal.Refusal.{Refusal}
 use Rattle.register_records.specs.Outcomes.{TableRow}

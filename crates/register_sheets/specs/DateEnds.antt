@@ -8,8 +8,8 @@ use Rattle.date_spans.specs.Styles.{IsWrittenInBoth}
 use Rattle.date_spans.specs.declared.sayings.Kind.{Kind}
 use Rattle.date_spans.specs.declared.sayings.Kind.TheVariants as kinds
 use Rattle.date_spans.specs.declared.spans.Marks.{Marks}
-use Rattle.edtf_texts.specs.Edtf.{IsEdtf}
-use Rattle.edtf_texts.specs.declared.edtf.Sense.{Sense}
+use Rattle.date_spans.specs.Edtf.{IsEdtf}
+use Rattle.date_spans.specs.declared.edtf.Sense.{Sense}
 use Rattle.register_records.specs.Entries.{Fields}
 use Rattle.register_records.specs.Outcomes.{IsRowOf, TableRow}
 use Rattle.written_dates.specs.Written.{written}

@@ -15,7 +15,7 @@ ghost use Rattle.register_sheets.specs.LineViews.{GainsFields};
 use crate::choices::AskedColumn;
 use crate::lines::SheetLines;
 use crate::register_fields::calendar_called;
-use church_day_texts::church_cell;
+use church_days::church_cell;
 use date_texts::Calendar;
 use itoa::Buffer;
 use register_records::{Body, Row};

@@ -2,9 +2,9 @@
 
 ghost use Rattle.std.specs.Prelude.{◌≡◌};
 ghost use Rattle.written_dates.specs.Written.{church_of as church_spec};
-ghost use Rattle.church_day_texts.specs.Cells.{IsChurchCell, church_text};
+ghost use Rattle.church_days.specs.Cells.{IsChurchCell, church_text};
 
-use church_days::name_on;
+use crate::names::name_on;
 use church_year::Church;
 use date_texts::Calendar;
 use day_numbers::Day;

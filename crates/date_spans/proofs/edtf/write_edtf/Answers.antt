@@ -1,7 +1,7 @@
 use Rattle.std.proofs.Common.{ap}
 use Rattle.std.specs.Prelude.{option_map}
-use Rattle.edtf_texts.proofs.EdtfLemmas.{both_ends, first_alone, last_alone}
-use Rattle.edtf_texts.proofs.edtf.write_edtf.Goals as goal
+use Rattle.date_spans.proofs.EdtfLemmas.{both_ends, first_alone, last_alone}
+use Rattle.date_spans.proofs.edtf.write_edtf.Goals as goal
 
 pub returns-in-Some-Some : goal.returns-in-Some-Some
 returns-in-Some-Some c =

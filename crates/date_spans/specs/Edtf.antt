@@ -7,9 +7,9 @@ use Rattle.day_numbers.specs.Rules.{IsDateOf, day_number_of, days_of_month}
 use Rattle.day_numbers.specs.declared.ymd.Ymd.{Ymd}
 use Rattle.solar_calendars.specs.Gregorian.{gregorian_rules}
 use Rattle.date_texts.specs.Numerals.{canonical_year}
-use Rattle.edtf_texts.specs.declared.edtf.Precision.{Precision}
-use Rattle.edtf_texts.specs.declared.edtf.Precision.TheVariants.{Day, Month, Year}
-use Rattle.edtf_texts.specs.declared.edtf.Sense.{Sense}
+use Rattle.date_spans.specs.declared.edtf.Precision.{Precision}
+use Rattle.date_spans.specs.declared.edtf.Precision.TheVariants.{Day, Month, Year}
+use Rattle.date_spans.specs.declared.edtf.Sense.{Sense}
 
 -- the Gregorian date of day n
 pub record IsOn (n : ℤ) (date : Ymd) : Type 0 where

@@ -3,9 +3,9 @@
 ghost use Rattle.std.specs.Prelude.{◌≡◌, ◌++◌, OnOk, codes, option_map};
 ghost use Rattle.day_numbers.specs.Rules.{days_of_month};
 ghost use Rattle.solar_calendars.specs.Gregorian.{gregorian_rules};
-ghost use Rattle.edtf_texts.specs.Edtf.{IsEdtf, IsOn, begins_month as begins_month_spec, begins_year as begins_year_spec};
-ghost use Rattle.edtf_texts.specs.Edtf.{closed as closed_spec, closed_by, date_text as text_spec, ends_month as ends_month_spec};
-ghost use Rattle.edtf_texts.specs.Edtf.{ends_year as ends_year_spec, joined, mark as mark_spec, precision_of as precision_spec};
+ghost use Rattle.date_spans.specs.Edtf.{IsEdtf, IsOn, begins_month as begins_month_spec, begins_year as begins_year_spec};
+ghost use Rattle.date_spans.specs.Edtf.{closed as closed_spec, closed_by, date_text as text_spec, ends_month as ends_month_spec};
+ghost use Rattle.date_spans.specs.Edtf.{ends_year as ends_year_spec, joined, mark as mark_spec, precision_of as precision_spec};
 
 use arrayvec::ArrayString;
 use date_texts::{Calendar, CivilDate, Date, MAX_TEXT, write_date};

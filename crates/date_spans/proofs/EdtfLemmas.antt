@@ -2,9 +2,9 @@
 use Rattle.std.proofs.Common.{◌≡◌, ℕ, List, [], ◌++◌, ℤ, Option, Some, None}
 use Rattle.std.specs.Prelude.{Result, Ok, Err, OnOk, codes}
 use Rattle.day_numbers.specs.declared.ymd.Ymd.{Ymd}
-use Rattle.edtf_texts.specs.declared.edtf.Precision.TheVariants.{Day}
-use Rattle.edtf_texts.specs.declared.edtf.Sense.{Sense}
-use Rattle.edtf_texts.specs.Edtf.{IsEdtf, IsOn, closed, date_text, mark}
+use Rattle.date_spans.specs.declared.edtf.Precision.TheVariants.{Day}
+use Rattle.date_spans.specs.declared.edtf.Sense.{Sense}
+use Rattle.date_spans.specs.Edtf.{IsEdtf, IsOn, closed, date_text, mark}
 
 on_ok : {A E P Q : Type 0} → (P → Q) → (r : Result A E) → OnOk r P → OnOk r Q
 on_ok f (Ok x) h = f h

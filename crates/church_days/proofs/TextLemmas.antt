@@ -37,7 +37,7 @@ use Rattle.written_dates.specs.declared.meanings.Era.TheVariants as eras
 use Rattle.written_dates.proofs.TimeLemmas.{dated_whole, read_dated}
 use Rattle.church_days.specs.DayNames.{DayName, day_names}
 use Rattle.church_days.specs.Names.{FallsOn}
-use Rattle.church_day_texts.specs.Texts.{calendar_of, SaysName, IsInWords, NamesReadBack}
+use Rattle.church_days.specs.Texts.{calendar_of, SaysName, IsInWords, NamesReadBack}
 
 -- the month and the day of a feast's date
 feast_found : (church : Church) (year : ℕ) (feast : Festival) (place : Place) (date : Ymd)

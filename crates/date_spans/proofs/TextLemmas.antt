@@ -6,8 +6,8 @@ use Rattle.byte_buffers.specs.Buffers.{padded}
 use Rattle.byte_buffers.proofs.DigitLemmas.{two_digits}
 use Rattle.day_numbers.specs.declared.ymd.Ymd.{Ymd}
 use Rattle.date_texts.specs.Numerals.{canonical_year}
-use Rattle.edtf_texts.specs.declared.edtf.Precision.TheVariants.{Day, Month, Year}
-use Rattle.edtf_texts.specs.Edtf.{date_text}
+use Rattle.date_spans.specs.declared.edtf.Precision.TheVariants.{Day, Month, Year}
+use Rattle.date_spans.specs.Edtf.{date_text}
 
 two : (n : ℕ) → n ≤ 99 → length (padded 2 n) ≡ 2
 two n h = ap length (two_digits n h)

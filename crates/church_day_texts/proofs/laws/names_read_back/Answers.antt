@@ -1,5 +1,0 @@
-use Rattle.church_day_texts.proofs.TextLemmas.{names_read_back}
-use Rattle.church_day_texts.proofs.laws.names_read_back.Goals as goal
-
-pub returns : goal.returns
-returns c = names_read_back

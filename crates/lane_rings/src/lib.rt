@@ -4,6 +4,10 @@
 //! its lane by `close`, with a count, or by `stop`, and is then gone. When its thread has been joined, `confirm`
 //! compares the two lists. An end that waits does so as [`Patience`] says. The receiver can also look at the next item
 //! where it lies, and take it later.
+//!
+//! The machine of striped lanes stands in specs/, with no code: a reader gives entries to converters by turns, each over
+//! a lane, each converter gives the rows of its entries to a writer over another lane, and the writer takes the rows by
+//! the same turns. Lemmas say what holds of it whatever its schedule is. `register_run` runs such lanes over threads.
 #![tactic(auto)]
 
 ghost use Rattle.std.specs.Prelude.{◌≡◌, ◌≤◌, [], IfOk};

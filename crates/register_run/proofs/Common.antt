@@ -43,4 +43,4 @@ pub use Rattle.std.proofs.lemmas.List.{replicate-append-replicate}
 pub use Rattle.std.proofs.lemmas.Slice.Zip.{AllZip-long}
 pub use Rattle.std.specs.List.{AllZip, Contains}
 pub use Rattle.std.specs.Vec.Iter.{into_iter_items, into_iter_len}
-pub use Rattle.striped_lanes.specs.Machine.{Actor, start, turn}
+pub use Rattle.lane_rings.specs.Machine.{Actor, start, turn}

@@ -8,15 +8,15 @@ use Rattle.register_run.proofs.Common.{Setup, Cause, Actor, start, AnyTook, HasP
 use Rattle.register_run.proofs.Common.{stripe_setup, WereDealt, dealt, Carries, AreOfLanes, World, Stripe, AllZip}
 use Rattle.register_run.proofs.Common.{HasFirstEntries, Reading, numbers}
 use mathlib.Core.Bool.{beq}
-use Rattle.striped_lanes.specs.Histories.{entries_over, rows_over}
-use Rattle.striped_lanes.specs.Places.{table_rows, HaveNumbersFrom, KeepNumbers}
-use Rattle.striped_lanes.proofs.OneByOneLemmas.{all_over, one_by_one}
-use Rattle.striped_lanes.proofs.PartLemmas.{part}
-use Rattle.striped_lanes.proofs.PlaceLemmas.{numbered_front}
+use Rattle.lane_rings.specs.Histories.{entries_over, rows_over}
+use Rattle.lane_rings.specs.Places.{table_rows, HaveNumbersFrom, KeepNumbers}
+use Rattle.lane_rings.proofs.OneByOneLemmas.{all_over, one_by_one}
+use Rattle.lane_rings.proofs.PartLemmas.{part}
+use Rattle.lane_rings.proofs.PlaceLemmas.{numbered_front}
 use Rattle.register_records.specs.Entries.{entries_from}
 use Rattle.register_records.specs.Seals.{entry_records}
 use Rattle.register_records.specs.declared.setups.Form.{Form}
-use Rattle.striped_lanes.specs.Schedules.{run}
+use Rattle.lane_rings.specs.Schedules.{run}
 use Rattle.date_texts.specs.declared.target.Target.{Target}
 use Rattle.register_records.specs.Outcomes.{IsRowOf}
 use Rattle.register_run.specs.EveryScheduleLaw.{IsWorldOf}

@@ -3,7 +3,7 @@
 --     entries; the fields `table` and `part` of `report`. That each lane carries what the machine deals to its stripe,
 --     in order.
 --   HistoryLemmas, upon these: that some schedule of the machine has the histories of these lanes; the clause
---     `machine`. The law `every_schedule`, from that of the machine in striped_lanes.
+--     `machine`. The law `every_schedule`, from that of the machine in lane_rings.
 --   RunningSourceLemmas, EndedSourceLemmas: that the writer goes by the machine's turns, and what is known of one
 --     source and its output; the fields of `IsWhole` and `IsBroken`.
 --   HeadlineLemmas: from there to the clauses `report` and `machine` of `run` and `run_gated`. That each source had as

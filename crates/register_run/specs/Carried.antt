@@ -12,7 +12,7 @@ use Rattle.register_records.specs.Entries.{Numbered}
 use Rattle.register_records.specs.Seen.{entry_seen}
 use Rattle.register_records.specs.declared.entries.Entry.{Entry}
 use Rattle.register_records.specs.declared.rows.Row.{Row}
-use Rattle.striped_lanes.specs.Machine.{turn}
+use Rattle.lane_rings.specs.Machine.{turn}
 use Rattle.register_run.specs.Worlds.{World}
 
 -- the entries of the rows among the items, in order

@@ -1,10 +1,10 @@
 -- The law of every schedule: what holds of the machine's state after any schedule.
 use Rattle.std.specs.Prelude.{◌≡◌, ◌*◌, ℕ, ◌≤◌, List, Option, length}
 use Rattle.std.specs.List.{AllZip}
-use Rattle.striped_lanes.specs.Machine.{Actor, start}
-use Rattle.striped_lanes.specs.Places as places
-use Rattle.striped_lanes.specs.Places.{table_rows}
-use Rattle.striped_lanes.specs.Schedules.{HasRounds, run}
+use Rattle.lane_rings.specs.Machine.{Actor, start}
+use Rattle.lane_rings.specs.Places as places
+use Rattle.lane_rings.specs.Places.{table_rows}
+use Rattle.lane_rings.specs.Schedules.{HasRounds, run}
 use Rattle.date_texts.specs.declared.target.Target.{Target}
 use Rattle.register_records.specs.Entries.{HasFirstEntries, Reading}
 use Rattle.register_records.specs.Outcomes.{IsRowOf}

@@ -16,10 +16,10 @@ use Rattle.register_run.specs.Stripes.{feeding_lane, stripe_setup}
 use Rattle.register_run.specs.Carried.{carried, rows_carried}
 use Rattle.register_run.specs.JoinedThreads.{AreOfLanes, IsOfGiven}
 use Rattle.register_run.specs.Worlds.{World}
-use Rattle.striped_lanes.specs.Histories.{entries_over, rows_over}
-use Rattle.striped_lanes.specs.Machine.{Actor, start}
-use Rattle.striped_lanes.specs.Places.{table_rows}
-use Rattle.striped_lanes.specs.Schedules.{run}
+use Rattle.lane_rings.specs.Histories.{entries_over, rows_over}
+use Rattle.lane_rings.specs.Machine.{Actor, start}
+use Rattle.lane_rings.specs.Places.{table_rows}
+use Rattle.lane_rings.specs.Schedules.{run}
 use Rattle.register_run.specs.declared.stripes.Stripe.{Stripe}
 
 -- these stripes, the first of which is stripe i, have the histories of the machine's lanes in a schedule: their lanes

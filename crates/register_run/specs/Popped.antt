@@ -3,7 +3,7 @@ use Rattle.std.specs.Prelude.{◌≡◌, ◌+◌, ℕ, List, Bool, false, true, 
 use Rattle.lane_rings.specs.Items.{entries_in}
 use Rattle.lane_rings.specs.Lane.{taken}
 use Rattle.register_run.specs.Stripes.{IsRowNext}
-use Rattle.striped_lanes.specs.Machine.{turn}
+use Rattle.lane_rings.specs.Machine.{turn}
 use Rattle.register_run.specs.Worlds.{World}
 use Rattle.register_run.specs.declared.stripes.Look.{Look}
 use Rattle.register_run.specs.declared.stripes.Look.TheVariants as look

@@ -1,6 +1,6 @@
 -- The machine of striped lanes over the entries and the rows of a text.
-use Rattle.striped_lanes.specs.Machine as machine
-use Rattle.striped_lanes.specs.Places as places
+use Rattle.lane_rings.specs.Machine as machine
+use Rattle.lane_rings.specs.Places as places
 use Rattle.register_records.specs.Entries.{Numbered}
 use Rattle.register_records.specs.Outcomes.{TableRow}
 

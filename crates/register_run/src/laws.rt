@@ -1,8 +1,8 @@
 //! The law of striped lanes over every schedule.
 
 ghost use Rattle.std.specs.Prelude.{◌+◌, ◌*◌, ◌≤◌, length};
-ghost use Rattle.striped_lanes.specs.Places.{ArePoppedInOrder};
-ghost use Rattle.striped_lanes.specs.Schedules.{AtMostChange, standing};
+ghost use Rattle.lane_rings.specs.Places.{ArePoppedInOrder};
+ghost use Rattle.lane_rings.specs.Schedules.{AtMostChange, standing};
 ghost use Rattle.register_run.specs.EveryScheduleLaw.{AfterEverySchedule, EachStandsOnce, Ends, GoesOn};
 
 /// Whatever the schedule of the reader, the converters and the writer of a text is, in the machine of striped lanes:

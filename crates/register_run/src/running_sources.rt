@@ -14,7 +14,7 @@ ghost use Rattle.register_run.specs.Popped.{IsInTurn, popped};
 ghost use Rattle.register_run.specs.Stripes.{AnyTook, HavePassedOn, IsReaderOf, feeding_lane, stripe_setup};
 ghost use Rattle.register_run.specs.Worlds.{World};
 ghost use Rattle.register_run.specs.Written.{Wrote};
-ghost use Rattle.striped_lanes.specs.Machine.{turn as turn_in};
+ghost use Rattle.lane_rings.specs.Machine.{turn as turn_in};
 
 use crate::ended_sources::{EndedSource, JoinedThreads, conclude, lower};
 use crate::gates::Gate;

@@ -1,7 +1,7 @@
 //! Whose turn it is among the converters of a source. The turns are those of the machine of striped lanes.
 
 ghost use Rattle.std.specs.Prelude.{◌≡◌, ◌<◌, ◌+◌, ℕ};
-ghost use Rattle.striped_lanes.specs.Machine.{turn};
+ghost use Rattle.lane_rings.specs.Machine.{turn};
 ghost use Rattle.register_run.specs.Worlds.{World};
 
 /// The converter whose turn it is after so many items.

@@ -1,5 +1,5 @@
 use Rattle.register_run.proofs.Common.{numbers}
-use Rattle.striped_lanes.proofs.ScheduleLemmas as machine
+use Rattle.lane_rings.proofs.ScheduleLemmas as machine
 use Rattle.register_run.proofs.HistoryLemmas.{numbers_of}
 use Rattle.register_run.proofs.laws.every_schedule.Goals as goal
 

@@ -4,11 +4,11 @@ use Rattle.std.proofs.Common.{refl, ap, arith, ◌⊎◌, ◌≢◌, map, option
 use Rattle.std.proofs.Common.{eq-eqb, ne_eqb, ◌∙◌, length-append, take_at}
 use Rattle.std.proofs.lemmas.Bool.{cases_eq}
 use Rattle.std.proofs.lemmas.List.{length-map, map-append}
-use Rattle.striped_lanes.specs.Machine.{World, Stripe, State, put}
-use Rattle.striped_lanes.specs.Schedules.{total, standing, standing_in}
-use Rattle.striped_lanes.specs.Places.{ArePoppedInOrder}
-use Rattle.striped_lanes.proofs.PartLemmas.{part, total_put, part_lengths, total_bound, total_le, total_same}
-use Rattle.striped_lanes.proofs.PartLemmas.{total_times}
+use Rattle.lane_rings.specs.Machine.{World, Stripe, State, put}
+use Rattle.lane_rings.specs.Schedules.{total, standing, standing_in}
+use Rattle.lane_rings.specs.Places.{ArePoppedInOrder}
+use Rattle.lane_rings.proofs.PartLemmas.{part, total_put, part_lengths, total_bound, total_le, total_same}
+use Rattle.lane_rings.proofs.PartLemmas.{total_times}
 
 -- a stripe in which just these entries stand: the first of them, which are converted, as their rows
 pub record Holds {E R : Type 0} (w : World E R) (entries : List E) (t : Stripe E R) : Type 0 where

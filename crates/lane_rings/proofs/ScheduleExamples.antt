@@ -2,8 +2,8 @@
 -- that all short schedules lead to. A plain program of its own, check/schedules, comes to the same checksums.
 use Rattle.std.proofs.Common.{◌≡◌, ◌+◌, ◌*◌, ◌++◌, ℕ, zero, suc, List, [], ◌∷◌, refl}
 use Rattle.std.specs.Prelude.{◌==◌, ◌%◌, if◌then◌else◌, fold, option_to_list}
-use Rattle.striped_lanes.specs.Machine.{World, Stripe, State, Actor, Reader, Converter, Writer, act, start}
-use Rattle.striped_lanes.specs.Schedules.{run, standing}
+use Rattle.lane_rings.specs.Machine.{World, Stripe, State, Actor, Reader, Converter, Writer, act, start}
+use Rattle.lane_rings.specs.Schedules.{run, standing}
 
 -- the entries are numbers, and the row of each is its number
 abbrev up_to : ℕ → List ℕ

@@ -3,8 +3,8 @@ use Rattle.std.proofs.Common.{inl, inr, ◌≡◌, ◌<◌, ◌≤◌, ◌+◌, 
 use Rattle.std.proofs.Common.{[], ◌∷◌, length, ◌∙◌, ◌%◌, ◌==◌, if◌then◌else◌, eq-eqb, ne_eqb}
 use Rattle.std.proofs.lemmas.Bool.{cases_eq, eq-eqb, ne_eqb}
 use Rattle.std.proofs.lemmas.Nat.{mod_below}
-use Rattle.striped_lanes.specs.Machine.{put}
-use Rattle.striped_lanes.specs.Schedules.{total}
+use Rattle.lane_rings.specs.Machine.{put}
+use Rattle.lane_rings.specs.Schedules.{total}
 
 pub put_other : {X : Type 0} (old : ℕ → X) (i j : ℕ) (x : X) → (j ≡ i → ⊥) → put old i x j ≡ old j
 put_other old i j x other = rw (ne_eqb j i other) refl

@@ -1,6 +1,6 @@
 -- What goes over the lanes of the machine.
 use Rattle.std.specs.Prelude.{ℕ, List, [], ◌∷◌, ◌++◌, drop, length}
-use Rattle.striped_lanes.specs.Machine.{Actor, State, World, act}
+use Rattle.lane_rings.specs.Machine.{Actor, State, World, act}
 
 -- what was added at the end of a lane
 abbrev pub added : {X : Type 0} → List X → List X → List X

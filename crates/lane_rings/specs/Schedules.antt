@@ -1,7 +1,7 @@
 -- Schedules: any list of actors, each of which acts once where it stands in the list.
 use Rattle.std.specs.Prelude.{◌≡◌, ◌≢◌, ⊤, ℕ, zero, suc, ◌+◌, ◌<◌, ◌≤◌, List, [], ◌∷◌, ◌++◌, Contains, length}
 use Rattle.std.specs.Prelude.{option_to_list}
-use Rattle.striped_lanes.specs.Machine.{World, Stripe, State, Actor, Reader, Converter, Writer, act, start}
+use Rattle.lane_rings.specs.Machine.{World, Stripe, State, Actor, Reader, Converter, Writer, act, start}
 
 -- the state after a schedule
 abbrev pub run : {E R : Type 0} → World E R → List Actor → State E R → State E R

@@ -4,16 +4,16 @@ use Rattle.std.proofs.Common.{arith, ◌++◌, ◌∙◌, zero, suc, Contains, t
 use Rattle.std.proofs.lemmas.Bool.{cases_lt}
 use Rattle.std.proofs.lemmas.List.{length-map}
 use Rattle.std.proofs.lemmas.Nat.{mod_below}
-use Rattle.striped_lanes.specs.Machine.{World, State, Actor, act, start, Reader, Converter, Writer}
-use Rattle.striped_lanes.specs.Schedules.{AtMostChange, HasChanges, at_end, change, idle, run, standing, Changes}
-use Rattle.striped_lanes.specs.Schedules.{HasRounds, IsRound}
-use Rattle.striped_lanes.specs.Places.{HaveNumbersFrom, ArePoppedInOrder, EachStandsOnce, GoesOn, KeepNumbers, Numbers}
-use Rattle.striped_lanes.specs.Places.{HasToMove, in_converter, in_entry_lane, in_row_lane, not_pushed, table_rows}
-use Rattle.striped_lanes.proofs.ActLemmas.{act_stays_or_steps}
-use Rattle.striped_lanes.proofs.InvariantLemmas.{Kept, progress, steps_change, weight, few_standing, popped_in_order}
-use Rattle.striped_lanes.proofs.InvariantLemmas.{progress_bound}
-use Rattle.striped_lanes.proofs.PlaceLemmas.{goes_on, each_stands_once}
-use Rattle.striped_lanes.proofs.PartLemmas.{total_zero}
+use Rattle.lane_rings.specs.Machine.{World, State, Actor, act, start, Reader, Converter, Writer}
+use Rattle.lane_rings.specs.Schedules.{AtMostChange, HasChanges, at_end, change, idle, run, standing, Changes}
+use Rattle.lane_rings.specs.Schedules.{HasRounds, IsRound}
+use Rattle.lane_rings.specs.Places.{HaveNumbersFrom, ArePoppedInOrder, EachStandsOnce, GoesOn, KeepNumbers, Numbers}
+use Rattle.lane_rings.specs.Places.{HasToMove, in_converter, in_entry_lane, in_row_lane, not_pushed, table_rows}
+use Rattle.lane_rings.proofs.ActLemmas.{act_stays_or_steps}
+use Rattle.lane_rings.proofs.InvariantLemmas.{Kept, progress, steps_change, weight, few_standing, popped_in_order}
+use Rattle.lane_rings.proofs.InvariantLemmas.{progress_bound}
+use Rattle.lane_rings.proofs.PlaceLemmas.{goes_on, each_stands_once}
+use Rattle.lane_rings.proofs.PartLemmas.{total_zero}
 
 -- a schedule keeps the invariant, and takes entries forward by a place with each act that changes something
 pub record Went {E R : Type 0} (w : World E R) (schedule : List Actor) (s : State E R) : Type 0 where

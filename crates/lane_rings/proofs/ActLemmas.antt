@@ -4,11 +4,11 @@ use Rattle.std.proofs.Common.{ap, ◌∙◌, arith, append_assoc, map, option_to
 use Rattle.std.proofs.Common.{lt-ltb, append-nil, length-append}
 use Rattle.std.proofs.lemmas.List.{length-map, length_push, map-append}
 use Rattle.std.proofs.lemmas.Nat.{mod_below}
-use Rattle.striped_lanes.specs.Machine.{World, Stripe, State, Actor, Reader, Converter, Writer}
-use Rattle.striped_lanes.specs.Machine.{act, turn, with_stripe}
-use Rattle.striped_lanes.proofs.InvariantLemmas.{Holds, Kept, Steps, StaysOrSteps, weight, put_holds, put_further}
-use Rattle.striped_lanes.proofs.InvariantLemmas.{slice_get_rest, first_is, map_first}
-use Rattle.striped_lanes.proofs.PartLemmas.{part, part_append, part_head, part_other, part_own, part_within}
+use Rattle.lane_rings.specs.Machine.{World, Stripe, State, Actor, Reader, Converter, Writer}
+use Rattle.lane_rings.specs.Machine.{act, turn, with_stripe}
+use Rattle.lane_rings.proofs.InvariantLemmas.{Holds, Kept, Steps, StaysOrSteps, weight, put_holds, put_further}
+use Rattle.lane_rings.proofs.InvariantLemmas.{slice_get_rest, first_is, map_first}
+use Rattle.lane_rings.proofs.PartLemmas.{part, part_append, part_head, part_other, part_own, part_within}
 
 -- the state that each act gives where it changes something
 abbrev after_push : {E R : Type 0} → State E R → ℕ → E → State E R

@@ -4,11 +4,11 @@ use Rattle.std.proofs.Common.{append_assoc, append-nil, length, map, refl, sym, 
 use Rattle.std.proofs.Common.{slice_get, eq-eqb, ne_eqb}
 use Rattle.std.proofs.lemmas.Bool.{cases_eq}
 use Rattle.std.proofs.lemmas.List.{length_push}
-use Rattle.striped_lanes.specs.Histories.{entries_over, rows_over}
-use Rattle.striped_lanes.specs.Machine.{Actor, Converter, Reader, State, Stripe, World, Writer, act, turn}
-use Rattle.striped_lanes.specs.Schedules.{run}
-use Rattle.striped_lanes.proofs.InvariantLemmas.{slice_get_rest}
-use Rattle.striped_lanes.proofs.PartLemmas.{part}
+use Rattle.lane_rings.specs.Histories.{entries_over, rows_over}
+use Rattle.lane_rings.specs.Machine.{Actor, Converter, Reader, State, Stripe, World, Writer, act, turn}
+use Rattle.lane_rings.specs.Schedules.{run}
+use Rattle.lane_rings.proofs.InvariantLemmas.{slice_get_rest}
+use Rattle.lane_rings.proofs.PartLemmas.{part}
 
 abbrev empty : {E R : Type 0} → Stripe E R
 empty = record { entry_lane = []; hand = None; row_lane = [] }

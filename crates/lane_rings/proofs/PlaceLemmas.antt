@@ -6,15 +6,15 @@ use Rattle.std.proofs.Common.{length-append, ◌⊎◌, option_to_list, Option, 
 use Rattle.std.proofs.lemmas.Bool.{cases_eq}
 use Rattle.std.proofs.lemmas.List.{map-append, nil_from_length}
 use Rattle.std.proofs.lemmas.List.Sums.{sum_by-append, sum_by-cons}
-use Rattle.striped_lanes.specs.Machine.{World, State, Actor, Reader, Converter, Writer, act, turn}
-use Rattle.striped_lanes.specs.Places.{HaveNumbersFrom, KeepNumbers, Numbers, Place, EntryLane, InConverter, RowLane}
-use Rattle.striped_lanes.specs.Places.{Popped, EachStandsOnce, StandsOnlyAt, stripe_of, times_at, GoesOn, HasToMove}
-use Rattle.striped_lanes.specs.Places.{not_pushed, in_entry_lane, in_converter, in_row_lane}
-use Rattle.striped_lanes.specs.Schedules.{Changes}
-use Rattle.striped_lanes.proofs.PartLemmas.{part, part_own, part_other}
-use Rattle.striped_lanes.proofs.InvariantLemmas.{Kept, Steps, slice_get_rest, steps_change, all_count, popped_count}
-use Rattle.striped_lanes.proofs.InvariantLemmas.{stripe_count}
-use Rattle.striped_lanes.proofs.ActLemmas.{reader_steps, popping_converter_steps, pushing_converter_steps, writer_steps}
+use Rattle.lane_rings.specs.Machine.{World, State, Actor, Reader, Converter, Writer, act, turn}
+use Rattle.lane_rings.specs.Places.{HaveNumbersFrom, KeepNumbers, Numbers, Place, EntryLane, InConverter, RowLane}
+use Rattle.lane_rings.specs.Places.{Popped, EachStandsOnce, StandsOnlyAt, stripe_of, times_at, GoesOn, HasToMove}
+use Rattle.lane_rings.specs.Places.{not_pushed, in_entry_lane, in_converter, in_row_lane}
+use Rattle.lane_rings.specs.Schedules.{Changes}
+use Rattle.lane_rings.proofs.PartLemmas.{part, part_own, part_other}
+use Rattle.lane_rings.proofs.InvariantLemmas.{Kept, Steps, slice_get_rest, steps_change, all_count, popped_count}
+use Rattle.lane_rings.proofs.InvariantLemmas.{stripe_count}
+use Rattle.lane_rings.proofs.ActLemmas.{reader_steps, popping_converter_steps, pushing_converter_steps, writer_steps}
 
 -- how often a number stands in a list
 abbrev pub times_in : ℕ → List ℕ → ℕ

@@ -1,8 +1,8 @@
 -- Where entries stand, and who has to move them.
 use Rattle.std.specs.Prelude.{◌≡◌, ◌≢◌, ⊤, ℕ, ◌+◌, ◌-◌, ◌<◌, ◌≤◌, ◌==◌, List, [], ◌∷◌, length, map, take}
 use Rattle.std.specs.Prelude.{option_to_list, count_by, Contains}
-use Rattle.striped_lanes.specs.Machine.{World, State, Actor, Reader, Converter, Writer, turn}
-use Rattle.striped_lanes.specs.Schedules.{Changes}
+use Rattle.lane_rings.specs.Machine.{World, State, Actor, Reader, Converter, Writer, turn}
+use Rattle.lane_rings.specs.Schedules.{Changes}
 
 -- the numbers of entries and of rows, by which they are told apart
 pub record Numbers (E R : Type 0) : Type 0 where

@@ -1,4 +1,0 @@
-pub mod Machine
-pub mod Schedules
-pub mod Places
-pub mod Histories

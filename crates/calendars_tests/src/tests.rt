@@ -3,6 +3,7 @@
 mod dates;
 mod days;
 mod examples;
+mod feasts;
 mod french_years;
 mod maya;
 mod months;

@@ -15,6 +15,7 @@ mod faults;
 mod parts;
 mod streams;
 mod tables;
+mod texts;
 
 const GREGORIAN: Target = Target::Date(Calendar::Gregorian);
 

@@ -14,7 +14,9 @@ mod ends;
 mod examples;
 mod faults;
 mod gates;
+mod lanes;
 mod lengths;
+mod patience;
 mod streams;
 mod texts;
 

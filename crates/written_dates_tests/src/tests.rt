@@ -1,6 +1,8 @@
 //! Texts, and what is written for them, a line of a table each.
 
 mod dates;
+mod span_table;
+mod spans;
 
 use church_year::{Anchor, Feast, Season};
 use date_texts::{Calendar, calendar_named};

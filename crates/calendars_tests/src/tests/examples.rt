@@ -1,6 +1,7 @@
-//! The examples in the doc comments of `day_numbers` and of the crates of calendars, each under the name of its item.
-//! The lines are the same in both places.
+//! The examples in the doc comments of `day_numbers`, of the crates of calendars and of `church_year`, each under the name
+//! of its item. The lines are the same in both places.
 
+use church_year::{Anchor, Church, Feast, Place, feast_date};
 use day_numbers::{ArithmeticCalendar, DateFault, Day, Weekday, Ymd};
 use lunar_calendars::hebrew_new_year;
 use solar_calendars::{Gregorian, Julian};
@@ -34,5 +35,18 @@ fn a_hebrew_year_opens(rt: HostRuntime) -> Result<(), Fail> {
     let day = Day::new(hebrew_new_year(5766)).ok_or("out of range")?;
     assert_eq!(rt; day.weekday(), Weekday::Tuesday);
     assert_eq!(rt; Gregorian.date_on(day), Ymd::new(2005, 10, 4));
+    Ok(())
+}
+
+/// `feast_date`
+#[test]
+fn a_feast_has_its_date(rt: HostRuntime) -> Result<(), Fail> {
+    // Friday after St Michael, 1389.
+    let michael = Feast::Day(Anchor::Fixed(9, 29), 0);
+    let friday = Place::After(Weekday::Friday);
+    assert_eq!(rt;
+        feast_date(Church::Julian, 1389, michael, friday),
+        Ymd::new(1389, 10, 1)
+    );
     Ok(())
 }

@@ -10,6 +10,8 @@ mod days;
 mod examples;
 mod names;
 mod orders;
+mod parts;
+mod trees;
 
 const REGISTER: &[u8] = b"id,calendar,date
 B-1582-17,Julian,1582-10-04

@@ -1,12 +1,10 @@
 //! Texts, and the first and the last day that each can mean, by a table.
 
-mod table;
-
+use super::span_table::SPANS;
 use date_spans::{Kind, Marks, Numbers, date_in_both, write_in_both, write_span};
 use date_texts::{Calendar, calendar_named};
 use day_numbers::Weekday;
 use std::alloc::{AllocError, Global};
-use table::SPANS;
 use written_dates::{Calendars, Choice, Era, Meaning, Name, Names, Order, Relation, Short, Word};
 
 /// Names: a text, what it means, and the calendars in which it does, none for all.

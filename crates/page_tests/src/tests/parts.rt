@@ -1,7 +1,5 @@
 //! Sheets whose dates stand in three columns, and what the rule of joined dates makes of them, found by hand.
 
-mod examples;
-
 use date_parts::{DatePlaces, joined_sheet};
 use std::alloc::{AllocError, Global};
 use std::test::Fail;

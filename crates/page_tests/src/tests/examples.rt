@@ -1,6 +1,7 @@
-//! The examples in the doc comments of `page_rules` and `register_sheets`, each under the
-//! name of its item. The lines are the same in both places.
+//! The examples in the doc comments of `page_rules`, `register_sheets` and `date_parts`, each under the name of its item.
+//! The lines are the same in both places.
 
+use date_parts::{DatePlaces, joined_sheet};
 use page_rules::{EntryDay, convert_text, pick, records_in_order, register_days, write};
 use register_records::{Form, Setup};
 use std::test::Fail;
@@ -54,5 +55,21 @@ fn records_come_in_another_order(rt: HostRuntime) -> Result<(), Fail> {
     let text = b"Name,Date\r\n\"Shaw, Anna\",\"1699\"\nLund";
     let made = records_in_order(rt.alloc(), text, b',', &[0, 2, 1])?;
     assert!(rt; made.as_slice() == b"Name,Date\nLund\n\"Shaw, Anna\",1699\n".as_slice());
+    Ok(())
+}
+
+/// `joined_sheet`
+#[test]
+fn three_columns_are_one(rt: HostRuntime) -> Result<(), Fail> {
+    let sheet = b"Tag,Monat,Jahr\n12,5,1806\n12,Mai,1806\n,Mai,1806\n";
+    let places = DatePlaces {
+        year: 2,
+        month: 1,
+        day: 0,
+    };
+    let made = joined_sheet(rt.alloc(), Vec::new(rt.alloc()), sheet, b',', 0, places)?;
+    let text =
+        b"Tag,Monat,Jahr,Jahr-Monat-Tag\n12,5,1806,1806-5-12\n12,Mai,1806,12 Mai 1806\n,Mai,1806,Mai 1806\n";
+    assert!(rt; made.as_slice() == text.as_slice());
     Ok(())
 }

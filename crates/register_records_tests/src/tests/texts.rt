@@ -7,8 +7,6 @@ use date_texts::{
 };
 use day_numbers::{Day, Ymd};
 
-mod examples;
-
 /// A calendar, a text, the canonical text of the date that it says, and the fixed day number of that date, or why the
 /// date has none: `none` where the calendar has no such date, and `out` where its day is out of range.
 const DATES: &str = "\

@@ -1,5 +1,0 @@
-//! Tests of `date_parts`, and nothing else.
-#![tactic(auto)]
-
-#[cfg(test)]
-mod tests;

@@ -1,0 +1,6 @@
+//! Tests of what `register_page_exports` offers a page, through the public functions that it calls: registers, sheets and
+//! names, dates of three columns, and dates of family trees.
+#![tactic(auto)]
+
+#[cfg(test)]
+mod tests;

@@ -2,8 +2,8 @@
 use Rattle.std.proofs.Common.{◌≡◌, ℕ, ◌+◌, ◌-◌, ◌≤◌, List, ◌∷◌, ◌++◌, length, take, sym, ap, arith, append_assoc}
 use Rattle.std.proofs.lemmas.List.{length-append}
 use Rattle.std.proofs.Math.Seq.{take-append_seam}
-use Rattle.byte_buffers.specs.Buffers.{padded}
-use Rattle.byte_buffers.proofs.DigitLemmas.{two_digits}
+use Rattle.date_texts.specs.Buffers.{padded}
+use Rattle.date_texts.proofs.DigitLemmas.{two_digits}
 use Rattle.day_numbers.specs.declared.ymd.Ymd.{Ymd}
 use Rattle.date_texts.specs.Numerals.{canonical_year}
 use Rattle.date_spans.specs.declared.edtf.Precision.TheVariants.{Day, Month, Year}

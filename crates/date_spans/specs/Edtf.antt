@@ -2,7 +2,7 @@
 use Rattle.std.specs.Prelude.{◌≡◌, ℕ, ℤ, Bool, ◌&&◌, ◌==◌, if◌then◌else◌, List, [], ◌∷◌, ◌++◌, codes}
 use Rattle.std.specs.Prelude.{Option, Some, None}
 use Rattle.std.specs.Str.{bytes_eq}
-use Rattle.byte_buffers.specs.Buffers.{padded}
+use Rattle.date_texts.specs.Buffers.{padded}
 use Rattle.day_numbers.specs.Rules.{IsDateOf, day_number_of, days_of_month}
 use Rattle.day_numbers.specs.declared.ymd.Ymd.{Ymd}
 use Rattle.solar_calendars.specs.Gregorian.{gregorian_rules}

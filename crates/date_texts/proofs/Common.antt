@@ -1,6 +1,6 @@
 -- The names of specs and of crates below that these proofs cite, passed on from one place.
-pub use Rattle.byte_buffers.proofs.DigitLemmas.{one_or_two, two_digits}
-pub use Rattle.byte_buffers.specs.Buffers.{IsPut, padded}
+pub use Rattle.date_texts.proofs.DigitLemmas.{one_or_two, two_digits}
+pub use Rattle.date_texts.specs.Buffers.{IsPut, padded}
 pub use Rattle.date_texts.specs.Calendars.{IsCivil, IsDateBy, Reckoning, all_targets, by_rules, by_weeks, calendar_name}
 pub use Rattle.date_texts.specs.Calendars.{day_number_by, first_day_by, grammar, reckoning, target_name}
 pub use Rattle.date_texts.specs.Cells.{IsCell, IsDateCell, is_plain, no_date, numbered_name, on_date}

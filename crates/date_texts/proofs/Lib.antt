@@ -1,4 +1,6 @@
 -- Which file serves which public clause:
+--   BufferLemmas: `put_byte`, `put_bytes` and the functions of `decimals`, DigitLemmas these alone, WordLemmas those of
+--     `comparing`.
 --   ReadingLemmas, DateReadingLemmas, RomanReadingLemmas, DateTextLemmas: the clauses of `read_date`, and the laws
 --     `one_date_text` and `canonical_texts_read_back`.
 --   TargetNameLemmas: `calendar_named` and `target_named`, and the law `few_targets`.
@@ -8,6 +10,9 @@
 --   WritingLemmas: the digits of years and the places of long counts in `write_date` and `write_cell`.
 --   DecisionLemmas, DateDecisionLemmas: what can be decided of numbers, texts and dates, for the laws of the crates
 --     above.
+pub mod BufferLemmas
+pub mod DigitLemmas
+pub mod WordLemmas
 pub mod Common
 pub mod ReadingLemmas
 pub mod DateReadingLemmas

@@ -4,7 +4,7 @@ use Rattle.std.specs.Prelude.{ℕ, List, ◌∷◌, ◌++◌, codes, ℤ}
 use Rattle.std.specs.Fmt.{decimal}
 use Rattle.date_texts.specs.declared.grammar.Grammar.{Grammar}
 use Rattle.date_texts.specs.declared.grammar.Grammar.TheVariants.{Civil, Week}
-use Rattle.byte_buffers.specs.Buffers.{padded}
+use Rattle.date_texts.specs.Buffers.{padded}
 use Rattle.date_texts.specs.Joined.{Joined}
 use Rattle.date_texts.specs.Numerals.{IsNumeral, IsYearText, canonical_year}
 

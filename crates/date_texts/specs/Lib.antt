@@ -1,3 +1,4 @@
+pub mod Buffers
 pub mod Refusals
 pub mod Calendars
 pub mod Dates

@@ -3,7 +3,7 @@ use Rattle.std.specs.Prelude.{◌≡◌, ℕ, ◌+◌, ◌-◌, ◌*◌, ◌≤�
 use Rattle.std.specs.Prelude.{IsTrue, ℤ, pos, negsuc, suc, neg_ℤ}
 use Rattle.std.specs.Char.{is_ascii_digit}
 use Rattle.std.specs.List.{list_all}
-use Rattle.byte_buffers.specs.Buffers.{padded}
+use Rattle.date_texts.specs.Buffers.{padded}
 
 -- one to `most` ASCII digits, and the number that they spell in decimal
 pub record IsNumeral (most : ℕ) (text : List ℕ) (n : ℕ) : Type 0 where

@@ -6,7 +6,7 @@ use Rattle.std.specs.Str.{str_to_ascii_lowercase}
 use Rattle.std.specs.Fmt.{decimal}
 use Rattle.solar_calendars.specs.declared.roman_date.RomanName.{RomanName}
 use Rattle.solar_calendars.specs.declared.roman_date.RomanName.TheVariants.{Kalends, Nones, Ides, SecondSixth}
-use Rattle.byte_buffers.specs.Buffers.{padded}
+use Rattle.date_texts.specs.Buffers.{padded}
 use Rattle.date_texts.specs.Joined.{Joined}
 use Rattle.date_texts.specs.Numerals.{IsNumeral, IsYearText, canonical_year}
 

@@ -2,14 +2,15 @@
 
 ghost use Rattle.std.specs.Prelude.{◌≡◌, ◌≤◌, ◌<◌, ◌+◌, IsTrue, length};
 ghost use Rattle.std.specs.List.{list_all};
-ghost use Rattle.byte_buffers.specs.Buffers.{IsPut, padded};
+ghost use Rattle.date_texts.specs.Buffers.{IsPut, padded};
 ghost use Rattle.day_numbers.specs.Dates.{IsYear};
 ghost use Rattle.date_texts.specs.declared.buffer.TheConstants.{MAX_TEXT};
 ghost use Rattle.date_texts.specs.Cells.{is_plain};
 ghost use Rattle.date_texts.specs.Numerals.{canonical_year};
 
+use crate::decimals::put_two_digits;
+use crate::pieces::put_byte;
 use arrayvec::ArrayString;
-use byte_buffers::{put_byte, put_two_digits};
 
 /// The most bytes of a date's text: those of a long count of five times four digits.
 pub const MAX_TEXT: usize = 24;

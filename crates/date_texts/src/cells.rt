@@ -11,12 +11,13 @@ ghost use Rattle.date_texts.specs.declared.target.Target.TheVariants.{Haab, Tzol
 use crate::buffer::{MAX_TEXT, text_of};
 use crate::calendar::{Calendar, by_calendar};
 use crate::civil_text::put_civil;
+use crate::decimals::put_short;
 use crate::laws::{cells_are_plain, cells_are_short};
 use crate::long_text::put_long;
+use crate::pieces::{put_byte, put_text};
 use crate::roman_text::put_roman;
 use crate::target::Target;
 use arrayvec::ArrayString;
-use byte_buffers::{put_byte, put_short, put_text};
 use day_numbers::{ArithmeticCalendar, Day};
 use maya_calendars::{haab_on, long_on, tzolkin_on};
 use solar_calendars::roman_on;
@@ -86,7 +87,7 @@ fn write_date_cell(buffer: &mut [u8], calendar: Calendar, day: Day) -> u8
 /// Writes a number without leading zeros, one space and a name to the front of a cell's room, and returns how many
 /// bytes they have.
 #[inline(always)]
-#[tactic(auto, using(byte_buffers::proofs::DigitLemmas::one_or_two))]
+#[tactic(auto, using(crate::proofs::DigitLemmas::one_or_two))]
 fn write_numbered(buffer: &mut [u8], number: u8, name: &str) -> u8
     requires room { MAX_CELL ≤ length buffer.old }
     requires small { number ≤ 99 }

@@ -7,7 +7,7 @@ ghost use Rattle.date_texts.specs.declared.date.Date.{Date};
 ghost use Rattle.date_texts.specs.Calendars.{IsCivil, grammar as grammar_spec};
 ghost use Rattle.date_texts.specs.CivilText.{canonical_civil};
 ghost use Rattle.date_texts.specs.DateText.{SaysDate};
-ghost use Rattle.byte_buffers.specs.Buffers.{IsPut};
+ghost use Rattle.date_texts.specs.Buffers.{IsPut};
 ghost use Rattle.date_texts.specs.CivilReading.{after_week_letter as after_letter_spec};
 ghost use Rattle.date_texts.specs.CivilReading.{after_mark as after_mark_spec};
 ghost use Rattle.date_texts.specs.CivilReading.{civil_at as civil_spec};
@@ -16,9 +16,10 @@ ghost use Rattle.date_texts.specs.Reading.{seen_rest};
 use crate::buffer::put_year;
 use crate::calendar::Calendar;
 use crate::date::{CivilDate, Date};
+use crate::decimals::{put_short, put_two_digits};
 use crate::grammar::Grammar;
 use crate::numerals::{after_byte, at_end, number_at, year_at};
-use byte_buffers::{put_byte, put_short, put_two_digits};
+use crate::pieces::put_byte;
 use day_numbers::Ymd;
 
 /// The bytes after the letter W, of either case, at the front.
@@ -71,7 +72,7 @@ pub fn civil_date_at(calendar: Calendar, grammar: Grammar, text: &[u8]) -> Optio
 
 /// Writes a year, a month and a day, or a year, a week and a weekday, to the front.
 #[inline(always)]
-#[tactic(auto, using(byte_buffers::proofs::DigitLemmas::one_or_two))]
+#[tactic(auto, using(crate::proofs::DigitLemmas::one_or_two))]
 pub fn put_civil(buffer: &mut [u8], grammar: Grammar, date: Ymd) -> usize
     requires { MAX_CELL ≤ length buffer.old }
     ensures value { IsPut buffer.old buffer.new 0 result (canonical_civil grammar date.year date.month date.day) }

@@ -6,14 +6,15 @@ ghost use Rattle.maya_calendars.specs.Places.{ArePlaces};
 ghost use Rattle.date_texts.specs.declared.calendar.Calendar.TheVariants.{Longcount};
 ghost use Rattle.date_texts.specs.declared.date.Date.{Date};
 ghost use Rattle.date_texts.specs.DateText.{SaysDate, canonical_text};
-ghost use Rattle.byte_buffers.specs.Buffers.{IsPut};
+ghost use Rattle.date_texts.specs.Buffers.{IsPut};
 ghost use Rattle.date_texts.specs.LongText.{place_row as place_row_of};
 ghost use Rattle.date_texts.specs.LongReading.{long_at as long_spec, place_at as place_spec};
 ghost use Rattle.date_texts.specs.Reading.{seen_number};
 
 use crate::date::Date;
+use crate::decimals::put_number;
 use crate::numerals::{after_byte, at_end, number_at};
-use byte_buffers::{put_byte, put_number};
+use crate::pieces::put_byte;
 use maya_calendars::LongCount;
 
 /// A place of a long count, and the bytes after the dot behind it.

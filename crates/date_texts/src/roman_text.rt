@@ -9,15 +9,16 @@ ghost use Rattle.date_texts.specs.declared.cells.TheConstants.{MAX_CELL};
 ghost use Rattle.date_texts.specs.declared.date.Date.{Date};
 ghost use Rattle.date_texts.specs.DateText.{SaysDate, canonical_text};
 ghost use Rattle.date_texts.specs.RomanText.{canonical_name};
-ghost use Rattle.byte_buffers.specs.Buffers.{IsPut};
+ghost use Rattle.date_texts.specs.Buffers.{IsPut};
 ghost use Rattle.date_texts.specs.RomanReading.{count_at as count_spec, counted_at as counted_spec};
 ghost use Rattle.date_texts.specs.RomanReading.{name_at as name_spec};
 ghost use Rattle.date_texts.specs.RomanReading.{roman_at as roman_spec};
 
 use crate::buffer::put_year;
 use crate::date::Date;
+use crate::decimals::{put_short, put_two_digits};
 use crate::numerals::{after_byte, at_end, number_at, year_at};
-use byte_buffers::{put_byte, put_short, put_text, put_two_digits};
+use crate::pieces::{put_byte, put_text};
 use solar_calendars::{RomanDate, RomanName};
 
 /// The count that the bytes spell, of one or two digits.
@@ -82,7 +83,7 @@ pub fn roman_date_at(text: &[u8]) -> Option<Date>
 
 /// Writes a letter and a count.
 #[inline(always)]
-#[tactic(auto, using(byte_buffers::proofs::DigitLemmas::one_or_two))]
+#[tactic(auto, using(crate::proofs::DigitLemmas::one_or_two))]
 fn put_count(buffer: &mut [u8], at: usize, letter: u8, count: u8) -> usize
     requires room { at + 3 ≤ length buffer.old }
     requires small { count ≤ 99 }

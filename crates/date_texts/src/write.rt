@@ -4,7 +4,7 @@ ghost use Rattle.std.specs.Prelude.{◌≡◌, ◌≤◌, length};
 ghost use Rattle.date_texts.specs.declared.date.Date.{Date};
 ghost use Rattle.date_texts.specs.declared.buffer.TheConstants.{MAX_TEXT};
 ghost use Rattle.date_texts.specs.DateText.{canonical_text};
-ghost use Rattle.byte_buffers.specs.Buffers.{IsPut};
+ghost use Rattle.date_texts.specs.Buffers.{IsPut};
 
 use crate::buffer::{MAX_TEXT, text_of};
 use crate::civil_text::put_civil;

@@ -1,6 +1,6 @@
 -- The names that these proofs cite, passed on from one place, so that few lines of imports serve.
-pub use Rattle.byte_buffers.proofs.BufferLemmas.{put_then}
-pub use Rattle.byte_buffers.specs.declared.comparing.TheConstants.{WORD_LEN}
+pub use Rattle.date_texts.proofs.BufferLemmas.{put_then}
+pub use Rattle.date_texts.specs.declared.comparing.TheConstants.{WORD_LEN}
 pub use Rattle.csv.proofs.ReadFacts.{rows-end, rows-more, strip-short}
 pub use Rattle.csv.proofs.WriteFacts.{appends-none, escaped-double, escaped-other, fields-snoc, quoted-step, slice-end}
 unfoldable pub use Rattle.csv.specs.Reading.{records_from, strip_bom}

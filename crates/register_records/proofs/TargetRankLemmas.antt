@@ -11,7 +11,7 @@ use Rattle.day_numbers.specs.Numbered.{IsNumbered}
 use Rattle.date_texts.specs.declared.target.TheConstants.{MAX_TARGETS}
 use Rattle.date_texts.proofs.ReadingLemmas.{some_inside}
 use Rattle.date_texts.proofs.TargetNameLemmas.{finds_own}
-use Rattle.byte_buffers.proofs.WordLemmas.{one_word}
+use Rattle.date_texts.proofs.WordLemmas.{one_word}
 use Rattle.std.proofs.lemmas.List.Folds.{find_at}
 
 -- the rank of a target is its own

@@ -10,9 +10,8 @@ ghost use Rattle.register_records.specs.Entries.{HasDate, HaveOneDate, are_fit, 
 use crate::record_fields::RecordFields;
 use crate::setups::Form;
 use arrayvec::ArrayString;
-use byte_buffers::{WORD_LEN, are_equal};
 use csv::ByteRecord;
-use date_texts::Refusal;
+use date_texts::{Refusal, WORD_LEN, are_equal};
 use std::str;
 
 /// The most bytes of an id, before anything is trimmed.

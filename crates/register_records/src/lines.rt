@@ -12,7 +12,7 @@ ghost use Rattle.register_records.specs.Lines.{line_text};
 ghost use Rattle.register_records.specs.SetupRules.{is_delimiter};
 ghost use Rattle.register_records.specs.declared.lines.TheConstants.{QUOTE};
 
-use byte_buffers::{put_byte, put_bytes, put_decimal};
+use date_texts::{put_byte, put_bytes, put_decimal};
 use std::alloc::{AllocError, Global};
 
 const QUOTE: u8 = b'"';

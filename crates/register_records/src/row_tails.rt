@@ -24,9 +24,10 @@ use crate::table_columns::{
     CELLS_PLACE, ColumnKind, DAY_NUMBER_LIMIT, REFUSAL_LIMIT, WEEKDAY_LIMIT,
 };
 use crate::target_lists::TargetList;
-use byte_buffers::{put_byte, put_bytes, put_integer};
 use date_texts::laws::{cells_are_plain, one_cell};
-use date_texts::{MAX_CELL, MAX_TARGETS, Refusal, Target, write_cell_within};
+use date_texts::{
+    MAX_CELL, MAX_TARGETS, Refusal, Target, put_byte, put_bytes, put_integer, write_cell_within,
+};
 use day_numbers::Day;
 use itoa::Buffer;
 

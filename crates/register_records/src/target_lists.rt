@@ -8,9 +8,8 @@ ghost use Rattle.register_records.specs.declared.target_lists.TheConstants.{RANK
 ghost use Rattle.register_records.specs.TargetRanks.{rank_of, ranks_in};
 
 use crate::short_lists::ShortList;
-use byte_buffers::{WORD_LEN, word};
 use date_texts::laws::{all_targets, default_targets};
-use date_texts::{MAX_TARGETS, Target};
+use date_texts::{MAX_TARGETS, Target, WORD_LEN, word};
 
 /// How many words, of which each is compared at once, have room for the rank of each target.
 const RANK_WORDS: usize = (MAX_TARGETS + WORD_LEN - 1) / WORD_LEN;

@@ -1,5 +1,5 @@
 use Rattle.std.proofs.Common.{ℕ, ◌<◌, arith, ap, sym}
-use Rattle.byte_buffers.proofs.BufferLemmas.{put_same, put_then}
+use Rattle.date_texts.proofs.BufferLemmas.{put_same, put_then}
 use Rattle.date_texts.proofs.WritingLemmas.{long_year, year_by_pairs}
 use Rattle.date_texts.proofs.buffer.put_year_digits.Goals.{then-number-lt10000, else-number-lt10000}
 use Rattle.date_texts.proofs.buffer.put_year_digits.Goals as goal

@@ -1,5 +1,5 @@
 use Rattle.std.proofs.Common.{arith}
-use Rattle.byte_buffers.proofs.BufferLemmas.{put_same, put_then}
+use Rattle.date_texts.proofs.BufferLemmas.{put_same, put_then}
 use Rattle.date_texts.proofs.WritingLemmas.{put_front, row_text}
 use Rattle.date_texts.proofs.long_text.put_place.Goals as goal
 

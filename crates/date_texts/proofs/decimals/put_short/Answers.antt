@@ -1,9 +1,9 @@
 use Rattle.std.proofs.Common.{arith, sym, ◌<◌, length-set}
 use Rattle.itoa.proofs.Decimal.{decimal_two, length_two}
-use Rattle.byte_buffers.proofs.BufferLemmas.{put_ones, put_pair, put_same}
-use Rattle.byte_buffers.proofs.DigitLemmas.{one_or_two}
-use Rattle.byte_buffers.proofs.decimals.put_short.Goals.{then-number-lt10, else-number-lt10}
-use Rattle.byte_buffers.proofs.decimals.put_short.Goals as goal
+use Rattle.date_texts.proofs.BufferLemmas.{put_ones, put_pair, put_same}
+use Rattle.date_texts.proofs.DigitLemmas.{one_or_two}
+use Rattle.date_texts.proofs.decimals.put_short.Goals.{then-number-lt10, else-number-lt10}
+use Rattle.date_texts.proofs.decimals.put_short.Goals as goal
 
 pub bounds-buffer-at : goal.bounds-buffer-at
 bounds-buffer-at c = omega (arith, one_or_two c.args.number c.requires.small)

@@ -2,7 +2,7 @@
 
 ghost use Rattle.std.specs.Prelude.{◌≡◌, ◌≤◌, ◌+◌, ◌/◌, ◌%◌, ◌≤ℤ◌, neg_ℤ, pos, length};
 ghost use Rattle.std.specs.Fmt.{decimal, signed_decimal};
-ghost use Rattle.byte_buffers.specs.Buffers.{IsPut, padded};
+ghost use Rattle.date_texts.specs.Buffers.{IsPut, padded};
 
 use crate::pieces::put_byte;
 

@@ -1,9 +1,9 @@
 use Rattle.std.proofs.Common.{arith, ap, sym, ◌∙◌, ◌++◌, ◌/◌, ◌%◌}
 use Rattle.std.specs.Fmt.{decimal}
 use Rattle.itoa.proofs.Decimal.{decimal_pair}
-use Rattle.byte_buffers.proofs.BufferLemmas.{put_same, put_then}
-use Rattle.byte_buffers.proofs.DigitLemmas.{two_digits}
-use Rattle.byte_buffers.proofs.decimals.put_number.Goals as goal
+use Rattle.date_texts.proofs.BufferLemmas.{put_same, put_then}
+use Rattle.date_texts.proofs.DigitLemmas.{two_digits}
+use Rattle.date_texts.proofs.decimals.put_number.Goals as goal
 
 pub returns : goal.returns
 returns c =

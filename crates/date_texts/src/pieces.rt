@@ -2,7 +2,7 @@
 //! one behind it.
 
 ghost use Rattle.std.specs.Prelude.{◌≡◌, ◌≤◌, ◌<◌, ◌+◌, ◌∷◌, [], length};
-ghost use Rattle.byte_buffers.specs.Buffers.{IsPut};
+ghost use Rattle.date_texts.specs.Buffers.{IsPut};
 
 use crate::copying::copy_whole;
 

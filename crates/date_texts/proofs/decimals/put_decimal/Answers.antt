@@ -1,8 +1,8 @@
 use Rattle.std.proofs.Common.{arith, sym, ◌/◌, ◌%◌}
 use Rattle.itoa.proofs.Decimal.{decimal_four}
-use Rattle.byte_buffers.proofs.BufferLemmas.{put_same, put_then}
-use Rattle.byte_buffers.proofs.DigitLemmas.{two_digits}
-use Rattle.byte_buffers.proofs.decimals.put_decimal.Goals as goal
+use Rattle.date_texts.proofs.BufferLemmas.{put_same, put_then}
+use Rattle.date_texts.proofs.DigitLemmas.{two_digits}
+use Rattle.date_texts.proofs.decimals.put_decimal.Goals as goal
 
 pub returns : goal.returns
 returns c =

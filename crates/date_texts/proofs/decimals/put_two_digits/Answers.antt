@@ -1,7 +1,7 @@
 use Rattle.std.proofs.Common.{ℕ, ◌∷◌, [], ap, sym, ◌∙◌}
-use Rattle.byte_buffers.proofs.BufferLemmas.{put_same, put_then}
-use Rattle.byte_buffers.proofs.DigitLemmas.{two_digits}
-use Rattle.byte_buffers.proofs.decimals.put_two_digits.Goals as goal
+use Rattle.date_texts.proofs.BufferLemmas.{put_same, put_then}
+use Rattle.date_texts.proofs.DigitLemmas.{two_digits}
+use Rattle.date_texts.proofs.decimals.put_two_digits.Goals as goal
 
 pub returns-clause-value : goal.returns-clause-value
 returns-clause-value c =

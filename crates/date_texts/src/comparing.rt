@@ -2,7 +2,7 @@
 
 ghost use Rattle.std.specs.Prelude.{◌≡◌, ◌↔◌, length, true};
 ghost use Rattle.std.specs.Int.{to_le_bytes, w64};
-ghost use Rattle.byte_buffers.specs.declared.comparing.TheConstants.{WORD_LEN};
+ghost use Rattle.date_texts.specs.declared.comparing.TheConstants.{WORD_LEN};
 
 /// The bytes of a word.
 pub const WORD_LEN: usize = 8;

@@ -8,8 +8,8 @@ use Rattle.std.proofs.lemmas.Fmt.{decimal_digit}
 use Rattle.std.proofs.lemmas.List.FromFn.{get_or-range_with_len, length-range_with_len}
 use Rattle.std.proofs.lemmas.List.Sums.{AllPass-from_list_all}
 use Rattle.itoa.proofs.Decimal.{pair, decimal_two, length_one, length_two}
-use Rattle.byte_buffers.specs.Buffers.{padded}
-use Rattle.byte_buffers.specs.declared.decimals.TheConstants.{PAIRS}
+use Rattle.date_texts.specs.Buffers.{padded}
+use Rattle.date_texts.specs.declared.decimals.TheConstants.{PAIRS}
 
 pub two_digits : (n : ℕ) → n ≤ 99 → padded 2 n ≡ pair n
 two_digits n h = grind (arith, eq-zero-or-pos, decimal_digit, decimal_two)

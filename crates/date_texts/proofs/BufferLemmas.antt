@@ -7,7 +7,7 @@ use Rattle.std.proofs.lemmas.Fmt.{decimal_digit}
 use Rattle.std.proofs.lemmas.List.{take-append-le, take-set, take_more_set}
 use borrow.Rule.Slice.PartMut.{put_mid}
 use Rattle.itoa.proofs.Decimal.{pair}
-use Rattle.byte_buffers.specs.Buffers.{IsPut}
+use Rattle.date_texts.specs.Buffers.{IsPut}
 
 -- one piece behind another
 pub put_then : {a b c : List ℕ} {at i j : ℕ} {x y : List ℕ} → IsPut a b at i x → IsPut b c i j y

@@ -1,6 +1,6 @@
 use Rattle.std.proofs.Common.{◌≡◌, ◌-◌, ◌<◌, ◌≤◌, ◌^◌, ◌∙◌, arith, drop, length, length-drop, rules, take_all}
-use Rattle.byte_buffers.proofs.WordLemmas.{last_compared}
-use Rattle.byte_buffers.proofs.comparing.are_equal.Goals as goal
+use Rattle.date_texts.proofs.WordLemmas.{last_compared}
+use Rattle.date_texts.proofs.comparing.are_equal.Goals as goal
 
 pub returns-then-word : goal.returns-then-word
 returns-then-word c =

@@ -14,6 +14,12 @@ pub struct Day {
 }
 
 impl Day {
+    /// The number of the first day, 1 January -9999 Gregorian.
+    pub const MIN_NUMBER: i64 = -3_652_424;
+
+    /// The number of the last day, 31 December 9999 Gregorian.
+    pub const MAX_NUMBER: i64 = 3_652_059;
+
     /// The day with the fixed day number `number`, or `None` exactly where the number is not from
     /// -3652424 to 3652059.
     ///
@@ -29,7 +35,7 @@ impl Day {
         ensures made { IsSome result ↔ IsDayNumber number }
         ensures value { IfSome result (λ day. day.number ≡ number) }
     {
-        if number < -3_652_424 || number > 3_652_059 {
+        if number < Day::MIN_NUMBER || number > Day::MAX_NUMBER {
             return None;
         }
         Some(Day { number })

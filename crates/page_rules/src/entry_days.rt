@@ -15,9 +15,6 @@ use register_records::{Body, Row};
 /// The calendar of a record whose text names none.
 pub const NO_CALENDAR: u8 = 255;
 
-/// How many days the first day that there is, 1 January -9999 of the Gregorian calendar, lies before R.D. 0.
-const DAYS_BEFORE: i64 = 3_652_424;
-
 /// The day and the calendar of a record, in numbers.
 #[derive(Clone, Copy, PartialEq, Eq, Debug)]
 pub struct EntryDay {
@@ -34,7 +31,7 @@ fn day_of(outcome: Result<Day, Refusal>) -> u32
     ensures { IsDayOf (outcome_seen outcome) result }
 {
     match outcome {
-        Ok(day) => (day.number() + DAYS_BEFORE) as u32,
+        Ok(day) => (day.number() - Day::MIN_NUMBER) as u32,
         Err(_) => NO_DAY,
     }
 }

@@ -27,12 +27,6 @@ pub struct CalendarFacts {
     year_before_1: Option<i8>,
 }
 
-/// The number of the first of all days.
-const FIRST: i64 = -3_652_424;
-
-/// That of the last.
-const LAST: i64 = 3_652_059;
-
 /// 12 November 1945, whose dates stand as examples.
 const EXAMPLE: i64 = 710_347;
 
@@ -69,7 +63,7 @@ fn has_date(calendar: Calendar, number: i64) -> bool {
 
 /// The first day of a calendar, or `None` where it has a date on the first of all days.
 fn first_day(alloc: Global, calendar: Calendar) -> Result<Option<FirstDay>, AllocError> {
-    let (mut without, mut with) = (FIRST, LAST);
+    let (mut without, mut with) = (Day::MIN_NUMBER, Day::MAX_NUMBER);
     if has_date(calendar, without) {
         return Ok(None);
     }

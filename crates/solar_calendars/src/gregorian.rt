@@ -91,7 +91,7 @@ pub fn year_and_days_before(day: i64) -> (i32, u32)
     ensures few { result.1 ≤ 365 }
 {
     // Counted from 1 January -9999, the first day.
-    let (years, days_before) = years_in((day + 3_652_424) as u32);
+    let (years, days_before) = years_in((day - Day::MIN_NUMBER) as u32);
     (years as i32 - 9_999, days_before)
 }
 

@@ -72,7 +72,7 @@ fn monday_of_week(day: i64) -> i64
     ensures { result ≡ monday_of day }
 {
     // Counted from 1 January -9999, the first day and a Monday.
-    day - ((day + 3_652_424) as u32 % 7) as i64
+    day - ((day - Day::MIN_NUMBER) as u32 % 7) as i64
 }
 
 /// The day of the week of a day, from 1, where this Monday begins the week.

@@ -1,5 +1,5 @@
 pub mod DayNames
 pub mod Names
-pub mod NameViews
 pub mod Laws
 pub mod Computed
+pub mod views

@@ -5,8 +5,8 @@ pub mod FeastSides
 pub mod Sayings
 pub mod Ends
 pub mod Cuts
-pub mod CutViews
 pub mod Brackets
 pub mod Sides
 pub mod Styles
 pub mod Spans
+pub mod views

@@ -1,7 +1,7 @@
 pub mod DayNames
 pub mod Names
-pub mod NameViews
 pub mod Laws
 pub mod Computed
 pub mod Cells
 pub mod Texts
+pub mod views

@@ -1,2 +1,2 @@
 pub mod JoinedDates
-pub mod SheetViews
+pub mod views

@@ -2,7 +2,7 @@
 use Rattle.std.proofs.Common.{◌≡◌, ℕ, ◌+◌, ◌≤◌, refl, sym, ap, subst, arith}
 use Rattle.std.proofs.Common.{ℤ, pos, negsuc, ◌+ℤ◌, ◌-ℤ◌, ◌≤ℤ◌}
 use Rattle.std.proofs.lemmas.Int.{by_lt_z}
-use Rattle.std.specs.Prelude.{IsTrue}
+use Rattle.std.specs.Prelude.{◌↔◌, IsTrue}
 use Rattle.day_numbers.specs.Rules.{Rules, IsDateOf, day_number_of, days_of_month, days_before_month, are_months}
 use Rattle.day_numbers.specs.Rules.{year_start, year_length, HasYear}
 use Rattle.date_texts.specs.Calendars.{by_rules, reckoning}
@@ -10,7 +10,6 @@ use Rattle.date_texts.specs.declared.calendar.Calendar.{Calendar}
 use Rattle.day_numbers.proofs.RulesLemmas.{begins_after, date_unique, date_in_year, year_unique}
 use Rattle.day_numbers.proofs.SignedArithmeticLemmas.{signed_arith}
 use Rattle.date_spans.specs.Laws.{LastDayIsGreatest, LiesFrom, MonthIsExact, YearIsExact, YearIsForwards, MonthIsForwards}
-use Rattle.date_spans.specs.Laws.{YearsAreExact}
 use Rattle.date_spans.specs.Months.{months_by, months_in, months_of, first_month, last_month}
 use Rattle.date_spans.proofs.MonthLemmas.{months_are, first_before, last_ends}
 
@@ -162,6 +161,18 @@ years_to rules a z y m d first last e f ha hz g among =
       omega (arith, signed_arith, e, within.0, starts_before rules a y ha g.0 among.0),
       omega (arith, signed_arith, f, within.1, ends_before rules y z g.0 hz among.1),
     )
+
+-- a date lies from the first day of a year to the last of the same one or another exactly where its year is one of those
+-- between
+abbrev pub YearsAreExact : Rules → ℕ → ℕ → Type 0
+YearsAreExact rules first last =
+    let of_first = months_in rules first in let of_last = months_in rules last in
+    IsDateOf rules (pos first) (first_month of_first) 1
+    → IsDateOf rules (pos last) (last_month of_last) (days_of_month of_last (last_month of_last))
+    → (y : ℤ) (m d : ℕ) → IsDateOf rules y m d
+    → LiesFrom rules (day_number_of rules (pos first) (first_month of_first) 1)
+    (day_number_of rules (pos last) (last_month of_last) (days_of_month of_last (last_month of_last))) y m d
+    ↔ ((pos first ≤ℤ y) × (y ≤ℤ pos last))
 
 pub years_exact : (rules : Rules) (first last : ℕ) → IsTrue (are_months (months_in rules last))
     → YearsAreExact rules first last

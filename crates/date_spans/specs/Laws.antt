@@ -56,17 +56,6 @@ YearIsExact rules year =
     (day_number_of rules (pos year) (last_month months) (days_of_month months (last_month months))) y m d
     ↔ (y ≡ pos year)
 
--- and from the first day of a year to the last of the same one or another exactly where its year is one of those between
-abbrev pub YearsAreExact : Rules → ℕ → ℕ → Type 0
-YearsAreExact rules first last =
-    let of_first = months_in rules first in let of_last = months_in rules last in
-    IsDateOf rules (pos first) (first_month of_first) 1
-    → IsDateOf rules (pos last) (last_month of_last) (days_of_month of_last (last_month of_last))
-    → (y : ℤ) (m d : ℕ) → IsDateOf rules y m d
-    → LiesFrom rules (day_number_of rules (pos first) (first_month of_first) 1)
-    (day_number_of rules (pos last) (last_month of_last) (days_of_month of_last (last_month of_last))) y m d
-    ↔ ((pos first ≤ℤ y) × (y ≤ℤ pos last))
-
 -- and its first day is not behind its last
 abbrev pub YearIsForwards : Rules → ℕ → Type 0
 YearIsForwards rules year =

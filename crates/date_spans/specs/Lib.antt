@@ -5,9 +5,9 @@ pub mod FeastSides
 pub mod Sayings
 pub mod Ends
 pub mod Cuts
-pub mod CutViews
 pub mod Brackets
 pub mod Sides
 pub mod Styles
 pub mod Spans
 pub mod Edtf
+pub mod views

@@ -172,13 +172,6 @@ abbrev pub kept_of : Choice → Calendar → List Name → List ℕ → List ℕ
 kept_of choice calendar names text =
     (dated_text choice calendar names (unmarked text).0, (unmarked text).1, (unmarked text).2)
 
--- the text is a date without its time of day, and this is what is written for it
-abbrev pub IsDateAlone : Choice → Calendar → List Name → List ℕ → List ℕ → List ℕ → Type 0
-IsDateAlone choice calendar names text first last =
-    (is_date choice calendar names (dated_text choice calendar names text) ≡ true)
-    × (first ≡ written choice (Some calendar) names (dated_text choice calendar names text))
-    × (last ≡ written choice (Some calendar) names (dated_text choice calendar names text))
-
 -- the span of a text in which no brackets count
 abbrev pub IsPlainSpan : Choice → Calendar → List Name → List ℕ → List ℕ → List ℕ → Marks → Type 0
 IsPlainSpan choice calendar names text first last found =

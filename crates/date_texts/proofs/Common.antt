@@ -7,7 +7,8 @@ pub use Rattle.date_texts.specs.Cells.{IsCell, IsDateCell, is_plain, no_date, nu
 pub use Rattle.date_texts.specs.DateText.{IsDateText, SaysDate, canonical_text}
 pub use Rattle.date_texts.specs.Dates.{IsDateOfCalendar, calendar_of_date, day_number_of_date}
 pub use Rattle.date_texts.specs.Laws.{CellsAreShort, FewTargets, OneCell}
-pub use Rattle.date_texts.specs.LongText.{IsLongText, canonical_long, place_row}
+pub use Rattle.date_texts.specs.LongText.{IsLongText, canonical_long}
+pub use Rattle.date_texts.specs.views.LongText.{place_row}
 pub use Rattle.date_texts.specs.Names.{IsNamed}
 pub use Rattle.date_texts.specs.Numerals.{IsNumeral, IsYearText, canonical_year, minus, plain}
 pub use Rattle.date_texts.specs.Trimmed.{trim_start, trimmed}

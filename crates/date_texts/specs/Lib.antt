@@ -10,9 +10,6 @@ pub mod CivilText
 pub mod LongText
 pub mod RomanText
 pub mod DateText
-pub mod Reading
-pub mod CivilReading
-pub mod LongReading
-pub mod RomanReading
 pub mod Cells
 pub mod Laws
+pub mod views

@@ -7,9 +7,9 @@ ghost use Rattle.date_texts.specs.declared.calendar.Calendar.TheVariants.{Longco
 ghost use Rattle.date_texts.specs.declared.date.Date.{Date};
 ghost use Rattle.date_texts.specs.DateText.{SaysDate, canonical_text};
 ghost use Rattle.date_texts.specs.Buffers.{IsPut};
-ghost use Rattle.date_texts.specs.LongText.{place_row as place_row_of};
-ghost use Rattle.date_texts.specs.LongReading.{long_at as long_spec, place_at as place_spec};
-ghost use Rattle.date_texts.specs.Reading.{seen_number};
+ghost use Rattle.date_texts.specs.views.LongText.{place_row as place_row_of};
+ghost use Rattle.date_texts.specs.views.LongReading.{long_at as long_spec, place_at as place_spec};
+ghost use Rattle.date_texts.specs.views.Reading.{seen_number};
 
 use crate::date::Date;
 use crate::decimals::put_number;
@@ -19,7 +19,7 @@ use maya_calendars::LongCount;
 
 /// A place of a long count, and the bytes after the dot behind it.
 #[inline(always)]
-#[tactic(auto, unfolding(crate::specs::LongReading::place_at, crate::specs::Reading::part_at))]
+#[tactic(auto, unfolding(crate::specs::views::LongReading::place_at, crate::specs::views::Reading::part_at))]
 fn place_at(bytes: &[u8]) -> Option<(u16, &[u8])>
     ensures value { seen_number result ≡ place_spec bytes.now }
     ensures small { IfSome result (λ r. r.0 ≤ 9_999) }
@@ -29,7 +29,7 @@ fn place_at(bytes: &[u8]) -> Option<(u16, &[u8])>
 }
 
 /// The five places of a long count that the bytes spell.
-#[tactic(auto, unfolding(crate::specs::LongReading::long_at))]
+#[tactic(auto, unfolding(crate::specs::views::LongReading::long_at))]
 fn long_at(bytes: &[u8]) -> Option<(u16, u16, u16, u16, u16)>
     ensures value { result ≡ long_spec bytes.now }
     ensures near { IfSome result (λ c. ArePlaces c.0 c.1 c.2 c.3 c.4) }

@@ -1,10 +1,8 @@
 pub mod Lines
 pub mod DateValues
-pub mod LineViews
 pub mod Trees
 pub mod TextViews
-pub mod TreeViews
 pub mod DateViews
 pub mod TreeSheets
 pub mod OwnDates
-pub mod SheetViews
+pub mod views

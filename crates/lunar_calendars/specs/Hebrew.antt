@@ -2,7 +2,7 @@
 -- the evening before and has 24 hours of 1080 parts, 25920 parts. A mean month has 29 days, 12 hours and 793 parts,
 -- 765433 parts. A molad is a mean new moon. A year opens on the day of the molad of its month Tishri, or up to two days
 -- later where one of four postponements holds. Months are numbered from Nisan = 1, so that Tishri is month 7.
-use Rattle.std.specs.Prelude.{ℕ, Bool, not, ◌&&◌, ◌||◌, List, [], ◌∷◌, ◌++◌, map, sum, ◌≤◌, ◌+◌, ◌-◌, ◌*◌, ◌/◌, ◌%◌}
+use Rattle.std.specs.Prelude.{ℕ, Bool, not, ◌&&◌, ◌||◌, List, [], ◌∷◌, ◌++◌, map, sum, ◌+◌, ◌-◌, ◌*◌, ◌/◌, ◌%◌}
 use Rattle.std.specs.Prelude.{◌==◌, nat_lt, nat_le, if◌then◌else◌, ℤ, neg_ℤ, pos, ◌+ℤ◌, ◌-ℤ◌, unsigned_abs}
 use Rattle.std.specs.List.{range_with_len}
 use Rattle.day_numbers.specs.declared.rules.Month.{Month}
@@ -60,10 +60,6 @@ days_in_year year = unsigned_abs (new_year_of (year + 1) -ℤ new_year_of year)
 -- the lengths of a short, a regular and a long year, common and leap
 abbrev pub year_lengths : List ℕ
 year_lengths = 353 ∷ 354 ∷ 355 ∷ 383 ∷ 384 ∷ 385 ∷ []
-
--- so many days may be the length of a common year, or of a leap year
-abbrev pub IsYearLength : Bool → ℕ → Type 0
-IsYearLength leap days = ((if leap then 383 else 353) ≤ days) × (days ≤ (if leap then 385 else 355))
 
 -- the months of a year, leap or not, with so many days: from Tishri (7) to Adar (12, or 12 and 13), and from Nisan (1)
 -- to Elul. Heshvan (8) is longer in a long year, Kislev (9) is shorter in a short one, and a leap year has a first Adar

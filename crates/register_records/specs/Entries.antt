@@ -59,11 +59,6 @@ body_seen (body.Fields id calendar date note) =
     Ok (record { id = id.bytes; calendar = calendar.bytes; date = date.bytes; note = note.bytes })
 body_seen (body.Refused r) = Err r
 
--- this calendar's name and this date stand in a body
-abbrev pub HasDate : List ℕ → List ℕ → Result Texts Refusal → Type 0
-HasDate calendar date (Ok t) = (t.calendar ≡ calendar) × (t.date ≡ date)
-HasDate calendar date (Err r) = ⊥
-
 -- two bodies have the same calendar's name and the same date
 abbrev pub HaveOneDate : Result Texts Refusal → Result Texts Refusal → Type 0
 HaveOneDate (Ok t) (Ok u) = (t.calendar ≡ u.calendar) × (t.date ≡ u.date)

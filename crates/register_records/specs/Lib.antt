@@ -6,7 +6,6 @@ pub mod Outcomes
 pub mod Seen
 pub mod Lines
 pub mod Columns
-pub mod TableColumns
 pub mod Tables
 pub mod RowTails
 pub mod Sources
@@ -18,13 +17,10 @@ pub mod Views
 pub mod NextEntries
 pub mod Laws
 pub mod LineRoom
-pub mod BareTexts
 pub mod LineViews
 pub mod ReadingState
 pub mod TableStates
 pub mod TablesWritten
-pub mod SourceTables
-pub mod Retrying
 pub mod ShortLists
-pub mod TargetRanks
 pub mod Faults
+pub mod views

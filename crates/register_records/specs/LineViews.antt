@@ -2,10 +2,6 @@
 use Rattle.std.specs.Prelude.{◌≡◌, ◌≤◌, ◌+◌, ℕ, List, take, vec_len}
 use Rattle.register_records.specs.declared.lines.LineBuffer.{LineBuffer}
 
--- the byte between two fields
-abbrev pub line_delimiter : LineBuffer → ℕ
-line_delimiter lines = lines.delimiter
-
 -- the bytes of the lines so far
 abbrev pub line_bytes : LineBuffer → List ℕ
 line_bytes lines = take lines.len lines.bytes.items

@@ -7,11 +7,6 @@ use Rattle.register_records.specs.declared.setups.Form.TheVariants.{Plain, Seale
 abbrev pub Fields : Type 0
 Fields = List (List ℕ)
 
--- how many fields the header and each entry have
-abbrev pub field_count : Form → ℕ
-field_count Plain = 3
-field_count Sealed = 4
-
 -- whether the last of them is a note, for which a table has a column
 abbrev pub has_notes : Form → Bool
 has_notes Plain = false

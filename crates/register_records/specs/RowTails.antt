@@ -1,4 +1,4 @@
--- What a clause sees of a `RowTail`. No public contract cites this file, except for the cells of a row.
+-- What a clause sees of a `RowTail`.
 use Rattle.std.specs.Prelude.{Bool, true, false, ℕ, List, [], drop, length, take, Result, Ok, Err}
 use Rattle.std.specs.List.{position_or_len}
 use Rattle.day_numbers.specs.declared.day.Day.{Day}
@@ -8,7 +8,7 @@ use Rattle.register_records.specs.Columns.{tail_order}
 use Rattle.register_records.specs.Lines.{fields_behind}
 use Rattle.register_records.specs.declared.row_tails.RowTail.{RowTail}
 use Rattle.register_records.specs.declared.table_columns.ColumnKind.{ColumnKind}
-use Rattle.register_records.specs.declared.table_columns.ColumnKind.TheVariants.{Calendar, Cells, Date, Id, Note, Number}
+use Rattle.register_records.specs.declared.table_columns.ColumnKind.TheVariants.{Cells}
 
 -- its bytes, and its fields
 abbrev pub tail_bytes : RowTail → List ℕ
@@ -21,15 +21,6 @@ fields_of tail = fields_behind tail.delimiter (tail_bytes tail)
 abbrev pub is_cells : ColumnKind → Bool
 is_cells Cells = true
 is_cells other = false
-
--- a column of an entry
-abbrev pub is_of_entry : ColumnKind → Bool
-is_of_entry Number = true
-is_of_entry Id = true
-is_of_entry Calendar = true
-is_of_entry Date = true
-is_of_entry Note = true
-is_of_entry other = false
 
 -- its cells: on a day one for each target, behind what stands in the columns before theirs; a refused row has none
 abbrev pub cells_of : List Target → Result Day Refusal → RowTail → List (List ℕ)

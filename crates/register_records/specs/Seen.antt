@@ -3,18 +3,12 @@ use Rattle.std.specs.Prelude.{Bool, true, false, ℕ, ℤ, List, Result, Ok, Err
 use Rattle.day_numbers.specs.declared.day.Day.{Day}
 use Rattle.date_texts.specs.declared.refusal.Refusal.{Refusal}
 use Rattle.register_records.specs.Entries.{Numbered, body_seen}
-use Rattle.register_records.specs.Records.{Texts}
-use Rattle.register_records.specs.declared.record_fields.RecordFields.{RecordFields}
 use Rattle.register_records.specs.Outcomes.{TableRow}
 use Rattle.register_records.specs.declared.entries.Entry.{Entry}
 use Rattle.register_records.specs.declared.reading.ReaderState.{ReaderState}
 use Rattle.register_records.specs.declared.reading.ReaderState.TheVariants as state
 use Rattle.register_records.specs.declared.writing.WriterState.{WriterState}
 use Rattle.register_records.specs.declared.writing.WriterState.TheVariants as writer
-
--- the texts in the fields of a record
-abbrev pub fields_seen : RecordFields → Texts
-fields_seen c = record { id = c.id.now; calendar = c.calendar.now; date = c.date.now; note = c.note.now }
 
 -- a reader of entries has failed, or it has come to the end
 abbrev pub has_failed : ReaderState → Bool

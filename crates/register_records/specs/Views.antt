@@ -10,7 +10,6 @@ use Rattle.register_records.specs.Outcomes.{TableRow}
 use Rattle.register_records.specs.Records.{has_notes}
 use Rattle.register_records.specs.Seen.{has_ended, has_failed, has_stopped, output_failed, row_made}
 use Rattle.register_records.specs.ShortLists.{items_in}
-use Rattle.register_records.specs.TableColumns.{tail_texts}
 use Rattle.register_records.specs.Tables.{Layout, Writing, row_line}
 use Rattle.register_records.specs.declared.reading.EntryReader.{EntryReader}
 use Rattle.register_records.specs.declared.rows.Row.{Row}
@@ -55,10 +54,6 @@ row_targets row = items_in row.targets.items
 
 abbrev pub row_seen : Row → TableRow
 row_seen row = row_made row.entry row.outcome (cells_of (row_targets row) row.outcome row.tail)
-
--- the fields of its tail
-abbrev pub tail_fields : Row → List (List ℕ)
-tail_fields row = tail_texts (row_targets row) (row_seen row).outcome (row_seen row).cells
 
 -- what a table shows of a row behind its entry, and the byte before each of these fields in a table that the row was made
 -- for

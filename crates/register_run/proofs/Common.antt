@@ -16,15 +16,23 @@ pub use Rattle.register_records.specs.declared.entries.Entry.{Entry}
 pub use Rattle.register_records.specs.declared.rows.Row.{Row}
 pub use Rattle.register_records.specs.declared.setups.Setup.{Setup}
 pub use Rattle.register_records.specs.declared.tables.Table.{Table}
-pub use Rattle.register_run.specs.Carried.{AreDealt, AreOfAllTaken, AreOfTaken, HasEnd, HasEnded, WereDealt, carried}
-pub use Rattle.register_run.specs.Carried.{dealt, row_entries, rows_carried}
-pub use Rattle.register_run.specs.Cases.{Case, case, case_of, cases, end_of, ended_case, output_of, ran_of}
-pub use Rattle.register_run.specs.Histories.{AreOfMachine, Carries, HaveHistories, IsMachineWithTable}
-pub use Rattle.register_run.specs.JoinedThreads.{AreOfLanes, HasPassed, HasSent, IsConverting, IsGiven, IsNotOfOutput}
-pub use Rattle.register_run.specs.JoinedThreads.{IsOfGiven, IsOfThreads, MaySend, Sends, is_of_reading, speaks_of_text}
-pub use Rattle.register_run.specs.Popped.{AreOpen, HasLooked, HasLookedAt, HasPopped, IsInTurn, popped, popped_from}
-pub use Rattle.register_run.specs.Stripes.{AnyTook, AreSameStripes, AreStaffed, HasPassedOn, HavePassedOn, IsRowNext}
-pub use Rattle.register_run.specs.Stripes.{IsSameStripe, StartWithRow, StripeTook, feeding_lane, start_fault_cause}
+pub use Rattle.register_run.specs.Carried.{carried}
+pub use Rattle.register_run.specs.views.Carried.{AreDealt, AreOfAllTaken, AreOfTaken, HasEnd, HasEnded, WereDealt}
+pub use Rattle.register_run.specs.Carried.{row_entries, rows_carried}
+pub use Rattle.register_run.specs.views.Carried.{dealt}
+pub use Rattle.register_run.specs.views.Cases.{Case, case, case_of, cases, end_of, ended_case, output_of, ran_of}
+pub use Rattle.register_run.specs.Histories.{AreOfMachine, HaveHistories, IsMachineWithTable}
+pub use Rattle.register_run.specs.views.Histories.{Carries}
+pub use Rattle.register_run.specs.JoinedThreads.{AreOfLanes}
+pub use Rattle.register_run.specs.views.JoinedThreads.{HasPassed, HasSent, IsConverting, IsGiven, IsNotOfOutput}
+pub use Rattle.register_run.specs.views.JoinedThreads.{IsOfGiven, IsOfThreads, MaySend, Sends, is_of_reading}
+pub use Rattle.register_run.specs.views.JoinedThreads.{speaks_of_text}
+pub use Rattle.register_run.specs.views.Popped.{AreOpen, HasLooked, HasLookedAt, HasPopped, IsInTurn, popped}
+pub use Rattle.register_run.specs.views.Popped.{popped_from}
+pub use Rattle.register_run.specs.views.Stripes.{AnyTook, AreSameStripes, AreStaffed, HasPassedOn, HavePassedOn}
+pub use Rattle.register_run.specs.views.Stripes.{IsRowNext}
+pub use Rattle.register_run.specs.Stripes.{feeding_lane}
+pub use Rattle.register_run.specs.views.Stripes.{IsSameStripe, StartWithRow, StripeTook, start_fault_cause}
 pub use Rattle.register_run.specs.Stripes.{stripe_setup}
 pub use Rattle.register_run.specs.Worlds.{World, numbers}
 pub use Rattle.register_run.specs.declared.ended_sources.Findings.{Findings}

@@ -17,7 +17,8 @@ use Rattle.register_records.proofs.TableLemmas.{are_rows, faultless, front_so, g
 use Rattle.register_records.specs.declared.outputs.Output as outputs
 use Rattle.register_records.specs.declared.ends.Cause.TheVariants as cause
 use Rattle.register_records.specs.declared.ends.SourceEnd.TheVariants as end
-use Rattle.register_run.specs.MetCauses.{HasMetNone, IsLowest, IsMet, Differs}
+use Rattle.register_run.specs.MetCauses.{IsLowest, IsMet, Differs}
+use Rattle.register_run.specs.views.MetCauses.{HasMetNone}
 use Rattle.register_run.specs.Headline.{IsSourceEnd, IsAllOfTable, causes_of_reading}
 use Rattle.register_run.proofs.GivenLemmas.{first_of_first, front_all, rows_front}
 

@@ -20,7 +20,8 @@ use Rattle.register_run.specs.declared.running_sources.RunningSource.{RunningSou
 use Rattle.register_run.specs.Headline.{AtEachPlace, IsSourceEnd}
 use Rattle.register_run.specs.Reports.{IsReport, IsReportOfMachine, IsReportOfThreads}
 use Rattle.register_run.specs.Threads.{AreThreads, HasRing, AreThreadsOf}
-use Rattle.register_run.specs.MetCauses.{HasMetNone, IsLowest, IsMet}
+use Rattle.register_run.specs.MetCauses.{IsLowest, IsMet}
+use Rattle.register_run.specs.views.MetCauses.{HasMetNone}
 use Rattle.register_run.proofs.HistoryLemmas.{staff}
 use Rattle.register_run.proofs.EndedSourceLemmas.{thread_outcome}
 

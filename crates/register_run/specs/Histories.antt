@@ -9,12 +9,11 @@ use Rattle.register_records.specs.Sources.{Gains, IfWhole, IsTableOf}
 use Rattle.register_records.specs.Views.{layout_of, reading_of}
 use Rattle.register_records.specs.declared.outputs.Output as outputs
 use Rattle.register_records.specs.declared.entries.Entry.{Entry}
-use Rattle.register_records.specs.declared.rows.Row.{Row}
 use Rattle.register_records.specs.declared.setups.Setup.{Setup}
 use Rattle.register_records.specs.declared.ends.SourceEnd.{SourceEnd}
 use Rattle.register_run.specs.Stripes.{feeding_lane, stripe_setup}
 use Rattle.register_run.specs.Carried.{carried, rows_carried}
-use Rattle.register_run.specs.JoinedThreads.{AreOfLanes, IsOfGiven}
+use Rattle.register_run.specs.JoinedThreads.{AreOfLanes}
 use Rattle.register_run.specs.Worlds.{World}
 use Rattle.lane_rings.specs.Histories.{entries_over, rows_over}
 use Rattle.lane_rings.specs.Machine.{Actor, start}
@@ -47,11 +46,6 @@ pub record IsOfMachine (text : Option (List ℕ)) (setup : Setup) (count : ℕ) 
   pub schedule : (w : World) → w.entries ≡ given → w.converters ≡ setup.stripes → w.ring ≡ setup.ring
       → (schedule : List Actor) × ((run w schedule start).popped ≡ table_rows w)
       × HaveHistories w schedule 0 stripes closed
-
--- the same, and each row that was taken is of one of its entries
-abbrev pub Carries : Option (List ℕ) → Setup → ℕ → List Stripe → (Row → Type 0) → Type 0
-Carries text setup count stripes took =
-    (machine : IsOfMachine text setup count stripes) × ((row : Row) → took row → IsOfGiven machine.given row)
 
 -- the machine, and the output has gained the table of its entries
 abbrev pub IsMachineWithTable : Option (List ℕ) → Setup → Option (List ℕ) → Option (List ℕ) → ℕ → List Stripe → Type 0

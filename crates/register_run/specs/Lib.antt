@@ -1,13 +1,11 @@
 pub mod Carried
 pub mod JoinedThreads
 pub mod Stripes
-pub mod Popped
 pub mod MetCauses
-pub mod Written
 pub mod Headline
-pub mod Cases
 pub mod Threads
 pub mod Reports
 pub mod Worlds
 pub mod EveryScheduleLaw
 pub mod Histories
+pub mod views

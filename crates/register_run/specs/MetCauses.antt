@@ -1,10 +1,8 @@
 -- For which cause a source breaks off.
-use Rattle.std.specs.Prelude.{◌≡◌, ◌≢◌, ◌≤◌, ◌⊎◌, ℕ, Bool, true, List, None, Some, Result}
-use Rattle.std.specs.Prelude.{Ok, Err, length}
+use Rattle.std.specs.Prelude.{◌≡◌, ◌≢◌, ◌≤◌, ◌⊎◌, ℕ, Bool, true, None, Some, Result, Ok, Err}
 use Rattle.register_records.specs.Sources.{cause_number}
 use Rattle.register_records.specs.declared.ends.Cause.{Cause}
 use Rattle.register_records.specs.declared.ends.Cause.TheVariants as cause
-use Rattle.register_records.specs.declared.ends.Note.{Note}
 use Rattle.register_run.specs.declared.ended_sources.Findings.{Findings}
 
 -- what was written is not what the threads ended with: not all rows with the heading; or where they gave up, not the
@@ -19,13 +17,6 @@ IsMet found c =
     (found.sent.outcome ≡ Err c) ⊎ (found.fault ≡ Some c)
     ⊎ ((c ≡ cause.Unconfirmed) × (found.fault ≡ None)
     × Differs found.sent.outcome found.sent.count found.headed found.rows)
-
--- a source has met no cause: its threads ended with a count, its table did not break off, and has the heading and so
--- many rows; so many were refused, by this journal
-abbrev pub HasMetNone : Findings → List Note → ℕ → ℕ → List Note → Type 0
-HasMetNone found journal count refused notes =
-    (found.sent.outcome ≡ Ok count) × (found.fault ≡ None) × (found.headed ≡ true) × (count ≡ found.rows)
-    × (refused ≡ length notes) × (notes ≡ journal)
 
 -- the lowest of these causes
 abbrev pub IsLowest : (Cause → Type 0) → Cause → Type 0

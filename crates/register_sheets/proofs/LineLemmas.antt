@@ -7,7 +7,8 @@ use Rattle.std.specs.Borrow.{Bor}
 use Rattle.std.specs.Prelude.{Err, Ok, OnOk, Result}
 use Rattle.register_records.specs.LineRoom as buffer
 use Rattle.register_records.specs.LineRoom.{writing}
-use Rattle.register_records.specs.LineViews.{line_bytes, line_delimiter}
+use Rattle.register_records.specs.LineViews.{line_bytes}
+use Rattle.register_records.specs.views.LineViews.{line_delimiter}
 use Rattle.register_records.specs.Lines.{line_text}
 use Rattle.register_records.specs.declared.lines.LineBuffer.{LineBuffer}
 use Rattle.register_sheets.specs.LineViews.{EndsLine, GainsFields}

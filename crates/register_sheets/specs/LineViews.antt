@@ -1,7 +1,8 @@
 -- What a clause sees of `SheetLines`. No public contract cites this file.
 use Rattle.std.specs.Prelude.{◌≡◌, ◌≤◌, ◌++◌, ℕ, true, false, List, [], length}
 use Rattle.register_records.specs.LineRoom as buffer
-use Rattle.register_records.specs.LineViews.{line_bytes, line_delimiter}
+use Rattle.register_records.specs.LineViews.{line_bytes}
+use Rattle.register_records.specs.views.LineViews.{line_delimiter}
 use Rattle.register_records.specs.Lines.{line_text}
 use Rattle.register_records.specs.Views.{row_delimiter}
 use Rattle.register_records.specs.declared.rows.Row.{Row}

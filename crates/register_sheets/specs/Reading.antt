@@ -3,7 +3,8 @@ use Rattle.std.specs.Prelude.{ℕ, List, [], Option, None, Some, IsSome}
 use Rattle.std.specs.Borrow.{Bor}
 use Rattle.csv.specs.declared.reader.Reader.{Reader}
 use Rattle.register_records.specs.Entries.{Fields}
-use Rattle.register_records.specs.ReadingState.{HasBegun, IsLive, records_left}
+use Rattle.register_records.specs.ReadingState.{IsLive, records_left}
+use Rattle.register_records.specs.views.ReadingState.{HasBegun}
 
 -- the records that are left, of a reader that has not failed
 abbrev pub known_left : Reader (Bor (List ℕ)) → Option (List Fields)

@@ -1,5 +1,5 @@
 -- The Julian calendar (Reingold and Dershowitz, Calendrical Calculations, "The Julian Calendar").
-use Rattle.std.specs.Prelude.{Bool, ◌==◌, ℤ, pos, negsuc, neg_ℤ, ◌-ℤ◌}
+use Rattle.std.specs.Prelude.{Bool, ◌==◌, ℤ, pos, negsuc, neg_ℤ}
 use Rattle.day_numbers.specs.Rules.{Rules, without_zero}
 use Rattle.solar_calendars.specs.Remainder.{remainder}
 use Rattle.solar_calendars.specs.TwelveMonths.{twelve_months}
@@ -12,8 +12,3 @@ is_julian_leap (negsuc n) = remainder (negsuc n) 4 == 3
 -- 1 January of year 1 is two days before the Gregorian one, and year 1 follows year -1
 abbrev pub julian_rules : Rules
 julian_rules = record { epoch = neg_ℤ (pos 1); years = without_zero; months = λ y. twelve_months (is_julian_leap y) }
-
--- how many years there are from year 1 to the year before this one; less than 0 where the year is before year 1
-abbrev pub years_before : ℤ → ℤ
-years_before (pos n) = pos n -ℤ pos 1
-years_before (negsuc n) = negsuc n

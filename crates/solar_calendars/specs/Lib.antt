@@ -4,8 +4,7 @@ pub mod ThirteenMonths
 pub mod Gregorian
 pub mod Julian
 pub mod IsoWeek
-pub mod IsoWeekLaw
 pub mod French
 pub mod Roman
-pub mod RomanPlaces
 pub mod Laws
+pub mod views

@@ -4,9 +4,9 @@
 //! the calendars that the arguments ask for.
 #![tactic(auto)]
 
+use programs::{Destination, Disk, LoggedWriter, Source, lines_to};
 use register_app::answer;
 use register_arguments::MEMORY_FAULT;
-use register_files::{Destination, Disk, LoggedWriter, Source, lines_to};
 use register_records::PlainOutput;
 use std::fs::OpenOptions;
 use std::io::Write;

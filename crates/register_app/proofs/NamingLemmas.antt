@@ -7,8 +7,8 @@ use Rattle.std.proofs.lemmas.List.Concat.{flat_map-append}
 use Rattle.std.proofs.lemmas.List.Elements.{All-push, AllZip-push, Contains-append_left, Contains-get_or, Contains-push}
 use Rattle.std.proofs.lemmas.Option.{slice_get-get_or, slice_get_within}
 use Rattle.register_records.specs.declared.outputs.Output as outputs
-use Rattle.register_files.proofs.AppendsLemmas.{appends_both, appends_none}
-use Rattle.register_files.proofs.MatchLemmas.{HoldBefore, all_before, none_before, one_before}
+use Rattle.programs.proofs.AppendsLemmas.{appends_both, appends_none}
+use Rattle.programs.proofs.MatchLemmas.{HoldBefore, all_before, none_before, one_before}
 use Rattle.register_app.specs.Namings.{AreNamed, IsUnnamedLine}
 
 -- the same as of all, of the names before place n

@@ -4,7 +4,7 @@ use Rattle.std.specs.Option.{option_map_or}
 use Rattle.std.specs.Io.KnownBytes.{Appends}
 use Rattle.clap.specs.Words.{Text}
 use Rattle.register_arguments.specs.Faults.{Fault, memory_line}
-use Rattle.command_lines.specs.Meanings.{Meaning, wrong}
+use Rattle.programs.specs.Meanings.{Meaning, wrong}
 use Rattle.register_arguments.specs.Requests.{AreWrong, IsFaultOf, MeanJust, Task}
 use Rattle.register_arguments.specs.declared.request_faults.RequestFault.TheVariants as request_fault
 use Rattle.register_app.specs.Answers.{IsReported}

@@ -11,11 +11,11 @@ use Rattle.register_run.specs.declared.reports.Report.{Report}
 use Rattle.register_records.specs.declared.outputs.Output as outputs
 use Rattle.register_records.specs.declared.setups.Setup.{Setup}
 use Rattle.register_run.specs.declared.reports.Verdict.TheVariants.{Complete}
-use Rattle.register_files.specs.Openings.{AreMade, AreNotSources, AreOpened, AreTwoFiles, output_names}
+use Rattle.programs.specs.Openings.{AreMade, AreNotSources, AreOpened, AreTwoFiles, output_names}
 use Rattle.register_app.specs.Namings.{AreNamed}
 use Rattle.register_app.specs.ProgramFaults.{IsOfAsked, fault_line, fault_status, request_fault_in}
 use Rattle.register_app.specs.Reports.{lines_from}
-use Rattle.command_lines.specs.Meanings.{help, version, work}
+use Rattle.programs.specs.Meanings.{help, version, work}
 use Rattle.register_arguments.specs.Requests.{IsFaultOf, IsSetupOf, MeanJust, Task}
 use Rattle.register_arguments.specs.declared.help.TheConstants.{HELP, PRINT_FAULT}
 use Rattle.register_app.specs.declared.program_faults.ProgramFault.{ProgramFault}

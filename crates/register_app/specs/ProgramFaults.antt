@@ -2,10 +2,10 @@
 use Rattle.std.specs.Prelude.{◌≡◌, ◌++◌, ℕ, List, codes, IfSome, Option, Some, None, slice_get}
 use Rattle.register_arguments.specs.Faults.{Fault, error_line, fault_of_error, memory_line, program_line}
 use Rattle.register_arguments.specs.Faults.{status_of_fault}
-use Rattle.command_lines.specs.Meanings.{work}
+use Rattle.programs.specs.Meanings.{work}
 use Rattle.register_arguments.specs.Requests.{MeanJust, Task}
-use Rattle.register_files.specs.Openings.{missing_file}
-use Rattle.register_files.specs.declared.opening.FileFault.TheVariants as file_fault
+use Rattle.programs.specs.Openings.{missing_file}
+use Rattle.programs.specs.declared.opening.FileFault.TheVariants as file_fault
 use Rattle.register_app.specs.declared.program_faults.ProgramFault.{ProgramFault}
 use Rattle.register_app.specs.declared.program_faults.ProgramFault.TheVariants as program_fault
 

@@ -7,5 +7,5 @@ mod program;
 mod program_faults;
 mod reporting;
 
-pub use command_lines::{COMPLETE, INCOMPLETE};
 pub use program::{Outcome, answer};
+pub use programs::{COMPLETE, INCOMPLETE};

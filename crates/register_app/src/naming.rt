@@ -3,12 +3,11 @@
 ghost use Rattle.std.specs.Prelude.{◌≡◌, ◌≢◌, ◌⊎◌, ℕ, Bool, List, false, if◌then◌else◌, map};
 ghost use Rattle.std.specs.Io.KnownBytes.{Appends};
 ghost use Rattle.register_app.specs.Namings.{AreNamed, IsUnnamedLine};
-ghost use Rattle.register_files.specs.Places.{place_name};
+ghost use Rattle.programs.specs.Places.{place_name};
 
 use crate::program_faults::OUT_OF_MEMORY;
-use command_lines::INCOMPLETE;
+use programs::{FileStore, INCOMPLETE, Place};
 use register_arguments::{MEMORY_FAULT, own_line};
-use register_files::{FileStore, Place};
 use register_records::{Output, send};
 use std::alloc::Global;
 

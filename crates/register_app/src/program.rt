@@ -7,23 +7,22 @@ ghost use Rattle.std.specs.String.{string_bytes};
 ghost use Rattle.register_app.specs.Answers.{AreConverted, AreFilesAnswered, IsConverted, IsInputAnswered};
 ghost use Rattle.register_app.specs.Answers.{IsPageAnswered, IsPrinted, IsReported, version_line};
 ghost use Rattle.register_records.specs.Sources.{is_whole_end};
-ghost use Rattle.register_files.specs.Openings.{AreMade, IsFresh, IsNewlyMade};
+ghost use Rattle.programs.specs.Openings.{AreMade, IsFresh, IsNewlyMade};
 ghost use Rattle.register_app.specs.ProgramFaults.{IsOfAsked, fault_status, request_fault_in};
 ghost use Rattle.register_app.specs.Reports.{lines_from};
 ghost use Rattle.register_arguments.specs.Faults.{memory_line};
-ghost use Rattle.command_lines.specs.FileLists.{most_files};
-ghost use Rattle.command_lines.specs.Meanings.{work};
+ghost use Rattle.programs.specs.FileLists.{most_files};
+ghost use Rattle.programs.specs.Meanings.{work};
 ghost use Rattle.register_arguments.specs.Requests.{AreWrong, IsFaultOf, MeanJust, Task, task_of};
 
 use crate::naming::name_tables;
 use crate::program_faults::{OUT_OF_MEMORY, ProgramFault};
 use crate::reporting::report_ends;
 use arrayvec::ArrayString;
-use command_lines::{COMPLETE, INCOMPLETE};
+use programs::{COMPLETE, FileStore, INCOMPLETE, Opened, open_files};
 use register_arguments::{
     HELP, Job, MAX_FILES, MEMORY_FAULT, PRINT_FAULT, Request, RequestFault, VERSION, read_request,
 };
-use register_files::{FileStore, Opened, open_files};
 use register_records::{Output, send};
 use register_run::{MAX_SOURCES, Ran, Report, Verdict, run};
 use std::alloc::Global;

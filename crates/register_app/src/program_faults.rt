@@ -3,8 +3,8 @@
 ghost use Rattle.std.specs.Prelude.{◌≡◌, IfOk, IfSome};
 ghost use Rattle.std.specs.String.{string_bytes};
 
+use programs::{FileFault, output_name};
 use register_arguments::{MEMORY_FAULT, RequestFault, own_line};
-use register_files::{FileFault, output_name};
 use std::alloc::{AllocError, Global};
 
 /// Memory ran out before the run.

@@ -1,11 +1,11 @@
--- What the arguments of this program mean is one thing: what `MeaningLemmas` of `command_lines` wants to be shown.
+-- What the arguments of this program mean is one thing: what `MeaningLemmas` of `programs` wants to be shown.
 use Rattle.std.proofs.Common.{◌≡◌, ◌∙◌, ℕ, List, sym, rules, arith, Option, Some, None}
 use Rattle.clap.specs.Words.{Text}
 use Rattle.date_texts.specs.Laws.{OneTarget}
 use Rattle.date_texts.specs.declared.target.Target.{Target}
-use Rattle.command_lines.proofs.KindLemmas.{lone_app, one_of}
-use Rattle.command_lines.proofs.MeaningLemmas.{IsClear, IsSound, one_asked, one_byte, one_number}
-use Rattle.command_lines.proofs.MeaningLemmas.{sound_files, sound_option}
+use Rattle.programs.proofs.KindLemmas.{lone_app, one_of}
+use Rattle.programs.proofs.MeaningLemmas.{IsClear, IsSound, one_asked, one_byte, one_number}
+use Rattle.programs.proofs.MeaningLemmas.{sound_files, sound_option}
 use Rattle.register_arguments.specs.Faults.{Fault}
 use Rattle.register_arguments.specs.OptionValues.{IsWritten, number_check}
 use Rattle.register_arguments.specs.CommandLine.{Values, values_of}

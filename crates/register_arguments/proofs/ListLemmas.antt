@@ -17,7 +17,7 @@ use Rattle.date_texts.specs.Names.{IsNamed}
 use Rattle.date_texts.specs.declared.target.Target.{Target}
 use Rattle.register_records.specs.SetupRules.{NamesTwice}
 use Rattle.date_texts.specs.Laws.{OneTarget}
-use Rattle.command_lines.proofs.FileLemmas.{meet}
+use Rattle.programs.proofs.FileLemmas.{meet}
 use Rattle.register_arguments.specs.OptionValues.{AreNamesOf, StandsBehind, names_in, no_target, AsksForTargets}
 use Rattle.register_arguments.specs.OptionValues.{IsFirstTargetTwice, IsFirstUnknown, IsListFault, ListMeans}
 use Rattle.register_arguments.specs.OptionValues.{ListMeansJust}

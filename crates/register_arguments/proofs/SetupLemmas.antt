@@ -10,7 +10,7 @@ use Rattle.std.proofs.lemmas.Option.{slice_get-get_or}
 use Rattle.std.specs.Str.{bytes_eq}
 use Rattle.std.proofs.lemmas.Slice.Eq.{bytes_eq-Decides}
 use Rattle.clap.specs.Words.{Text}
-use Rattle.command_lines.specs.Values.{IsNumberWord, byte_of}
+use Rattle.programs.specs.Values.{IsNumberWord, byte_of}
 use Rattle.date_texts.specs.declared.target.Target.TheVariants.{Haab}
 use Rattle.date_texts.specs.Calendars.{default_targets, target_name}
 use Rattle.date_texts.specs.declared.target.Target.{Target}
@@ -20,7 +20,7 @@ use Rattle.register_records.specs.SetupRules.{NamesTwice, is_delimiter, is_ring_
 use Rattle.register_records.specs.declared.setups.Setup.{Setup}
 use Rattle.register_records.specs.declared.setups.SetupFault.{SetupFault}
 use Rattle.register_records.specs.declared.setups.SetupFault.TheVariants.{TargetTwice, RingSize, Delimiter, Stripes}
-use Rattle.command_lines.specs.declared.values.Delimiter.{Delimiter as DelimiterWord}
+use Rattle.programs.specs.declared.values.Delimiter.{Delimiter as DelimiterWord}
 use Rattle.register_arguments.specs.Requests.{AreTargetsOf}
 use Rattle.register_arguments.specs.declared.option_values.Ring.{Ring}
 use Rattle.register_arguments.specs.declared.option_values.Stripes.{Stripes as StripesValue}

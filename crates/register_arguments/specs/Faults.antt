@@ -3,8 +3,8 @@ use Rattle.std.specs.Prelude.{◌++◌, ◌∷◌, ℕ, List, [], codes, Option,
 use Rattle.std.specs.Option.{option_map_or}
 use Rattle.clap.specs.Values.{kind_of}
 use Rattle.clap.specs.declared.error.kind.ErrorKind.{ErrorKind}
-use Rattle.command_lines.specs.declared.files.FilesFault.{FilesFault}
-use Rattle.command_lines.specs.declared.files.FilesFault.TheVariants as files_fault
+use Rattle.programs.specs.declared.files.FilesFault.{FilesFault}
+use Rattle.programs.specs.declared.files.FilesFault.TheVariants as files_fault
 use Rattle.date_texts.specs.Calendars.{target_name}
 use Rattle.date_texts.specs.declared.target.Target.{Target}
 use Rattle.register_arguments.specs.declared.request_faults.RequestFault.{RequestFault}

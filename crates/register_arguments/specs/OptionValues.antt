@@ -7,8 +7,8 @@ use Rattle.date_texts.specs.Names.{IsNamed}
 use Rattle.date_texts.specs.declared.target.Target.{Target}
 use Rattle.register_records.specs.SetupRules.{NamesTwice}
 use Rattle.clap.specs.Words.{Text}
-use Rattle.command_lines.specs.Meanings.{Check}
-use Rattle.command_lines.specs.Values.{IsNumberWord}
+use Rattle.programs.specs.Meanings.{Check}
+use Rattle.programs.specs.Values.{IsNumberWord}
 use Rattle.register_arguments.specs.Faults.{Fault, target_twice, unknown_target}
 
 -- the names in a list: what stands between its commas (44)

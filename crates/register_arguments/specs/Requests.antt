@@ -11,10 +11,10 @@ use Rattle.register_records.specs.Tables.{Layout}
 use Rattle.register_records.specs.Views.{layout_of, reading_of}
 use Rattle.register_records.specs.declared.setups.Form.TheVariants.{Plain, Sealed}
 use Rattle.register_records.specs.declared.setups.Setup.{Setup}
-use Rattle.command_lines.specs.FileLists.{AreFilesToConvert}
-use Rattle.command_lines.specs.Meanings as lines
-use Rattle.command_lines.specs.Meanings.{Check, CommandLine, Meaning, file_check, help, option_check, version, work}
-use Rattle.command_lines.specs.Values.{IsValueOf, byte_of, delimiter_option}
+use Rattle.programs.specs.FileLists.{AreFilesToConvert}
+use Rattle.programs.specs.Meanings as lines
+use Rattle.programs.specs.Meanings.{Check, CommandLine, Meaning, file_check, help, option_check, version, work}
+use Rattle.programs.specs.Values.{IsValueOf, byte_of, delimiter_option}
 use Rattle.register_arguments.specs.CommandLine.{Values, command_line, values_of}
 use Rattle.register_arguments.specs.Faults.{Fault, bad_ring, bad_stripes, file_twice, too_many_files}
 use Rattle.register_arguments.specs.Faults.{unknown_delimiter, usage}

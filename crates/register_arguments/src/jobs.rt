@@ -4,8 +4,8 @@ ghost use Rattle.register_records.specs.SetupRules.{NamesTwice};
 
 use crate::fittings::fitting;
 use crate::option_values::{Ring, Stripes};
-use command_lines::Delimiter;
 use date_texts::Target;
+use programs::Delimiter;
 use register_records::{Form, Setup};
 
 /// A conversion that the arguments ask for.

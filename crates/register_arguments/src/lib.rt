@@ -8,10 +8,10 @@ mod option_values;
 mod request_faults;
 mod requests;
 
-pub use command_lines::MAX_FILES;
 pub use fittings::{Fit, fitting};
 pub use help::{HELP, PRINT_FAULT};
 pub use jobs::Job;
 pub use option_values::{NO_TARGET, Ring, Stripes};
+pub use programs::MAX_FILES;
 pub use request_faults::{MEMORY_FAULT, RequestFault, own_line};
 pub use requests::{Request, VERSION, command, read_request};

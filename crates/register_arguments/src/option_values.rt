@@ -2,15 +2,15 @@
 
 ghost use Rattle.std.specs.Prelude.{◌≡◌, Ok, Err, IfOk, IfErr, IfSome, IsSomeAnd, option_map, true};
 ghost use Rattle.register_records.specs.SetupRules.{is_ring_size, is_stripe_count, largest_ring, most_stripes};
-ghost use Rattle.command_lines.specs.Meanings.{option_check};
-ghost use Rattle.command_lines.specs.Values.{IsValueOf, byte_of, delimiter_option};
+ghost use Rattle.programs.specs.Meanings.{option_check};
+ghost use Rattle.programs.specs.Values.{IsValueOf, byte_of, delimiter_option};
 ghost use Rattle.register_arguments.specs.Faults.{bad_ring, bad_stripes, fault_of_error, unknown_delimiter};
 ghost use Rattle.register_arguments.specs.OptionValues.{IsWritten, ListMeansJust, number_check};
 
 use crate::request_faults::RequestFault;
-use command_lines::{Delimiter, chosen, number_named};
 use date_texts::laws::one_target;
 use date_texts::{Target, target_named};
+use programs::{Delimiter, chosen, number_named};
 use register_records::{MAX_RING, MAX_STRIPES};
 use std::alloc::Global;
 

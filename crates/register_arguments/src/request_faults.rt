@@ -4,8 +4,8 @@ ghost use Rattle.std.specs.Prelude.{◌≡◌, ◌++◌, IfOk, IfSome};
 ghost use Rattle.std.specs.String.{string_bytes};
 ghost use Rattle.register_arguments.specs.Faults.{program_line};
 
-use command_lines::FilesFault;
 use date_texts::Target;
+use programs::FilesFault;
 use std::alloc::{AllocError, Global};
 
 /// The line on standard error where memory ran out.

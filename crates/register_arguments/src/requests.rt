@@ -3,8 +3,8 @@
 ghost use Rattle.std.specs.Prelude.{◌≡◌, IfOk, IfErr, IfSome, IsSomeAnd, OnOk, map, option_map, if◌then◌else◌};
 ghost use Rattle.std.specs.String.{string_bytes};
 ghost use Rattle.clap.specs.Words.{FailsBy, HasKind, app_of, fault_of, found_of, matches_of, rows_of};
-ghost use Rattle.command_lines.specs.FileLists.{AreFilesToConvert, IsFileFault};
-ghost use Rattle.command_lines.specs.Meanings.{AreTaken, FailFirst, wrong};
+ghost use Rattle.programs.specs.FileLists.{AreFilesToConvert, IsFileFault};
+ghost use Rattle.programs.specs.Meanings.{AreTaken, FailFirst, wrong};
 ghost use Rattle.register_arguments.specs.CommandLine.{command_line, values_of};
 ghost use Rattle.register_arguments.specs.Faults.{fault_of_error, file_twice, too_many_files};
 ghost use Rattle.register_arguments.specs.Requests.{AreTargetsOf, Ask, IsTargetFault, MeanJust, meaning_of};
@@ -15,9 +15,9 @@ use crate::option_values::{chosen_delimiter, chosen_ring, chosen_stripes, read_t
 use crate::request_faults::RequestFault;
 use clap::error::ErrorKind;
 use clap::{ArgMatches, Command};
-use command_lines::{Argument, check_files, command_with, is_given, value_given, values_given};
 use date_texts::Target;
 use date_texts::laws::{default_targets, one_target};
+use programs::{Argument, check_files, command_with, is_given, value_given, values_given};
 use register_records::Form;
 use std::alloc::{AllocError, Global};
 

@@ -10,10 +10,10 @@ mod options;
 mod tables;
 
 use calendars::{calendar_facts, target_facts};
-use command_lines::{COMPLETE, INCOMPLETE};
 use fits::fit_facts;
 use named::Named;
 use options::{option_facts, sheet_option_facts};
+use programs::{COMPLETE, INCOMPLETE};
 use register_arguments::{MAX_FILES, RequestFault, VERSION};
 use register_records::{CALENDAR_LIMIT, DATE_LIMIT, ID_LIMIT, MAX_RECORDS, NOTE_LIMIT};
 use serde::{Described, Serialize, Serializer};

@@ -7,7 +7,7 @@
 mod built_names;
 
 use built_names::{FIRST_NAMES, SECOND_NAMES, THIRD_NAMES};
-use register_files::{Destination, Disk, LoggedWriter, Source, lines_to};
+use programs::{Destination, Disk, LoggedWriter, Source, lines_to};
 use register_records::PlainOutput;
 use sheet_app::{Outcome, answer};
 use sheet_arguments::MEMORY_FAULT;

@@ -11,7 +11,7 @@ use Rattle.register_sheets.specs.declared.choices.DateColumn.{DateColumn}
 use Rattle.register_sheets.specs.declared.name_lists.NameLine.{NameLine}
 use Rattle.sheet_arguments.specs.Requests.{CalendarsWanted, Task, all_have, in_columns}
 use Rattle.clap.specs.Words.{Text}
-use Rattle.command_lines.specs.Values.{IsNumberWord}
+use Rattle.programs.specs.Values.{IsNumberWord}
 use Rattle.sheet_app.specs.CalendarWords.{SaysNothing, calendar_words}
 use Rattle.sheet_app.specs.Columns.{HoldsOfNone, IsBareWord, IsCalendarField, IsColumn, IsDateColumn, IsForWord}
 use Rattle.sheet_app.specs.Columns.{IsDateField, IsItsOwn, LacksDate}

@@ -6,9 +6,9 @@ use Rattle.std.specs.Prelude.{AllPairs, Err, IfOk, Ok, OnOk, Result, flat_map}
 use Rattle.std.proofs.lemmas.List.{flat_map_more, map-append, take_all, take_more}
 use Rattle.std.proofs.lemmas.List.Elements.{All-append, All-push}
 use Rattle.std.proofs.lemmas.List.Quantifiers.{all_pairs_push}
-use Rattle.register_files.specs.Openings.{IsNewlyMade}
-use Rattle.register_files.specs.Places.{place_name}
-use Rattle.register_files.specs.declared.places.Place.{Place}
+use Rattle.programs.specs.Openings.{IsNewlyMade}
+use Rattle.programs.specs.Places.{place_name}
+use Rattle.programs.specs.declared.places.Place.{Place}
 use Rattle.register_records.specs.declared.outputs.Output as outputs
 use Rattle.sheet_app.specs.FileSheets.{names_ending}
 

@@ -4,7 +4,7 @@ use Rattle.std.specs.Option.{option_map_or}
 use Rattle.std.specs.Io.KnownBytes.{Appends}
 use Rattle.clap.specs.Words.{Text}
 use Rattle.sheet_arguments.specs.Faults.{Fault, memory_line}
-use Rattle.command_lines.specs.Meanings.{Meaning, wrong}
+use Rattle.programs.specs.Meanings.{Meaning, wrong}
 use Rattle.sheet_arguments.specs.Requests.{AreWrong, IsFaultOf, MeanJust, Task}
 use Rattle.sheet_app.specs.Answers.{IsReported}
 use Rattle.sheet_app.specs.declared.program_faults.ProgramFault.TheVariants as program_fault

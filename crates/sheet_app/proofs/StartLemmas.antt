@@ -4,7 +4,7 @@ use Rattle.std.specs.Prelude.{Contains}
 use Rattle.std.proofs.lemmas.List.Elements.{Contains-get_or}
 use Rattle.std.specs.declared.io.traits.Read as reads
 use Rattle.clap.specs.Words.{Text}
-use Rattle.command_lines.specs.Meanings.{work}
+use Rattle.programs.specs.Meanings.{work}
 use Rattle.register_sheets.specs.declared.name_lists.NameLine.{NameLine}
 use Rattle.sheet_arguments.specs.Requests.{MeanJust, Task}
 use Rattle.sheet_app.specs.Answers.{AreNamesOf, IsFaultOfStart, IsUnknown}

@@ -17,7 +17,7 @@ use Rattle.std.proofs.lemmas.Map.Made.{length-le_from_is_member}
 use Rattle.std.proofs.lemmas.Option.{unwrap_or-slice_get}
 use Rattle.clap.specs.Words.{Text}
 use Rattle.date_texts.specs.Calendars.{target_name}
-use Rattle.command_lines.specs.Values.{IsValueOf, delimiter_option}
+use Rattle.programs.specs.Values.{IsValueOf, delimiter_option}
 use Rattle.date_texts.specs.declared.calendar.Calendar.TheVariants as calendar
 use Rattle.date_texts.specs.declared.target.Target.{Target}
 use Rattle.date_texts.specs.declared.target.Target.TheVariants as target

@@ -4,7 +4,7 @@ use Rattle.std.specs.Prelude.{None, Some}
 use Rattle.std.specs.Io.KnownBytes.{Appends}
 use Rattle.std.specs.declared.io.traits.Read as reads
 use Rattle.clap.specs.Words.{Text}
-use Rattle.command_lines.specs.Meanings.{help, version, work}
+use Rattle.programs.specs.Meanings.{help, version, work}
 use Rattle.register_records.specs.declared.outputs.Output as outputs
 use Rattle.register_sheets.specs.declared.name_lists.NameLine.{NameLine}
 use Rattle.sheet_arguments.specs.Requests.{MeanJust, Task}

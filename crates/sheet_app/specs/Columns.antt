@@ -2,7 +2,7 @@
 use Rattle.std.specs.Prelude.{◌≡◌, ◌≢◌, ◌≤◌, ◌<◌, ◌+◌, ◌^◌, ◌⊎◌, ⊤, ℕ, Contains, List, [], Option, None, Some, get_or, length}
 use Rattle.std.specs.Prelude.{◌==◌, ◌&&◌, Bool, false, is_some, slice_get, true}
 use Rattle.clap.specs.Words.{Text}
-use Rattle.command_lines.specs.Values.{IsNumberWord}
+use Rattle.programs.specs.Values.{IsNumberWord}
 use Rattle.register_records.specs.Entries.{Fields}
 use Rattle.register_sheets.specs.declared.choices.CalendarColumn.{CalendarColumn}
 use Rattle.register_sheets.specs.declared.choices.CalendarField.{CalendarField}

@@ -4,9 +4,9 @@ use Rattle.std.specs.Prelude.{length, map, not}
 use Rattle.std.specs.Fmt.{decimal}
 use Rattle.std.specs.List.{AllZip, range_with_len}
 use Rattle.clap.specs.Words.{Text}
-use Rattle.register_files.specs.Openings.{IsNewlyMade}
-use Rattle.register_files.specs.OutputNames.{AreTwoOutputs, IsApartFrom}
-use Rattle.register_files.specs.Places.{place_name}
+use Rattle.programs.specs.Openings.{IsNewlyMade}
+use Rattle.programs.specs.OutputNames.{AreTwoOutputs, IsApartFrom}
+use Rattle.programs.specs.Places.{place_name}
 use Rattle.register_records.specs.declared.outputs.Output as outputs
 use Rattle.register_sheets.specs.declared.choices.Spans.{Spans}
 use Rattle.register_sheets.specs.declared.choices.Spans.TheVariants as spans

@@ -3,7 +3,7 @@ use Rattle.std.specs.Prelude.{◌≡◌, ◌++◌, ◌⊎◌, ⊤, ℕ, Contains
 use Rattle.std.specs.Fmt.{decimal}
 use Rattle.std.specs.String.{string_bytes}
 use Rattle.clap.specs.Words.{Text}
-use Rattle.command_lines.specs.Meanings.{work}
+use Rattle.programs.specs.Meanings.{work}
 use Rattle.register_sheets.specs.declared.name_lists.NameListFault.{NameListFault}
 use Rattle.register_sheets.specs.declared.name_lists.NameListFault.TheVariants as list_fault
 use Rattle.sheet_arguments.specs.Faults.{error_line, fault_of_error, memory_line, program_line, status_of_fault}

@@ -10,8 +10,8 @@ ghost use Rattle.sheet_app.specs.Columns.{IsForWord, IsIdField, IsItsOwn, IsMiss
 ghost use Rattle.sheet_app.specs.Columns.{SaysElse};
 
 use crate::calendar_words::calendar_by;
-use command_lines::number_named;
 use csv::ByteRecord;
+use programs::number_named;
 use register_sheets::{CalendarColumn, CalendarField, DateColumn, IdField, NameList, field_at};
 use sheet_arguments::{CalendarsAsked, Job};
 use std::alloc::{AllocError, Global};

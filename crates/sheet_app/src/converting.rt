@@ -3,7 +3,7 @@
 ghost use Rattle.std.specs.Prelude.{◌≡◌, ◌≤◌, ◌↔◌, [], All, true, vec_capacity, vec_len};
 ghost use Rattle.std.specs.Prelude.{map};
 ghost use Rattle.std.specs.List.{AllZip};
-ghost use Rattle.register_files.specs.Places.{place_name};
+ghost use Rattle.programs.specs.Places.{place_name};
 ghost use Rattle.sheet_arguments.specs.Requests.{task_of};
 ghost use Rattle.sheet_arguments.specs.ThreeColumns.{words_seen};
 ghost use Rattle.sheet_app.specs.EndedSheets.{AreReported, IsConverted, IsEndOf, IsUnread, ended_lines, ended_name};
@@ -18,7 +18,7 @@ use crate::reports::{report_names, report_sheet};
 use crate::sheet_faults::SheetFault;
 use crate::sheets::{SheetDone, convert_text};
 use crate::tree_texts::sheet_of;
-use register_files::{FileStore, Place};
+use programs::{FileStore, Place};
 use register_records::Output;
 use register_sheets::NameList;
 use sheet_arguments::{Job, ThreeColumns};

@@ -4,8 +4,8 @@ ghost use Rattle.std.specs.Prelude.{◌≡◌, ◌++◌, ◌∷◌, [], All, All
 ghost use Rattle.std.specs.Prelude.{codes, option_map};
 ghost use Rattle.std.specs.List.{AllZip, range_with_len};
 ghost use Rattle.std.specs.String.{string_bytes};
-ghost use Rattle.register_files.specs.OutputNames.{AreTwoOutputs, IsApartFrom};
-ghost use Rattle.register_files.specs.Places.{place_name};
+ghost use Rattle.programs.specs.OutputNames.{AreTwoOutputs, IsApartFrom};
+ghost use Rattle.programs.specs.Places.{place_name};
 ghost use Rattle.sheet_arguments.specs.Requests.{task_of};
 ghost use Rattle.sheet_app.specs.FileSheets.{AreApartOutputs, IsMadeFor, IsNewSheet, IsNoInput, ending_of, names_ending};
 ghost use Rattle.sheet_app.specs.FileSheets.{endings_by as endings_spec, part_endings, register_ending};
@@ -14,7 +14,7 @@ ghost use Rattle.sheet_app.specs.ProgramFaults.{IsFaultOfFiles};
 ghost use Rattle.sheet_app.specs.SheetViews.{IsOfInputs, IsOfOutputs};
 
 use itoa::Buffer;
-use register_files::{FileStore, Place, is_of_output, share_file};
+use programs::{FileStore, Place, is_of_output, share_file};
 use register_records::Output;
 use register_sheets::Spans;
 use sheet_arguments::Job;

@@ -16,6 +16,6 @@ mod sheet_faults;
 mod sheets;
 mod tree_texts;
 
-pub use command_lines::{COMPLETE, INCOMPLETE};
 pub use converting::EndedSheet;
 pub use program::{Outcome, answer};
+pub use programs::{COMPLETE, INCOMPLETE};

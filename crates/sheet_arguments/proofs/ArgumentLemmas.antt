@@ -1,11 +1,11 @@
--- What the arguments of this program mean is one thing: what `MeaningLemmas` of `command_lines` wants to be shown.
+-- What the arguments of this program mean is one thing: what `MeaningLemmas` of `programs` wants to be shown.
 use Rattle.std.proofs.Common.{◌≡◌, ◌∙◌, Bool, true≢false, List, [], ◌∷◌, sym, rules, Result, Ok, Err}
 use Rattle.clap.specs.Words.{IsAmong, Text, fault_of}
 use Rattle.clap.specs.declared.error.kind.ErrorKind.{ErrorKind}
-use Rattle.command_lines.specs.Values.{delimiter_option}
-use Rattle.command_lines.proofs.KindLemmas.{lone_app, one_of}
-use Rattle.command_lines.proofs.MeaningLemmas.{AllPass, AreSound, IsClear, IsSound, one_asked, one_byte, sound_files}
-use Rattle.command_lines.proofs.MeaningLemmas.{sound_option}
+use Rattle.programs.specs.Values.{delimiter_option}
+use Rattle.programs.proofs.KindLemmas.{lone_app, one_of}
+use Rattle.programs.proofs.MeaningLemmas.{AllPass, AreSound, IsClear, IsSound, one_asked, one_byte, sound_files}
+use Rattle.programs.proofs.MeaningLemmas.{sound_option}
 use Rattle.sheet_arguments.specs.CommandLine.{Values, command_line, values_of}
 use Rattle.sheet_arguments.specs.Faults.{Fault, tree_at_odds}
 use Rattle.sheet_arguments.specs.OptionValues.{order_option, other_word, short_hebrew_option, short_option, skip_option}

@@ -1,8 +1,8 @@
 -- Checks in order, one list of them behind another.
 use Rattle.std.proofs.Common.{◌≡◌, ◌++◌, List, [], ◌∷◌, inl, inr, Err, IfErr, IfSome, IsErrAnd, IsSomeAnd, Ok, Result}
 use Rattle.clap.proofs.TakesLemmas.{passed_up}
-use Rattle.command_lines.proofs.MeaningLemmas.{AllPass, found_first, if_some}
-use Rattle.command_lines.specs.Meanings.{Check, FailFirst}
+use Rattle.programs.proofs.MeaningLemmas.{AllPass, found_first, if_some}
+use Rattle.programs.specs.Meanings.{Check, FailFirst}
 use Rattle.sheet_arguments.specs.Faults.{Fault, fault_of_error}
 use Rattle.sheet_arguments.specs.declared.request_faults.RequestFault.{RequestFault}
 

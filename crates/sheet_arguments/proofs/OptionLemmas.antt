@@ -2,8 +2,8 @@
 use Rattle.std.proofs.Common.{rules, ◌≡◌, ◌≢◌, ◌↔◌, ◌∙◌, ◌+◌, ◌%◌, ℕ, codes, arith, ap, inl, inr, refl, subst, sym}
 use Rattle.std.proofs.Common.{Option, None, Some}
 use Rattle.clap.specs.Words.{Text}
-use Rattle.command_lines.specs.Values.{IsNumberWord, ValueOption}
-use Rattle.command_lines.proofs.MeaningLemmas.{NamesOne, one_number}
+use Rattle.programs.specs.Values.{IsNumberWord, ValueOption}
+use Rattle.programs.proofs.MeaningLemmas.{NamesOne, one_number}
 use Rattle.std.specs.Str.Parse.{IsNumeral, digits_value}
 use Rattle.written_dates.specs.declared.rules.Order.{Order}
 use Rattle.written_dates.specs.declared.rules.Order.TheVariants.{YearFirst, DayFirst, MonthFirst}

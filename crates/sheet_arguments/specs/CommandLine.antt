@@ -1,7 +1,7 @@
 -- The command line: its options, and the values that arguments give to them.
 use Rattle.std.specs.Prelude.{List, [], ◌∷◌, Bool, codes, fold, Option, unwrap_or}
 use Rattle.clap.specs.Words.{App, Row, Rule, Text, all_of, first_of, one_of, with_rule}
-use Rattle.command_lines.specs.Rules.{bare_command, files_rule, flag_rule, is_set, option_rule, repeated_rule}
+use Rattle.programs.specs.Rules.{bare_command, files_rule, flag_rule, is_set, option_rule, repeated_rule}
 
 -- the rules of the arguments: four options as often as wanted, ten with a value each, seven flags, and files
 abbrev pub argument_rules : List Rule

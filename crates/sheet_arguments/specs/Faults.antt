@@ -3,8 +3,8 @@ use Rattle.std.specs.Prelude.{◌++◌, ◌∷◌, ℕ, List, [], codes, Option,
 use Rattle.std.specs.Option.{option_map_or}
 use Rattle.clap.specs.Values.{kind_of}
 use Rattle.clap.specs.declared.error.kind.ErrorKind.{ErrorKind}
-use Rattle.command_lines.specs.declared.files.FilesFault.{FilesFault}
-use Rattle.command_lines.specs.declared.files.FilesFault.TheVariants as files_fault
+use Rattle.programs.specs.declared.files.FilesFault.{FilesFault}
+use Rattle.programs.specs.declared.files.FilesFault.TheVariants as files_fault
 use Rattle.register_sheets.specs.Headings.{asked_name}
 use Rattle.register_sheets.specs.declared.choices.AskedColumn.{AskedColumn}
 use Rattle.sheet_arguments.specs.declared.request_faults.RequestFault.{RequestFault}

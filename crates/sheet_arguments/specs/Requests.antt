@@ -2,10 +2,10 @@
 use Rattle.std.specs.Prelude.{◌≡◌, ◌==◌, ◌||◌, ◌&&◌, ℕ, Bool, true, false, List, [], ◌∷◌, length, map, nat_lt, not}
 use Rattle.std.specs.Prelude.{if◌then◌else◌, Option, is_some, option_map, Result, Ok, Err}
 use Rattle.clap.specs.Words.{Text}
-use Rattle.command_lines.specs.FileLists.{AreFilesToConvert}
-use Rattle.command_lines.specs.Meanings as lines
-use Rattle.command_lines.specs.Meanings.{Check, CommandLine, Meaning, file_check, help, option_check, version, work}
-use Rattle.command_lines.specs.Values.{IsValueOf, delimiter_option}
+use Rattle.programs.specs.FileLists.{AreFilesToConvert}
+use Rattle.programs.specs.Meanings as lines
+use Rattle.programs.specs.Meanings.{Check, CommandLine, Meaning, file_check, help, option_check, version, work}
+use Rattle.programs.specs.Values.{IsValueOf, delimiter_option}
 use Rattle.register_sheets.specs.Choices.{date_limit}
 use Rattle.register_sheets.specs.declared.choices.AskedColumn.{AskedColumn}
 use Rattle.register_sheets.specs.declared.choices.Spans.{Spans}

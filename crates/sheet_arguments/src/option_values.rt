@@ -2,15 +2,15 @@
 
 ghost use Rattle.std.specs.Prelude.{◌≡◌, ◌↔◌, ◌%◌, ℕ, IfErr, IfOk, IsSomeAnd, Some, option_map, true};
 ghost use Rattle.std.specs.Str.{str_to_ascii_lowercase};
-ghost use Rattle.command_lines.specs.Meanings.{option_check};
-ghost use Rattle.command_lines.specs.Values.{IsNumberWord, IsValueOf, byte_of, delimiter_option};
+ghost use Rattle.programs.specs.Meanings.{option_check};
+ghost use Rattle.programs.specs.Values.{IsNumberWord, IsValueOf, byte_of, delimiter_option};
 ghost use Rattle.sheet_arguments.specs.Faults.{bad_short_hebrew_years, bad_short_other_years, bad_short_years};
 ghost use Rattle.sheet_arguments.specs.Faults.{bad_skip, fault_of_error, unknown_delimiter, unknown_order};
 ghost use Rattle.sheet_arguments.specs.OptionValues.{order_number, order_option, other_word as other_spec};
 ghost use Rattle.sheet_arguments.specs.OptionValues.{short_hebrew_option, short_number, short_option, skip_option};
 
 use crate::request_faults::RequestFault;
-use command_lines::{Delimiter, OptionValue, chosen, number_named};
+use programs::{Delimiter, OptionValue, chosen, number_named};
 use written_dates::{Order, Short};
 
 /// The last century that may be added to short years.

@@ -5,7 +5,7 @@ ghost use Rattle.std.specs.String.{string_bytes};
 ghost use Rattle.register_sheets.specs.Headings.{asked_name};
 ghost use Rattle.sheet_arguments.specs.Faults.{program_line};
 
-use command_lines::FilesFault;
+use programs::FilesFault;
 use register_sheets::AskedColumn;
 use std::alloc::{AllocError, Global};
 

@@ -3,8 +3,8 @@
 ghost use Rattle.std.specs.Prelude.{⊤};
 
 use crate::tests::helpers::{Heard, NoFiles, ONE_RECORD, ONE_ROW, hear};
+use programs::{FileStore, LoggedWriter, Place};
 use register_arguments::HELP;
-use register_files::{FileStore, LoggedWriter, Place};
 use register_records::PlainOutput;
 use std::alloc::{AllocError, Global};
 use std::io;

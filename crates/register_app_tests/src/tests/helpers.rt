@@ -1,10 +1,10 @@
 //! What the tests share: the arguments of a command line, and the program's answer to them over memory.
 
 ghost use Rattle.std.specs.Prelude.{◌≡◌, [], ⊤, false};
-ghost use Rattle.register_files.specs.LoggedWriters.{logged_bytes};
+ghost use Rattle.programs.specs.LoggedWriters.{logged_bytes};
 
+use programs::{FileStore, LoggedWriter, Place};
 use register_app::{Outcome, answer};
-use register_files::{FileStore, LoggedWriter, Place};
 use register_records::{Output, PlainOutput};
 use std::alloc::{AllocError, Global};
 use std::io;

@@ -1,7 +1,7 @@
 //! Lines that go to a terminal, and the same lines elsewhere.
 
 use crate::tests::helpers::{NoFiles, ONE_RECORD, hear};
-use register_files::Lines;
+use programs::Lines;
 use std::alloc::Global;
 use std::io;
 use std::io::{ErrorKind, Write};

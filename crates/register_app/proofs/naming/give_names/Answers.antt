@@ -1,8 +1,8 @@
 -- Each turn names the next table, or reports it.
 use Rattle.std.proofs.Common.{◌≡◌, ◌∙◌, ap, arith, get_or, map, refl, rules, slice_get, Some, sym}
 use Rattle.std.proofs.lemmas.List.{length-map}
-use Rattle.register_files.specs.Places.{place_name}
-use Rattle.register_files.proofs.MatchLemmas.{value_at}
+use Rattle.programs.specs.Places.{place_name}
+use Rattle.programs.proofs.MatchLemmas.{value_at}
 use Rattle.register_app.proofs.NamingLemmas.{all_so_far, none_yet, one_named, one_unnamed}
 use Rattle.register_app.proofs.naming.give_names.Goals as goal
 use Rattle.register_app.proofs.naming.give_names.Goals.{then-not-give_name, else-not-give_name}

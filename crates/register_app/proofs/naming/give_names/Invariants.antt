@@ -1,5 +1,5 @@
 use Rattle.std.proofs.Common.{◌≡◌, map}
-use Rattle.register_files.specs.Places.{place_name}
+use Rattle.programs.specs.Places.{place_name}
 use Rattle.register_app.proofs.NamingLemmas.{AreNamedSoFar}
 use Rattle.register_app.proofs.naming.give_names.Given as goal
 

@@ -2,7 +2,7 @@
 use Rattle.std.proofs.Common.{◌≤◌, ◌⊎◌, ◌≡◌, ◌≢◌, ℕ, rules, arith, inl, inr, map, ap, length, refl, []}
 use Rattle.std.proofs.lemmas.List.{length-map, nil_from_length}
 use Rattle.std.specs.String.{string_bytes}
-use Rattle.command_lines.specs.Meanings.{help, version, work}
+use Rattle.programs.specs.Meanings.{help, version, work}
 use Rattle.register_arguments.specs.Requests.{MeanJust, task_of}
 use Rattle.register_arguments.specs.Faults.{fault_of_error}
 use Rattle.register_app.specs.Answers.{version_line}

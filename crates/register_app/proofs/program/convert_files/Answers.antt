@@ -1,10 +1,10 @@
 -- A run that did not begin hands the outputs back as they were made.
 use Rattle.std.proofs.Common.{rules, ◌≢◌, ℕ, List, map, subst}
-use Rattle.command_lines.specs.Meanings.{work}
+use Rattle.programs.specs.Meanings.{work}
 use Rattle.register_arguments.specs.Requests.{MeanJust, Task, task_of}
-use Rattle.register_files.specs.Openings.{IsOfFiles}
-use Rattle.register_files.specs.declared.opening.FileFault.{FileFault}
-use Rattle.register_files.specs.declared.opening.FileFault.TheVariants.{OutOfMemory}
+use Rattle.programs.specs.Openings.{IsOfFiles}
+use Rattle.programs.specs.declared.opening.FileFault.{FileFault}
+use Rattle.programs.specs.declared.opening.FileFault.TheVariants.{OutOfMemory}
 use Rattle.register_app.specs.ProgramFaults.{IsOfAsked}
 use Rattle.register_app.specs.declared.program_faults.ProgramFault.TheVariants as program_fault
 use Rattle.register_app.proofs.program.convert_files.Goals as goal

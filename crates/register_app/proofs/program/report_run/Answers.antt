@@ -1,7 +1,7 @@
 -- Where all is whole and no summary is asked for, there are no lines.
 use Rattle.std.proofs.Common.{rules, arith}
 use Rattle.register_app.proofs.ReportLemmas.{no_lines}
-use Rattle.register_files.proofs.AppendsLemmas.{appends_none}
+use Rattle.programs.proofs.AppendsLemmas.{appends_none}
 use Rattle.register_app.proofs.program.report_run.Goals as goal
 
 pub returns-else-summary-clause-lines : goal.returns-else-summary-clause-lines

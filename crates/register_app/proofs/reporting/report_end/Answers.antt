@@ -1,6 +1,6 @@
 -- A line that was written while standard error had not failed.
 use Rattle.std.proofs.Common.{◌≡◌, rules, true, is_ok, Result, Ok, Err, OnOk}
-use Rattle.register_files.proofs.AppendsLemmas.{appends_none}
+use Rattle.programs.proofs.AppendsLemmas.{appends_none}
 use Rattle.register_app.proofs.reporting.report_end.Goals as goal
 
 on_ok : {A B : Type 0} (r : Result A B) (P : Type 0) → OnOk r P → is_ok r ≡ true → P

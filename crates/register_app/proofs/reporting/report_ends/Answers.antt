@@ -3,7 +3,7 @@ use Rattle.std.proofs.Common.{◌∙◌, ◌+◌, ◌++◌, [], ap, refl, subst}
 use Rattle.std.specs.Io.KnownBytes.{Appends}
 use Rattle.register_app.specs.Reports.{line_of_end}
 use Rattle.register_app.proofs.ReportLemmas.{lines_end, lines_more}
-use Rattle.register_files.proofs.AppendsLemmas.{appends_both, appends_none}
+use Rattle.programs.proofs.AppendsLemmas.{appends_both, appends_none}
 use Rattle.register_app.proofs.reporting.report_ends.Goals as goal
 
 pub ends-init : goal.ends-init

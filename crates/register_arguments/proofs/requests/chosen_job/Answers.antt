@@ -2,8 +2,8 @@
 use Rattle.std.proofs.Common.{rules, arith, ap, ◌≡◌, ◌∙◌, refl, Result, IfErr, IfSome, IsErrAnd, IsSomeAnd}
 use Rattle.clap.proofs.TakesLemmas.{passed_up}
 use Rattle.register_records.specs.Records.{has_notes}
-use Rattle.command_lines.proofs.MeaningLemmas.{found_first, if_some}
-use Rattle.command_lines.specs.Meanings.{FailFirst}
+use Rattle.programs.proofs.MeaningLemmas.{found_first, if_some}
+use Rattle.programs.specs.Meanings.{FailFirst}
 use Rattle.register_arguments.specs.CommandLine.{Values}
 use Rattle.register_arguments.specs.Faults.{Fault, fault_of_error}
 use Rattle.register_arguments.specs.Requests.{value_checks}

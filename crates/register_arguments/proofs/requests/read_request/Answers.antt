@@ -2,8 +2,8 @@
 use Rattle.std.proofs.Common.{◌∙◌, sym, subst, map, inr, IfSome}
 use Rattle.std.specs.String.{string_bytes}
 use Rattle.clap.proofs.TakesLemmas.{passed_up}
-use Rattle.command_lines.specs.Meanings.{FailFirst, MeanJust, help, version, work, wrong}
-use Rattle.command_lines.proofs.MeaningLemmas.{found_just, is_among, mean_just, misuses}
+use Rattle.programs.specs.Meanings.{FailFirst, MeanJust, help, version, work, wrong}
+use Rattle.programs.proofs.MeaningLemmas.{found_just, is_among, mean_just, misuses}
 use Rattle.register_arguments.specs.CommandLine.{Values}
 use Rattle.register_arguments.specs.Faults.{fault_of_error, usage}
 use Rattle.register_arguments.specs.Requests.{Ask, register_line, task_of, value_checks, values_by}

@@ -1,6 +1,6 @@
 use Rattle.std.proofs.Common.{◌≡◌, ap, arith, get_or, List, ℕ, rules, subst}
-use Rattle.register_files.specs.OutputNames.{AreTwoOutputs}
-use Rattle.register_files.specs.Places.{place_name}
+use Rattle.programs.specs.OutputNames.{AreTwoOutputs}
+use Rattle.programs.specs.Places.{place_name}
 use Rattle.sheet_app.proofs.NameLemmas.{all_values, each_value}
 use Rattle.sheet_app.proofs.file_sheets.is_taken.Goals as goal
 

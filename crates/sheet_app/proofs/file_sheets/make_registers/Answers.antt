@@ -2,7 +2,7 @@ use Rattle.std.proofs.Common.{◌≡◌, ◌∙◌, ◌++◌, ◌∷◌, [], ℕ
 use Rattle.std.specs.List.{AllZip}
 use Rattle.std.specs.String.{string_bytes}
 use Rattle.std.proofs.lemmas.List.{take_all}
-use Rattle.register_files.specs.Places.{place_name}
+use Rattle.programs.specs.Places.{place_name}
 use Rattle.sheet_app.specs.FileSheets.{IsMadeFor}
 use Rattle.sheet_app.specs.SheetViews.{IsOfOutputs}
 use Rattle.sheet_app.proofs.FaultLemmas.{handed, of_more, of_value}

@@ -5,8 +5,8 @@ use Rattle.std.specs.String.{string_bytes}
 use Rattle.std.specs.Vec.Iter.{into_iter_items}
 use Rattle.std.proofs.lemmas.List.{nil_from_length}
 use Rattle.sheet_arguments.specs.Requests.{task_of}
-use Rattle.register_files.specs.OutputNames.{AreTwoOutputs}
-use Rattle.register_files.specs.Places.{place_name}
+use Rattle.programs.specs.OutputNames.{AreTwoOutputs}
+use Rattle.programs.specs.Places.{place_name}
 use Rattle.sheet_app.specs.FileSheets.{IsNewSheet, ending_of, names_ending, sheet_name, source_name}
 use Rattle.sheet_app.specs.declared.file_sheets.FileSheet.{FileSheet}
 use Rattle.sheet_app.specs.declared.file_sheets.OpenedFile.{OpenedFile}

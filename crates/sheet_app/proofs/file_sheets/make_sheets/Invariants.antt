@@ -3,8 +3,8 @@ use Rattle.std.specs.Prelude.{AllPairs, flat_map}
 use Rattle.std.specs.String.{string_bytes}
 use Rattle.std.specs.Vec.Iter.{into_iter_items}
 use Rattle.sheet_arguments.specs.Requests.{task_of}
-use Rattle.register_files.specs.OutputNames.{AreTwoOutputs}
-use Rattle.register_files.specs.Places.{place_name}
+use Rattle.programs.specs.OutputNames.{AreTwoOutputs}
+use Rattle.programs.specs.Places.{place_name}
 use Rattle.sheet_app.specs.FileSheets.{IsNewSheet, ending_of, names_ending, sheet_name, source_name}
 use Rattle.sheet_app.proofs.file_sheets.make_sheets.Given as goal
 

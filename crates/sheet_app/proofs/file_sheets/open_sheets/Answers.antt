@@ -4,7 +4,7 @@ use Rattle.std.specs.Borrow.{Bor}
 use Rattle.std.specs.Prelude.{AllPairs, IfOk, flat_map}
 use Rattle.std.specs.String.{string_bytes}
 use Rattle.sheet_arguments.specs.Requests.{Task, task_of}
-use Rattle.register_files.specs.OutputNames.{AreTwoOutputs}
+use Rattle.programs.specs.OutputNames.{AreTwoOutputs}
 use Rattle.sheet_app.specs.FileSheets.{IsNewSheet, IsNoInput, ending_of, names_ending, outputs_of, register_endings}
 use Rattle.sheet_app.specs.FileSheets.{source_name}
 use Rattle.sheet_app.specs.ProgramFaults.{IsFaultOfFiles}

@@ -2,7 +2,7 @@
 use Rattle.std.proofs.Common.{◌≤◌, ◌⊎◌, ◌≡◌, ℕ, rules, arith, inl, inr, map, refl, subst}
 use Rattle.std.specs.String.{string_bytes}
 use Rattle.clap.specs.Words.{matches_of}
-use Rattle.command_lines.specs.Meanings.{help, version, work}
+use Rattle.programs.specs.Meanings.{help, version, work}
 use Rattle.sheet_arguments.specs.CommandLine.{command_line, values_of}
 use Rattle.sheet_arguments.specs.Requests.{MeanJust, meaning_of, task_of}
 use Rattle.sheet_arguments.specs.TreeValues.{meant}

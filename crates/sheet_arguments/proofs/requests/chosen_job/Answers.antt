@@ -1,7 +1,7 @@
 -- What the options mean.
 use Rattle.std.proofs.Common.{drop, inl, inr, refl, take}
-use Rattle.command_lines.proofs.MeaningLemmas.{AllPass}
-use Rattle.command_lines.specs.Meanings.{FailFirst}
+use Rattle.programs.proofs.MeaningLemmas.{AllPass}
+use Rattle.programs.specs.Meanings.{FailFirst}
 use Rattle.sheet_arguments.specs.CommandLine.{Values}
 use Rattle.sheet_arguments.specs.Faults.{Fault}
 use Rattle.sheet_arguments.specs.Requests.{AreSaidBy, FewDates, output_checks, result_check, value_checks, values_by}

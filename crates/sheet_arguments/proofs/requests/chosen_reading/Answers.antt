@@ -1,7 +1,7 @@
 -- Each word says something, or the first that does not is the fault.
 use Rattle.std.proofs.Common.{inl, inr, option_map}
-use Rattle.command_lines.specs.Meanings.{FailFirst, option_check}
-use Rattle.command_lines.specs.Values.{delimiter_option}
+use Rattle.programs.specs.Meanings.{FailFirst, option_check}
+use Rattle.programs.specs.Values.{delimiter_option}
 use Rattle.sheet_arguments.specs.Faults.{Fault, bad_short_hebrew_years, bad_short_other_years, bad_short_years}
 use Rattle.sheet_arguments.specs.Faults.{bad_skip, unknown_delimiter, unknown_order}
 use Rattle.sheet_arguments.specs.OptionValues.{order_option, short_hebrew_option, short_option, skip_option}

@@ -1,7 +1,7 @@
 -- What is wrong with what is meant is wrong with what is given, since that passed the check before.
 use Rattle.std.proofs.Common.{◌≡◌, ◌∙◌, subst, sym}
 use Rattle.std.specs.Prelude.{IfErr, IfSome, false}
-use Rattle.command_lines.specs.Meanings.{FailFirst}
+use Rattle.programs.specs.Meanings.{FailFirst}
 use Rattle.sheet_arguments.specs.CommandLine.{Values}
 use Rattle.sheet_arguments.specs.Faults.{fault_of_error, tree_at_odds}
 use Rattle.sheet_arguments.specs.Requests.{false_check, value_checks, values_by}

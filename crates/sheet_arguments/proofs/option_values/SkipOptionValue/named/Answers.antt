@@ -1,7 +1,7 @@
 -- The number that the word names, which is not 0.
 use Rattle.std.proofs.Common.{◌∙◌, arith, codes, inr, sym, true≢false}
 use Rattle.std.proofs.lemmas.Slice.Eq.{bytes_eq-Decides}
-use Rattle.command_lines.specs.Values.{IsNumberWord}
+use Rattle.programs.specs.Values.{IsNumberWord}
 use Rattle.sheet_arguments.specs.OptionValues.{skip_option}
 use Rattle.sheet_arguments.proofs.OptionLemmas.{names_none, names_only, never_some, no_skip, one_skip}
 use Rattle.sheet_arguments.proofs.option_values.SkipOptionValue.named.Goals as goal

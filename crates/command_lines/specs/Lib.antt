@@ -1,5 +1,0 @@
-pub mod Rules
-pub mod ArgumentRules
-pub mod Values
-pub mod FileLists
-pub mod Meanings

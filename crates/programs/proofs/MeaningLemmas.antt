@@ -1,0 +1,144 @@
+-- Arguments mean one thing at most.
+use Rattle.std.proofs.Common.{◌≡◌, ◌∙◌, List, [], ◌∷◌, sym, ap, refl, subst, arith, rules, inl, inr, Option, Some, None, ℕ}
+use Rattle.std.specs.Prelude.{◌≢◌, ⊤, IfSome, IsSomeAnd}
+use Rattle.clap.specs.Values.{kind_of}
+use Rattle.clap.specs.Words.{HasKind, IsAmong, Row, Text, fault_of, matches_of}
+use Rattle.clap.specs.declared.error.Error.{Error}
+use Rattle.clap.specs.declared.error.kind.ErrorKind.{ErrorKind}
+use Rattle.clap.specs.declared.error.kind.ErrorKind.TheVariants.{DisplayHelp, DisplayVersion, OutOfMemory}
+use Rattle.programs.specs.Meanings.{AreTaken, Check, CommandLine, FailFirst, IsFaultOf, Mean, MeanJust, Meaning}
+use Rattle.programs.specs.Meanings.{file_check, help, option_check, usage_check, version, work, wrong}
+use Rattle.programs.specs.Values.{IsDelimiterWord, IsNumberWord, IsValueOf, ValueOption}
+use Rattle.programs.proofs.FileLemmas.{fit_no_fault, one_file_fault}
+
+-- a word names one delimiter at most
+pub one_byte : (word : Text) (byte other : ℕ) → IsDelimiterWord word byte → IsDelimiterWord word other → byte ≡ other
+one_byte word byte other is same = grind arith
+
+-- and one number
+pub one_number : (most : ℕ) (word : Text) (n other : ℕ) → IsNumberWord most word n → IsNumberWord most word other
+    → n ≡ other
+one_number most word n other is same = is.value ∙ sym same.value
+
+-- a word of the option names one number at most
+abbrev pub NamesOne : ValueOption → Type 0
+NamesOne option = (word : Text) (n other : ℕ) → option.names word n → option.names word other → n ≡ other
+
+pub one_asked : (option : ValueOption) → NamesOne option → (value : Option Text) (n other : ℕ) → IsValueOf option value n
+    → IsValueOf option value other → n ≡ other
+one_asked option one value n other is same = grind arith
+
+module _ {F : Type 0} where
+  -- a check finds one fault at most, and none where it passes
+  pub record IsSound (check : Check F) : Type 0 where
+    pub one : (fault other : F) → check.fails fault → check.fails other → fault ≡ other
+    pub none : (fault : F) → check.passes → check.fails fault → ⊥
+
+  abbrev pub AreSound : List (Check F) → Type 0
+  AreSound [] = ⊤
+  AreSound (check ∷ checks) = IsSound check × AreSound checks
+
+  abbrev pub AllPass : List (Check F) → Type 0
+  AllPass [] = ⊤
+  AllPass (check ∷ checks) = check.passes × AllPass checks
+
+  -- and so do checks in order
+  first_fault : (checks : List (Check F)) → AreSound checks → (fault other : F) → FailFirst checks fault
+      → FailFirst checks other → fault ≡ other
+  first_fault [] sound fault other x y = absurd x
+  first_fault (check ∷ later) sound fault other (inl x) (inl y) = sound.0.one fault other x y
+  first_fault (check ∷ later) sound fault other (inl x) (inr y) = absurd (sound.0.none fault y.0 x)
+  first_fault (check ∷ later) sound fault other (inr x) (inl y) = absurd (sound.0.none other x.0 y)
+  first_fault (check ∷ later) sound fault other (inr x) (inr y) = first_fault later sound.1 fault other x.1 y.1
+
+  no_fault : (checks : List (Check F)) → AreSound checks → AllPass checks → (fault : F) → FailFirst checks fault → ⊥
+  no_fault [] sound pass fault x = x
+  no_fault (check ∷ later) sound pass fault (inl x) = sound.0.none fault pass.0 x
+  no_fault (check ∷ later) sound pass fault (inr x) = no_fault later sound.1 pass.1 fault x.1
+
+  pub sound_option : (option : ValueOption) (fault : Text → F) (value : Option Text)
+      → IsSound (option_check option fault value)
+  sound_option option fault value = search rules
+
+  pub sound_files : (too_many : F) (file_twice : Text → F) (files : List Text)
+      → IsSound (file_check too_many file_twice files)
+  sound_files too_many file_twice files = search (rules, one_file_fault, fit_no_fault)
+
+  -- a fault that a check finds is one that the checks find
+  pub found_first : (found : Option F) (fails : F → Type 0) (checks : List (Check F)) → IfSome found fails
+      → ((fault : F) → fails fault → FailFirst checks fault) → IfSome found (FailFirst checks)
+  found_first found fails checks is first = grind arith
+
+  pub if_some : (found : Option F) (fails : F → Type 0) → IsSomeAnd found fails → IfSome found fails
+  if_some found fails is = grind arith
+
+-- what a command line has to show: arguments have one kind of fault at most, the checks are sound, and what is asked for
+-- passes them and is one thing
+pub record IsClear {T F : Type 0} (line : CommandLine T F) : Type 0 where
+  pub kinds : (arguments : List Text) (k l : ErrorKind) → IsAmong k (fault_of line.command arguments)
+      → IsAmong l (fault_of line.command arguments) → k ≡ l
+  pub sound : (found : List Row) → AreSound (line.checks found)
+  pub passes : (found : List Row) (task : T) → line.asks found task → AllPass (line.checks found)
+  pub one : (found : List Row) (task other : T) → line.asks found task → line.asks found other → task ≡ other
+
+module _ {T F : Type 0} (line : CommandLine T F) (arguments : List Text) where
+  module _ (clear : IsClear line) where
+    not_taken : (kind : ErrorKind) → AreTaken line arguments → IsAmong kind (fault_of line.command arguments) → ⊥
+    not_taken kind taken among = subst (IsAmong kind) taken among
+
+    sound_usage : IsSound (usage_check line arguments)
+    sound_usage = record {
+      one = λ fault other is same. is.1
+          ∙ ap line.usage (clear.kinds arguments is.0 same.0 is.2 same.2) ∙ sym same.1;
+      none = λ fault taken is. not_taken is.0 taken is.2;
+    }
+
+    all_sound : AreSound (usage_check line arguments ∷ line.checks (matches_of line.command arguments))
+    all_sound = (sound_usage, clear.sound (matches_of line.command arguments))
+
+    help_no_fault : (fault : F) → Mean line arguments help → IsFaultOf line arguments fault → ⊥
+    help_no_fault fault asks (inl is) = is.3 (clear.kinds arguments is.0 DisplayHelp is.2 asks)
+    help_no_fault fault asks (inr is) = not_taken DisplayHelp is.0 asks
+
+    version_no_fault : (fault : F) → Mean line arguments version → IsFaultOf line arguments fault → ⊥
+    version_no_fault fault asks (inl is) = is.4 (clear.kinds arguments is.0 DisplayVersion is.2 asks)
+    version_no_fault fault asks (inr is) = not_taken DisplayVersion is.0 asks
+
+    help_no_version : Mean line arguments help → Mean line arguments version → ⊥
+    help_no_version asks other =
+        let same : DisplayHelp ≡ DisplayVersion = clear.kinds arguments DisplayHelp DisplayVersion asks other in cc
+
+    work_no_fault : (task : T) (fault : F) → Mean line arguments (work task) → ¬ IsFaultOf line arguments fault
+    work_no_fault task fault asks = grind (arith, no_fault, all_sound)
+
+    one_meaning : (meaning other : Meaning T F) → Mean line arguments meaning → Mean line arguments other
+        → other ≡ meaning
+    one_meaning help help x y = refl
+    one_meaning version version x y = refl
+    one_meaning (work task) (work other) x y = grind arith
+    one_meaning (wrong fault) (wrong other) x y =
+        ap (λ f. wrong f)
+        (first_fault (usage_check line arguments ∷ line.checks (matches_of line.command arguments)) all_sound other fault y x)
+    one_meaning meaning other x y =
+        absurd (search (rules, help_no_version, not_taken, help_no_fault, version_no_fault, work_no_fault))
+
+    -- what the arguments mean is all that they mean
+    pub mean_just : (meaning : Meaning T F) → Mean line arguments meaning → MeanJust line arguments meaning
+    mean_just meaning means other = grind (arith, one_meaning)
+
+    -- a fault that a check finds is all that the arguments mean
+    pub found_just : (found : Option F) (fails : F → Type 0) → IfSome found fails
+        → ((fault : F) → fails fault → IsFaultOf line arguments fault)
+        → IfSome found (λ fault. MeanJust line arguments (wrong fault))
+    found_just None fails is first = tt
+    found_just (Some fault) fails is first = mean_just (wrong fault) (first fault is)
+
+  -- the kind of an error, unless memory ran out, is one that the arguments have
+  pub is_among : (error : Error) (kind : ErrorKind) → HasKind (fault_of line.command arguments) error
+      → kind_of error ≡ kind → kind ≢ OutOfMemory → IsAmong kind (fault_of line.command arguments)
+  is_among error kind has is other = grind arith
+
+  pub misuses : (error : Error) → HasKind (fault_of line.command arguments) error → kind_of error ≢ OutOfMemory
+      → kind_of error ≢ DisplayHelp → kind_of error ≢ DisplayVersion
+      → IsFaultOf line arguments (line.usage (kind_of error))
+  misuses error has memory helps versions = grind arith

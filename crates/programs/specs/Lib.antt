@@ -1,0 +1,10 @@
+pub mod Rules
+pub mod ArgumentRules
+pub mod Values
+pub mod FileLists
+pub mod Meanings
+pub mod OutputNames
+pub mod Places
+pub mod Openings
+pub mod Sides
+pub mod LoggedWriters

@@ -1,0 +1,134 @@
+//! The arguments of a command line, as clap takes them, and what it finds of them.
+
+ghost use Rattle.std.specs.Prelude.{◌≡◌, IfOk, fold, map, option_map, unwrap_or, [], false};
+ghost use Rattle.clap.specs.Words.{all_of, app_of, first_of, found_of, one_of, rows_of, rule_of};
+ghost use Rattle.programs.specs.Rules.{bare_command, files_rule, flag_rule, is_set, option_rule, repeated_rule};
+ghost use Rattle.programs.specs.ArgumentRules.{rule_by, with_argument};
+
+use clap::{Arg, ArgAction, ArgMatches, Command};
+use std::alloc::{AllocError, Global};
+
+/// An option that takes a value, which the page of usage calls `value`.
+pub fn option<'a>(alloc: Global, name: &'a str, value: &'a str) -> Arg<'a>
+    ensures rule { rule_of result ≡ option_rule name.entry.now }
+    ensures local { result.global ≡ false }
+{
+    Arg::new(alloc, name).long(name).value_name(value)
+}
+
+/// The same, as often as wanted.
+pub fn repeated_option<'a>(alloc: Global, name: &'a str, value: &'a str) -> Arg<'a>
+    ensures rule { rule_of result ≡ repeated_rule name.entry.now }
+    ensures local { result.global ≡ false }
+{
+    Arg::new(alloc, name)
+        .long(name)
+        .value_name(value)
+        .action(ArgAction::Append)
+}
+
+/// A flag.
+pub fn flag<'a>(alloc: Global, name: &'a str) -> Arg<'a>
+    ensures rule { rule_of result ≡ flag_rule name.entry.now }
+    ensures local { result.global ≡ false }
+{
+    Arg::new(alloc, name).long(name).action(ArgAction::SetTrue)
+}
+
+/// The arguments that are no options, as many as there are.
+pub fn files_argument<'a>(alloc: Global, name: &'a str, value: &'a str) -> Arg<'a>
+    ensures rule { rule_of result ≡ files_rule name.entry.now }
+    ensures local { result.global ≡ false }
+{
+    Arg::new(alloc, name)
+        .value_name(value)
+        .action(ArgAction::Append)
+}
+
+/// An argument of a command line: its name, and what the page of usage calls its value.
+#[derive(Clone, Copy)]
+pub enum Argument<'a> {
+    /// An option that takes a value.
+    Valued(&'a str, &'a str),
+    /// The same, as often as wanted.
+    Repeated(&'a str, &'a str),
+    /// A flag.
+    Flag(&'a str),
+    /// The arguments that are no options, as many as there are.
+    Files(&'a str, &'a str),
+}
+
+/// An argument, as clap takes it.
+fn made<'a>(alloc: Global, argument: Argument<'a>) -> Arg<'a>
+    ensures rule { rule_of result ≡ rule_by argument.entry }
+    ensures local { result.global ≡ false }
+{
+    match argument {
+        Argument::Valued(name, value) => option(alloc, name, value),
+        Argument::Repeated(name, value) => repeated_option(alloc, name, value),
+        Argument::Flag(name) => flag(alloc, name),
+        Argument::Files(name, value) => files_argument(alloc, name, value),
+    }
+}
+
+/// The command of this name with these arguments. A loop over them, since an exit at each cost the prover much.
+///
+/// # Errors
+///
+/// Memory ran out.
+pub fn command_with<'a>(
+    alloc: Global,
+    name: &'a str,
+    version: &'a str,
+    arguments: &[Argument<'a>],
+) -> Result<Command<'a>, AllocError>
+    ensures { IfOk result (λ c. app_of c ≡ fold with_argument (bare_command name.entry.now) arguments.now) }
+{
+    let mut whole = empty_command(alloc, name, version);
+    'arguments: for &argument in arguments {
+        whole = whole.arg(made(alloc, argument))?;
+    }
+    Ok(whole)
+}
+
+/// The command of this name with none of its arguments.
+pub fn empty_command<'a>(alloc: Global, name: &'a str, version: &'a str) -> Command<'a>
+    ensures { app_of result ≡ bare_command name.entry.now }
+{
+    Command::new(alloc, name)
+        .version(version)
+        .no_binary_name(true)
+}
+
+/// The value of an option, where the arguments give one.
+pub fn value_given<'a>(matches: &ArgMatches<'a>, name: &str) -> Option<&'a str>
+    ensures { option_map (λ v. v.now) result ≡ first_of name.now (rows_of (found_of matches.now)) }
+{
+    matches.get_str(name)
+}
+
+/// The values of a repeated option, or the files, in order, as a list to be kept.
+///
+/// # Errors
+///
+/// Memory ran out.
+pub fn values_given<'a>(
+    alloc: Global,
+    matches: &ArgMatches<'a>,
+    name: &str,
+) -> Result<Vec<&'a str>, AllocError>
+    ensures { IfOk result (λ values. map (λ v. v.now) values.items
+        ≡ unwrap_or (all_of name.now (rows_of (found_of matches.now))) []) }
+{
+    match matches.get_strs(name) {
+        Some(values) => values.to_vec(alloc),
+        None => Ok(Vec::new(alloc)),
+    }
+}
+
+/// Whether the arguments give a flag.
+pub fn is_given(matches: &ArgMatches<'_>, name: &str) -> bool
+    ensures { result ≡ is_set (one_of name.now (rows_of (found_of matches.now))) }
+{
+    matches.get_one::<bool>(name).unwrap_or(false)
+}

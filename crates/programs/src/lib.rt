@@ -1,0 +1,29 @@
+//! What the programs share: how options, flags and files are taken and found, what their words mean, that arguments mean
+//! one thing, and the statuses of what is done; what a program reads and writes: the files of a command line, the
+//! standard streams, and a log of what each output has taken.
+#![tactic(auto)]
+
+mod arguments;
+mod disk;
+mod file_store;
+mod files;
+mod logged_writer;
+mod opening;
+mod places;
+mod statuses;
+mod terminal;
+mod values;
+
+pub use arguments::{
+    Argument, command_with, empty_command, files_argument, flag, is_given, option, repeated_option,
+    value_given, values_given,
+};
+pub use disk::{Destination, Disk, Exclusive, Source};
+pub use file_store::{FileStore, is_of_output, share_file};
+pub use files::{FilesFault, MAX_FILES, check_files};
+pub use logged_writer::LoggedWriter;
+pub use opening::{FileFault, Opened, open_files, output_name};
+pub use places::Place;
+pub use statuses::{COMPLETE, INCOMPLETE};
+pub use terminal::{Lines, lines_to};
+pub use values::{Delimiter, OptionValue, chosen, number_named};

@@ -15,7 +15,7 @@ use Rattle.church_year.specs.Feasts.{IsFeastDate}
 use Rattle.church_year.proofs.FeastDateLemmas.{date_found, none_in_other}
 use Rattle.church_days.specs.Computed.{church_name, first_name, means, name_until, or_earlier}
 use Rattle.church_days.specs.DayNames.{DayName, day_names}
-use Rattle.church_days.specs.views.NameViews.{seen}
+use Rattle.church_days.specs.private.NameViews.{seen}
 use Rattle.church_days.proofs.NameLemmas.{Row, no_row}
 
 -- ---- one name

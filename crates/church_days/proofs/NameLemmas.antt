@@ -21,7 +21,7 @@ use Rattle.church_year.specs.Easter.{rules_of}
 use Rattle.church_year.specs.Feasts.{IsFeastDate}
 use Rattle.church_days.specs.DayNames.{DayName, day_names}
 use Rattle.church_days.specs.Names.{FallsOn, IsFirst, IsNameOn, nameless, named, later}
-use Rattle.church_days.specs.views.NameViews.{seen}
+use Rattle.church_days.specs.private.NameViews.{seen}
 
 nameless_all : (church : Church) (date : Ymd) (names : List DayName)
     → ((name : DayName) → ¬ FallsOn church date name) → IsFirst church date names None

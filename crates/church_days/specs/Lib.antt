@@ -4,4 +4,4 @@ pub mod Laws
 pub mod Computed
 pub mod Cells
 pub mod Texts
-pub mod views
+pub mod private

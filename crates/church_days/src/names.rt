@@ -10,7 +10,7 @@ ghost use Rattle.church_year.specs.Feasts.{IsFeastDate};
 ghost use Rattle.church_year.specs.Weekdays.{number_of};
 ghost use Rattle.church_days.specs.Computed.{church_name, first_name, means};
 ghost use Rattle.church_days.specs.Names.{IsFirst, IsNameOn};
-ghost use Rattle.church_days.specs.views.NameViews.{seen};
+ghost use Rattle.church_days.specs.private.NameViews.{seen};
 
 use crate::day_names::DAY_NAMES;
 use church_year::{Anchor, Church, Feast, Place, feast_date, number_of_weekday};

@@ -8,7 +8,7 @@ use Rattle.csv.specs.Writing.{with_delimiter}
 use Rattle.register_records.specs.Entries.{Fields}
 use Rattle.register_records.specs.Lines.{line_text}
 use Rattle.register_sheets.specs.Sheets.{records_text}
-use Rattle.date_parts.specs.views.SheetViews.{GainsRecords, Holds, writing}
+use Rattle.date_parts.specs.private.SheetViews.{GainsRecords, Holds, writing}
 use Rattle.date_parts.specs.declared.places.DatePlaces.{DatePlaces}
 use Rattle.date_parts.specs.declared.sheets.JoinedSheet.{JoinedSheet}
 use Rattle.std.proofs.lemmas.List.Concat.{flat_map-append}

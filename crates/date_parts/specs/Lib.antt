@@ -1,2 +1,2 @@
 pub mod JoinedDates
-pub mod views
+pub mod private

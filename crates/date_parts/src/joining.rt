@@ -6,7 +6,7 @@ ghost use Rattle.register_records.specs.Entries.{text_records};
 ghost use Rattle.date_parts.specs.JoinedDates.{dated_records, joined_text, with_date};
 ghost use Rattle.register_sheets.specs.Reading.{IsReading, left_of};
 ghost use Rattle.register_sheets.specs.Sheets.{records_text, widest};
-ghost use Rattle.date_parts.specs.views.SheetViews.{GainsRecords};
+ghost use Rattle.date_parts.specs.private.SheetViews.{GainsRecords};
 
 use crate::places::DatePlaces;
 use crate::sheets::JoinedSheet;

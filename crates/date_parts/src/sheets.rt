@@ -4,7 +4,7 @@ ghost use Rattle.std.specs.Prelude.{◌≡◌, ◌++◌, [], ℕ, List, IfOk, On
 ghost use Rattle.csv.specs.Records.{fields_of, partial_of};
 ghost use Rattle.date_parts.specs.JoinedDates.{heading_in, with_date, with_field};
 ghost use Rattle.register_records.specs.Lines.{line_text};
-ghost use Rattle.date_parts.specs.views.SheetViews.{GainsRecord, Holds};
+ghost use Rattle.date_parts.specs.private.SheetViews.{GainsRecord, Holds};
 
 use crate::places::{DatePlaces, write_date, write_heading};
 use csv::{ByteRecord, Writer, WriterBuilder};

@@ -14,7 +14,7 @@ use Rattle.written_dates.specs.Tokens.{Piece, tokens}
 use Rattle.written_dates.proofs.FieldLemmas.{spelled}
 use Rattle.date_spans.specs.declared.cuts.Cut.{Cut}
 use Rattle.date_spans.specs.declared.cuts.Cut.TheVariants.{Slash}
-use Rattle.date_spans.specs.views.CutViews.{is_slash_byte}
+use Rattle.date_spans.specs.private.CutViews.{is_slash_byte}
 use Rattle.date_spans.specs.Cuts.{bytes_before, bytes_behind, count_cuts, cuts, sides}
 
 pub before_here : (cut : Cut) (before : Kind) (text rest after front : List ℕ) (p : Piece)

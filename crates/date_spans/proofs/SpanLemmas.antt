@@ -15,7 +15,7 @@ use Rattle.written_dates.proofs.StoodLemmas.{stood_at_once}
 use Rattle.written_dates.proofs.TimeLemmas.{dated_before, dated_whole, read_dated, stands_dated}
 use Rattle.date_spans.specs.declared.spans.Marks.{Marks}
 use Rattle.std.specs.List.{list_any}
-use Rattle.date_spans.specs.views.CutViews.{is_slash_byte}
+use Rattle.date_spans.specs.private.CutViews.{is_slash_byte}
 use Rattle.date_spans.specs.Cuts.{unmarked}
 use Rattle.date_spans.proofs.CutLemmas.{no_sides}
 use Rattle.date_spans.specs.Laws.{DatesAreTheirOwnSpans, IsReadToday, RegisterDatesAreTheirOwnSpans, StandsToday}

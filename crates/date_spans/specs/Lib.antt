@@ -10,4 +10,4 @@ pub mod Sides
 pub mod Styles
 pub mod Spans
 pub mod Edtf
-pub mod views
+pub mod private

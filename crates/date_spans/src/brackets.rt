@@ -3,7 +3,7 @@
 ghost use Rattle.std.specs.Prelude.{◌≡◌, ◌==◌, ◌++◌, IfOk, position};
 ghost use Rattle.std.specs.List.{list_any};
 ghost use Rattle.date_spans.specs.Brackets.{bracketed as bracketed_spec, cut_at as cut_spec, is_bracket};
-ghost use Rattle.date_spans.specs.views.CutViews.{seen_parts, seen_sides};
+ghost use Rattle.date_spans.specs.private.CutViews.{seen_parts, seen_sides};
 
 use std::alloc::AllocError;
 use written_dates::without_blanks;

@@ -6,7 +6,7 @@ ghost use Rattle.written_dates.specs.Fields.{is_blank as blank_spec};
 ghost use Rattle.written_dates.specs.Signs.{bare as bare_spec, is_bar as bar_spec};
 ghost use Rattle.written_dates.specs.Tokens.{piece, tokens};
 ghost use Rattle.std.specs.List.{list_any};
-ghost use Rattle.date_spans.specs.views.CutViews.{is_slash_byte, seen_sides, seen_mark};
+ghost use Rattle.date_spans.specs.private.CutViews.{is_slash_byte, seen_sides, seen_mark};
 ghost use Rattle.date_spans.specs.Cuts.{begins_open as begins_open_spec, ends_open as ends_open_spec, is_open as open_spec};
 ghost use Rattle.date_spans.specs.Cuts.{bytes_before, bytes_behind, count_cuts as count_spec, cuts as cuts_spec};
 ghost use Rattle.date_spans.specs.Cuts.{has_slash as slash_spec, is_about_sign as about_spec, last_byte as last_spec};

@@ -8,7 +8,7 @@ ghost use Rattle.written_dates.specs.declared.meanings.Name.{Name};
 ghost use Rattle.written_dates.specs.Written.{written};
 ghost use Rattle.date_spans.specs.Sayings.{is_about as is_about_spec};
 ghost use Rattle.date_spans.specs.Spans.{AreEndsOf, IsDayOrText, IsInferred, IsPlainSpan, IsSpan, IsSpanByForm};
-ghost use Rattle.date_spans.specs.views.Spans.{IsDateAlone};
+ghost use Rattle.date_spans.specs.private.Spans.{IsDateAlone};
 ghost use Rattle.date_spans.specs.Spans.{inferred as inferred_spec};
 ghost use Rattle.date_spans.specs.Spans.{has_about as about_spec, is_known as known_spec, is_read as read_spec};
 ghost use Rattle.date_spans.specs.Spans.{as_whole as whole_spec, at_dash as dash_spec, at_slash as slash_spec};

@@ -3,7 +3,7 @@ use Rattle.std.proofs.Common.{◌≡◌, ◌≤◌, ℕ, Bool, IsTrue, List, [],
 use Rattle.std.proofs.Common.{arith, IfSome, IsSome, zero, suc, ◌+◌, ◌-◌, ◌<◌, ◌&&◌, ◌∷◌, true, length, length-append}
 use Rattle.std.proofs.Common.{IsAscii, nat_le}
 use Rattle.day_numbers.specs.Days.{IsSinceFirstDay}
-use Rattle.solar_calendars.specs.views.IsoWeekLaw.{one_week_date}
+use Rattle.solar_calendars.specs.private.IsoWeekLaw.{one_week_date}
 use Rattle.solar_calendars.specs.Laws.{OneRomanDate}
 use Rattle.maya_calendars.specs.Laws.{HaabDaysInRange, TzolkinNumbersInRange}
 use Rattle.day_numbers.specs.Numbered.{name_of_number, words}

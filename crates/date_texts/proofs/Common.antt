@@ -8,7 +8,7 @@ pub use Rattle.date_texts.specs.DateText.{IsDateText, SaysDate, canonical_text}
 pub use Rattle.date_texts.specs.Dates.{IsDateOfCalendar, calendar_of_date, day_number_of_date}
 pub use Rattle.date_texts.specs.Laws.{CellsAreShort, FewTargets, OneCell}
 pub use Rattle.date_texts.specs.LongText.{IsLongText, canonical_long}
-pub use Rattle.date_texts.specs.views.LongText.{place_row}
+pub use Rattle.date_texts.specs.private.LongText.{place_row}
 pub use Rattle.date_texts.specs.Names.{IsNamed}
 pub use Rattle.date_texts.specs.Numerals.{IsNumeral, IsYearText, canonical_year, minus, plain}
 pub use Rattle.date_texts.specs.Trimmed.{trim_start, trimmed}

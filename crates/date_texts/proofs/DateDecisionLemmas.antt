@@ -3,12 +3,12 @@
 use Rattle.std.proofs.Common.{◌≡◌, inl, inr, ℕ, zero, suc, ◌≤◌, List, [], Option, None, Some, refl, sym, subst, ap}
 use Rattle.std.proofs.Common.{arith, rules, ℤ, pos, ◌-ℤ◌, ◌+ℤ◌, unsigned_abs, ◌↔◌}
 use Rattle.day_numbers.specs.Rules.{Years, from_one, without_zero, HasYear}
-use Rattle.solar_calendars.specs.views.RomanPlaces.{HasPlace}
+use Rattle.solar_calendars.specs.private.RomanPlaces.{HasPlace}
 use Rattle.solar_calendars.specs.declared.roman_date.RomanDate.{RomanDate}
 use Rattle.solar_calendars.specs.declared.roman_date.RomanName.TheVariants.{Kalends, Nones, Ides, SecondSixth}
-use Rattle.date_texts.specs.views.CivilReading.{civil_at}
-use Rattle.date_texts.specs.views.LongReading.{long_at}
-use Rattle.date_texts.specs.views.RomanReading.{roman_at}
+use Rattle.date_texts.specs.private.CivilReading.{civil_at}
+use Rattle.date_texts.specs.private.LongReading.{long_at}
+use Rattle.date_texts.specs.private.RomanReading.{roman_at}
 use Rattle.date_texts.specs.declared.target.Target.TheVariants.{Date as DateTarget, Haab, Tzolkin}
 use Rattle.date_texts.proofs.Common.{by_rules, by_weeks, Calendar, calendar_name, calendar_of_date, canonical_text}
 use Rattle.date_texts.proofs.Common.{Civil, count_of, Date, day_number_of_date, grammar, has_two_sixths, ints, IsCell}

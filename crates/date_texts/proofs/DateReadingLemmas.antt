@@ -2,9 +2,9 @@
 use Rattle.std.proofs.Common.{◌≡◌, ℕ, List, [], ◌∷◌, ◌++◌, refl, subst, ap, ◌∙◌, ◌≤◌, arith, Some, ℤ, ◌⊎◌, inl, inr}
 use Rattle.std.proofs.Common.{rules}
 use Rattle.date_texts.specs.declared.grammar.Grammar.TheVariants.{Civil, Week}
-use Rattle.date_texts.specs.views.CivilReading.{after_week_letter, after_mark, month_at, civil_at}
+use Rattle.date_texts.specs.private.CivilReading.{after_week_letter, after_mark, month_at, civil_at}
 use Rattle.maya_calendars.specs.Places.{ArePlaces}
-use Rattle.date_texts.specs.views.LongReading.{place_at, long_at}
+use Rattle.date_texts.specs.private.LongReading.{place_at, long_at}
 use Rattle.date_texts.specs.CivilText.{capital_week, IsCivilText, IsMonthText, of_month, small_week}
 use Rattle.date_texts.proofs.Common.{Grammar, IsLongText, IsNumeral, nat_tests}
 use Rattle.date_texts.proofs.ReadingLemmas.{NoDigitFirst, Reads, bind_some, some_inside, numbers, years, numeral_below}

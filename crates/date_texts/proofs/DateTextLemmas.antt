@@ -1,10 +1,10 @@
 -- What the grammar and the canonical text say of dates.
 use Rattle.std.proofs.Common.{◌≡◌, ◌↔◌, ℕ, List, Option, Some, None, Err, ℤ, refl, sym, subst, ap, ◌∙◌}
 use Rattle.std.specs.Option.{ok_or}
-use Rattle.date_texts.specs.views.CivilReading.{civil_at}
-use Rattle.date_texts.specs.views.LongReading.{long_at}
-use Rattle.date_texts.specs.views.Reading.{◌>>=◌}
-use Rattle.date_texts.specs.views.RomanReading.{roman_at}
+use Rattle.date_texts.specs.private.CivilReading.{civil_at}
+use Rattle.date_texts.specs.private.LongReading.{long_at}
+use Rattle.date_texts.specs.private.Reading.{◌>>=◌}
+use Rattle.date_texts.specs.private.RomanReading.{roman_at}
 use Rattle.date_texts.proofs.Common.{Calendar, calendar_of_date, canonical_text, Civil, CivilDate, Date, Grammar}
 use Rattle.date_texts.proofs.Common.{grammar, IsCivil, IsDateText, Long, Longcount, props, Roman, roman_same}
 use Rattle.date_texts.proofs.Common.{RomanCalendar, RomanName, same_made, same_places, SaysDate, trimmed, Ymd, ymd_same}

@@ -8,8 +8,8 @@ use Rattle.std.proofs.lemmas.Fmt.{digits_decimal, digits_value-decimal, length-d
 use Rattle.std.proofs.lemmas.Str.Parse.{IsNumeralModel, digits_value_short, numerals_by_fold}
 use Rattle.std.proofs.Math.Nat.{pow-le-pow_right, pow-succ'}
 use Rattle.date_texts.specs.Joined.{Joined}
-use Rattle.date_texts.specs.views.Reading.{digits_at, number_at, after_byte, part_at, year_at, all_read, signed_year}
-use Rattle.date_texts.specs.views.Reading.{◌>>=◌}
+use Rattle.date_texts.specs.private.Reading.{digits_at, number_at, after_byte, part_at, year_at, all_read, signed_year}
+use Rattle.date_texts.specs.private.Reading.{◌>>=◌}
 use Rattle.std.proofs.Math.Seq.{take-length}
 use Rattle.date_texts.proofs.Common.{and_parts, canonical_year, decimal, ints, is_ascii_digit, IsBetween, IsNumeral}
 use Rattle.date_texts.proofs.Common.{IsYear, IsYearText, length-replicate, list_all, minus, nat_tests, padded, plain}

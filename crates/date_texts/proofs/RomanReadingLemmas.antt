@@ -1,7 +1,7 @@
 -- Reading finds the Roman dates that the grammar relates to a text, and nothing else.
 use Rattle.std.proofs.Common.{◌≡◌, ℕ, List, [], ◌∷◌, refl, subst, ◌≤◌, arith, Some, ℤ, true, false, codes}
 use Rattle.date_texts.specs.RomanText.{IsNameText, of_kalends, of_nones, of_ides, of_second_sixth, IsRomanText}
-use Rattle.date_texts.specs.views.RomanReading.{count_at, counted_at, name_at, roman_at}
+use Rattle.date_texts.specs.private.RomanReading.{count_at, counted_at, name_at, roman_at}
 use Rattle.std.proofs.lemmas.Slice.Eq.{bytes_eq-Decides}
 use Rattle.date_texts.proofs.Common.{and_parts, count_of, false_from_ne_true, is_ascii_digit, IsNumeral, nat_tests}
 use Rattle.date_texts.proofs.Common.{RomanName, str_eq_ignore_ascii_case, str_to_ascii_lowercase, to_ascii_lowercase}

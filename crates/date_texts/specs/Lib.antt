@@ -12,4 +12,4 @@ pub mod RomanText
 pub mod DateText
 pub mod Cells
 pub mod Laws
-pub mod views
+pub mod private

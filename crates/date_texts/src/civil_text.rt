@@ -8,10 +8,10 @@ ghost use Rattle.date_texts.specs.Calendars.{IsCivil, grammar as grammar_spec};
 ghost use Rattle.date_texts.specs.CivilText.{canonical_civil};
 ghost use Rattle.date_texts.specs.DateText.{SaysDate};
 ghost use Rattle.date_texts.specs.Buffers.{IsPut};
-ghost use Rattle.date_texts.specs.views.CivilReading.{after_week_letter as after_letter_spec};
-ghost use Rattle.date_texts.specs.views.CivilReading.{after_mark as after_mark_spec};
-ghost use Rattle.date_texts.specs.views.CivilReading.{civil_at as civil_spec};
-ghost use Rattle.date_texts.specs.views.Reading.{seen_rest};
+ghost use Rattle.date_texts.specs.private.CivilReading.{after_week_letter as after_letter_spec};
+ghost use Rattle.date_texts.specs.private.CivilReading.{after_mark as after_mark_spec};
+ghost use Rattle.date_texts.specs.private.CivilReading.{civil_at as civil_spec};
+ghost use Rattle.date_texts.specs.private.Reading.{seen_rest};
 
 use crate::buffer::put_year;
 use crate::calendar::Calendar;

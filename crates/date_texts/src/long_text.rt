@@ -7,9 +7,9 @@ ghost use Rattle.date_texts.specs.declared.calendar.Calendar.TheVariants.{Longco
 ghost use Rattle.date_texts.specs.declared.date.Date.{Date};
 ghost use Rattle.date_texts.specs.DateText.{SaysDate, canonical_text};
 ghost use Rattle.date_texts.specs.Buffers.{IsPut};
-ghost use Rattle.date_texts.specs.views.LongText.{place_row as place_row_of};
-ghost use Rattle.date_texts.specs.views.LongReading.{long_at as long_spec, place_at as place_spec};
-ghost use Rattle.date_texts.specs.views.Reading.{seen_number};
+ghost use Rattle.date_texts.specs.private.LongText.{place_row as place_row_of};
+ghost use Rattle.date_texts.specs.private.LongReading.{long_at as long_spec, place_at as place_spec};
+ghost use Rattle.date_texts.specs.private.Reading.{seen_number};
 
 use crate::date::Date;
 use crate::decimals::put_number;

@@ -2,9 +2,9 @@
 
 ghost use Rattle.std.specs.Prelude.{◌≡◌, ◌≤◌, ◌<◌, ◌+◌, ◌-◌, ◌*◌, ◌^◌, IfSome};
 ghost use Rattle.day_numbers.specs.Dates.{IsYear};
-ghost use Rattle.date_texts.specs.views.Reading.{digits_at as digits_spec, number_at as number_spec};
-ghost use Rattle.date_texts.specs.views.Reading.{year_at as year_spec};
-ghost use Rattle.date_texts.specs.views.Reading.{after_byte as after_spec, all_read, seen_number, seen_rest, seen_year};
+ghost use Rattle.date_texts.specs.private.Reading.{digits_at as digits_spec, number_at as number_spec};
+ghost use Rattle.date_texts.specs.private.Reading.{year_at as year_spec};
+ghost use Rattle.date_texts.specs.private.Reading.{after_byte as after_spec, all_read, seen_number, seen_rest, seen_year};
 
 /// The number that `number` and at most `more` digits at the front spell, and the bytes after them.
 #[inline(always)]
@@ -32,7 +32,7 @@ fn digits_at(more: u8, number: u32, bytes: &[u8]) -> (u32, &[u8])
 
 /// A number of one to `more + 1` digits at the front, and the bytes after it.
 #[inline(always)]
-#[tactic(auto, unfolding(crate::specs::views::Reading::number_at), using(crate::proofs::ReadingLemmas::digits_below))]
+#[tactic(auto, unfolding(crate::specs::private::Reading::number_at), using(crate::proofs::ReadingLemmas::digits_below))]
 pub fn number_at(more: u8, bytes: &[u8]) -> Option<(u32, &[u8])>
     requires { more ≤ 4 }
     ensures value { seen_number result ≡ number_spec more bytes.now }
@@ -48,7 +48,7 @@ pub fn number_at(more: u8, bytes: &[u8]) -> Option<(u32, &[u8])>
 
 /// The bytes after the byte `byte` at the front.
 #[inline(always)]
-#[tactic(auto, unfolding(crate::specs::views::Reading::after_byte))]
+#[tactic(auto, unfolding(crate::specs::private::Reading::after_byte))]
 pub fn after_byte(byte: u8, bytes: &[u8]) -> Option<&[u8]>
     ensures { seen_rest result ≡ after_spec byte bytes.now }
 {
@@ -60,7 +60,7 @@ pub fn after_byte(byte: u8, bytes: &[u8]) -> Option<&[u8]>
 
 /// A year at the front, and the bytes after it.
 #[inline(always)]
-#[tactic(auto, unfolding(crate::specs::views::Reading::year_at))]
+#[tactic(auto, unfolding(crate::specs::private::Reading::year_at))]
 pub fn year_at(bytes: &[u8]) -> Option<(i32, &[u8])>
     ensures value { seen_year result ≡ year_spec bytes.now }
     ensures near { IfSome result (λ r. IsYear r.0) }
@@ -78,7 +78,7 @@ pub fn year_at(bytes: &[u8]) -> Option<(i32, &[u8])>
 }
 
 /// The value, where no bytes are left over.
-#[tactic(auto, unfolding(crate::specs::views::Reading::all_read))]
+#[tactic(auto, unfolding(crate::specs::private::Reading::all_read))]
 pub fn at_end<T: Copy>(rest: &[u8], value: T) -> Option<T>
     ensures value { result ≡ all_read rest.now value }
     ensures same { IfSome result (λ x. x ≡ value) }

@@ -10,9 +10,9 @@ ghost use Rattle.date_texts.specs.declared.date.Date.{Date};
 ghost use Rattle.date_texts.specs.DateText.{SaysDate, canonical_text};
 ghost use Rattle.date_texts.specs.RomanText.{canonical_name};
 ghost use Rattle.date_texts.specs.Buffers.{IsPut};
-ghost use Rattle.date_texts.specs.views.RomanReading.{count_at as count_spec, counted_at as counted_spec};
-ghost use Rattle.date_texts.specs.views.RomanReading.{name_at as name_spec};
-ghost use Rattle.date_texts.specs.views.RomanReading.{roman_at as roman_spec};
+ghost use Rattle.date_texts.specs.private.RomanReading.{count_at as count_spec, counted_at as counted_spec};
+ghost use Rattle.date_texts.specs.private.RomanReading.{name_at as name_spec};
+ghost use Rattle.date_texts.specs.private.RomanReading.{roman_at as roman_spec};
 
 use crate::buffer::put_year;
 use crate::date::Date;

@@ -2,7 +2,7 @@
 use Rattle.std.proofs.Common.{◌≡◌, ◌<◌, ◌+◌, ◌++◌, [], ◌∷◌, ℕ, Bool, List, ap, append_assoc, arith, cond, drop, false, filter, get_or, length}
 use Rattle.std.proofs.Common.{map, refl, reverse}
 use Rattle.std.proofs.Common.{take, true}
-use Rattle.family_trees.specs.views.LineViews.{line_seen}
+use Rattle.family_trees.specs.private.LineViews.{line_seen}
 use Rattle.family_trees.specs.Lines.{TreeLine}
 use Rattle.family_trees.specs.Trees.{DateOfTree, date_at, dates_in, is_date}
 use Rattle.family_trees.specs.declared.lines.Line.{Line}

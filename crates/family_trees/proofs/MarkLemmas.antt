@@ -2,7 +2,7 @@
 use Rattle.std.proofs.Common.{◌≡◌, ◌<◌, ◌+◌, ◌∷◌, ℕ, List, arith, drop, get_or, length, map}
 use Rattle.std.proofs.lemmas.List.{drop_more}
 use Rattle.std.specs.Borrow.{Bor}
-use Rattle.family_trees.specs.views.DateViews.{pair_seen}
+use Rattle.family_trees.specs.private.DateViews.{pair_seen}
 
 -- the next pair, and those behind it
 pub next_pair : (pairs : List (Bor (List ℕ) × Bor (List ℕ))) (i : ℕ) (d : Bor (List ℕ) × Bor (List ℕ))

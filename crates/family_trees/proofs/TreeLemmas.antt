@@ -1,7 +1,7 @@
 -- A list of lines, cut before one of them.
 use Rattle.std.proofs.Common.{◌≡◌, ◌<◌, ◌+◌, ◌∷◌, ℕ, List, [], ap, arith, drop, le_refl, refl, get_or, length, map, reverse, take}
 use Rattle.std.proofs.lemmas.List.{drop_more, map_push, reverse-append, take_all, take_more}
-use Rattle.family_trees.specs.views.LineViews.{line_seen}
+use Rattle.family_trees.specs.private.LineViews.{line_seen}
 use Rattle.family_trees.specs.declared.lines.Line.{Line}
 
 pub first_behind : (lines : List Line) (i : ℕ) (d : Line) → i < length lines

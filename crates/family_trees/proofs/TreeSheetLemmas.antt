@@ -6,7 +6,7 @@ use Rattle.std.proofs.lemmas.List.{flat_map_more, map-append, take_more}
 use Rattle.csv.specs.Writing.{default_writer, row_text}
 use Rattle.csv.specs.declared.writer.Writer.{Writer}
 use Rattle.family_trees.specs.DateViews.{date_seen}
-use Rattle.family_trees.specs.views.SheetViews.{Holds}
+use Rattle.family_trees.specs.private.SheetViews.{Holds}
 use Rattle.family_trees.specs.TreeSheets.{date_record, records_text, tree_head}
 use Rattle.family_trees.specs.declared.dates.TreeDate.{TreeDate}
 

@@ -5,4 +5,4 @@ pub mod TextViews
 pub mod DateViews
 pub mod TreeSheets
 pub mod OwnDates
-pub mod views
+pub mod private

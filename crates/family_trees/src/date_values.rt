@@ -3,7 +3,7 @@
 ghost use Rattle.std.specs.Prelude.{◌≡◌, ◌≤◌, ◌+◌, ◌++◌, IfOk, MatchOption, drop, false, length, map, take, true};
 ghost use Rattle.family_trees.specs.DateValues.{begins_with, behind as behind_spec, dated, dated_by, has, marked, marks};
 ghost use Rattle.family_trees.specs.DateValues.{one_dated, place_of, together, words};
-ghost use Rattle.family_trees.specs.views.DateViews.{pair_seen, value_seen};
+ghost use Rattle.family_trees.specs.private.DateViews.{pair_seen, value_seen};
 ghost use Rattle.family_trees.specs.TextViews.{text_seen};
 
 use crate::lines::unindented;

@@ -3,8 +3,8 @@
 ghost use Rattle.std.specs.Prelude.{◌≡◌, ◌<◌, ◌+◌, IfOk, drop, get_or, length, map, reverse, take};
 ghost use Rattle.family_trees.specs.DateValues.{dated as dated_spec};
 ghost use Rattle.family_trees.specs.DateViews.{date_seen};
-ghost use Rattle.family_trees.specs.views.DateViews.{lines_in, over_seen};
-ghost use Rattle.family_trees.specs.views.LineViews.{line_seen};
+ghost use Rattle.family_trees.specs.private.DateViews.{lines_in, over_seen};
+ghost use Rattle.family_trees.specs.private.LineViews.{line_seen};
 ghost use Rattle.family_trees.specs.Lines.{unindented as unindented_spec};
 ghost use Rattle.family_trees.specs.declared.lines.Line.{Line as LineValue};
 ghost use Rattle.family_trees.specs.TextViews.{text_seen};

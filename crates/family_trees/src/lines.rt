@@ -3,7 +3,7 @@
 ghost use Rattle.std.specs.Prelude.{◌≡◌, ◌≤◌, IfOk, length, option_map, map};
 ghost use Rattle.std.specs.List.{position_or_len};
 ghost use Rattle.family_trees.specs.Lines.{digit_of, is_blank, level_of, line_of, rest_of, tree_lines, unindented, word_of};
-ghost use Rattle.family_trees.specs.views.LineViews.{line_seen};
+ghost use Rattle.family_trees.specs.private.LineViews.{line_seen};
 
 use std::alloc::{AllocError, Global};
 

@@ -4,7 +4,7 @@ ghost use Rattle.std.specs.Prelude.{◌≡◌, ◌++◌, ◌∷◌, ℕ, List, I
 ghost use Rattle.csv.specs.Writing.{default_writer, row_text};
 ghost use Rattle.family_trees.specs.DateViews.{date_seen};
 ghost use Rattle.family_trees.specs.OwnDates.{own_text};
-ghost use Rattle.family_trees.specs.views.SheetViews.{Holds};
+ghost use Rattle.family_trees.specs.private.SheetViews.{Holds};
 ghost use Rattle.family_trees.specs.TreeSheets.{date_record, records_text, tree_head, tree_text};
 
 use crate::dates::{TreeDate, dates_of};

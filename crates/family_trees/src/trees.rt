@@ -1,8 +1,8 @@
 //! A family tree: its lines, and the names of its records.
 
 ghost use Rattle.std.specs.Prelude.{◌≡◌, IfOk, map, option_map, reverse};
-ghost use Rattle.family_trees.specs.views.TreeViews.{AreNames};
-ghost use Rattle.family_trees.specs.views.LineViews.{line_seen};
+ghost use Rattle.family_trees.specs.private.TreeViews.{AreNames};
+ghost use Rattle.family_trees.specs.private.LineViews.{line_seen};
 ghost use Rattle.family_trees.specs.Trees.{is_wanted, line_over, value_in};
 
 use crate::lines::Line;

@@ -1,7 +1,7 @@
 //! Values that go on in the lines behind them.
 
 ghost use Rattle.std.specs.Prelude.{◌≡◌, ◌≤◌, ◌<◌, ◌+◌, ◌++◌, IfOk, OnOk, drop, length, map, reverse, take};
-ghost use Rattle.family_trees.specs.views.LineViews.{line_seen};
+ghost use Rattle.family_trees.specs.private.LineViews.{line_seen};
 ghost use Rattle.family_trees.specs.TextViews.{text_seen};
 ghost use Rattle.family_trees.specs.Trees.{is_joined as is_joined_spec, joined_to, whole_before, whole_beside, whole_in};
 

@@ -9,7 +9,7 @@ use mir.Val.{bool_byte}
 use Rattle.day_numbers.specs.declared.rules.Month.{Month}
 use Rattle.day_numbers.specs.Rules.{total_days, days_of_month, days_before_month}
 use Rattle.lunar_calendars.specs.Hebrew.{months_by_length}
-use Rattle.lunar_calendars.specs.views.Hebrew.{IsYearLength}
+use Rattle.lunar_calendars.specs.private.Hebrew.{IsYearLength}
 use Rattle.lunar_calendars.proofs.YearLengthLemmas.{three}
 
 -- the month of an index, counted from 0

@@ -5,7 +5,7 @@ use Rattle.std.proofs.lemmas.Bool.Decides.{nat_tests}
 use Rattle.day_numbers.specs.Days.{weekday_number}
 use Rattle.day_numbers.proofs.SignedArithmeticLemmas.{signed_arith}
 use Rattle.lunar_calendars.specs.Hebrew.{is_leap_year, epoch, next_allowed, postponed, new_year_of}
-use Rattle.lunar_calendars.specs.views.HebrewOpenings.{days_from_monday}
+use Rattle.lunar_calendars.specs.private.HebrewOpenings.{days_from_monday}
 use Rattle.lunar_calendars.proofs.MonthSumLemmas.{months_closed}
 
 weekday_after : (d : ℕ) → weekday_number (epoch +ℤ pos d) ≡ (d + 1) % 7

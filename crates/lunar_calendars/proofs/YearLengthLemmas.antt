@@ -9,9 +9,9 @@ use Rattle.day_numbers.specs.Rules.{day_number_of}
 use Rattle.day_numbers.proofs.RulesLemmas.{years_zero, years_suc}
 use Rattle.day_numbers.proofs.SignedArithmeticLemmas.{signed_arith}
 use Rattle.lunar_calendars.specs.Hebrew.{is_leap_year, epoch, new_year_of, days_in_year, months_by_length}
-use Rattle.lunar_calendars.specs.views.Hebrew.{IsYearLength}
+use Rattle.lunar_calendars.specs.private.Hebrew.{IsYearLength}
 use Rattle.lunar_calendars.specs.Hebrew.{months_of_year, year_lengths, hebrew_rules}
-use Rattle.lunar_calendars.specs.views.HebrewOpenings.{IsOpening, days_from_monday}
+use Rattle.lunar_calendars.specs.private.HebrewOpenings.{IsOpening, days_from_monday}
 use Rattle.lunar_calendars.proofs.NewYearLemmas.{opens_by_week, parts_after}
 use Rattle.lunar_calendars.proofs.NewYearLemmas.{new_year_after, new_year_is, first_new_year, new_year_bounds}
 

@@ -1,3 +1,3 @@
 pub mod Islamic
 pub mod Hebrew
-pub mod views
+pub mod private

@@ -6,8 +6,8 @@ ghost use Rattle.day_numbers.specs.Rules.{total_days, are_months, year_start, da
 ghost use Rattle.day_numbers.proofs.DateLemmas.{rules_one_to_one};
 ghost use Rattle.lunar_calendars.specs.Hebrew.{is_leap_year, epoch, new_year_of, days_in_year, year_lengths};
 ghost use Rattle.lunar_calendars.specs.Hebrew.{months_by_length, hebrew_rules};
-ghost use Rattle.lunar_calendars.specs.views.Hebrew.{IsYearLength};
-ghost use Rattle.lunar_calendars.specs.views.HebrewOpenings.{IsOpening, days_from_monday as days_spec};
+ghost use Rattle.lunar_calendars.specs.private.Hebrew.{IsYearLength};
+ghost use Rattle.lunar_calendars.specs.private.HebrewOpenings.{IsOpening, days_from_monday as days_spec};
 
 use day_numbers::by_rules::CalendarByRules;
 use day_numbers::months;

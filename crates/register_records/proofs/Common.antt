@@ -21,7 +21,7 @@ pub use Rattle.date_texts.specs.declared.target.Target.{Target}
 pub use Rattle.date_texts.specs.declared.target.Target.TheVariants.{Haab}
 pub use Rattle.day_numbers.specs.Days.{IsDayNumber, weekday_names, weekday_number}
 pub use Rattle.day_numbers.specs.declared.day.Day.{Day}
-pub use Rattle.register_records.specs.views.BareTexts.{IsPlain, has_plain_texts, is_plain_byte}
+pub use Rattle.register_records.specs.private.BareTexts.{IsPlain, has_plain_texts, is_plain_byte}
 pub use Rattle.register_records.specs.Causes.{entry_fault_cause}
 pub use Rattle.register_records.specs.Columns.{Column, cell_columns, columns, entry_order, kind_columns, tail_order}
 pub use Rattle.register_records.specs.Entries.{AreNumberedFrom, HasAllEntries, HasEntries, HasFirstEntries, HasTooMany}
@@ -29,26 +29,26 @@ pub use Rattle.register_records.specs.Entries.{HaveOneDate, IsNotSealed, Numbere
 pub use Rattle.register_records.specs.Entries.{body_of_texts, body_seen, record_limit}
 unfoldable pub use Rattle.register_records.specs.Entries.{entries_from}
 pub use Rattle.register_records.specs.LineRoom.{Begins, GainsFields, field_room, writing}
-pub use Rattle.register_records.specs.views.LineRoom.{name_limit}
+pub use Rattle.register_records.specs.private.LineRoom.{name_limit}
 pub use Rattle.register_records.specs.LineViews.{GrowsBy, line_bytes, line_capacity}
 pub use Rattle.register_records.specs.Lines.{fields_behind, line_text}
 pub use Rattle.register_records.specs.Outcomes.{AreCells, IsOutcome, IsRowOf, Says, TableRow, accepted, no_date_text}
 pub use Rattle.register_records.specs.Outcomes.{no_such_date, out_of_range, refused, unknown_calendar}
 pub use Rattle.register_records.specs.Records.{Fields, Texts, has_notes, texts_of}
-pub use Rattle.register_records.specs.views.Retrying.{inner_remaining}
+pub use Rattle.register_records.specs.private.Retrying.{inner_remaining}
 pub use Rattle.register_records.specs.RowTails.{cells_of, tail_bytes}
 pub use Rattle.register_records.specs.Seals.{Agrees, AreClosed, entry_records, is_seal}
 unfoldable pub use Rattle.register_records.specs.Seals.{before_seal}
 pub use Rattle.register_records.specs.Seen.{entry_seen, outcome_seen}
 pub use Rattle.register_records.specs.SetupRules.{is_delimiter}
 pub use Rattle.register_records.specs.ShortLists.{items_in}
-pub use Rattle.register_records.specs.views.TableColumns.{entry_field, kind_name, kind_names, row_fields, text_shown}
+pub use Rattle.register_records.specs.private.TableColumns.{entry_field, kind_name, kind_names, row_fields, text_shown}
 pub use Rattle.register_records.specs.Tables.{table_text}
 pub use Rattle.register_records.specs.TablesWritten.{table_fault}
-pub use Rattle.register_records.specs.views.TargetRanks.{have_one_name, rank_of, ranks_in}
+pub use Rattle.register_records.specs.private.TargetRanks.{have_one_name, rank_of, ranks_in}
 pub use Rattle.register_records.specs.Views.{given_of, reader_failed, reading_of, reads_by, row_seen, row_targets}
 pub use Rattle.register_records.specs.Views.{targets_of, text_of}
-pub use Rattle.register_records.specs.views.Tails.{tail_fields}
+pub use Rattle.register_records.specs.private.Tails.{tail_fields}
 pub use Rattle.register_records.specs.declared.entries.Entry.{Entry}
 pub use Rattle.register_records.specs.declared.entries.TheConstants.{CHUNK}
 pub use Rattle.register_records.specs.declared.reading.EntryFault.{EntryFault}

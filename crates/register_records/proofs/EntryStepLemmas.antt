@@ -5,7 +5,7 @@ use Rattle.register_records.proofs.Common.{rows-end, rows-more, records_from, st
 use Rattle.csv.specs.Machine.{Read, ends_at_end, fields_after, is_end, next_record, step}
 use Rattle.csv.specs.Reading.{records_next, default_config, reader_config, ReadRecord, Reached, reader_state, source_of}
 use Rattle.register_records.specs.ReadingState.{all_after, records_left}
-use Rattle.register_records.specs.views.ReadingState.{Reads, TakesFirst}
+use Rattle.register_records.specs.private.ReadingState.{Reads, TakesFirst}
 use Rattle.csv.specs.declared.parser.State.TheVariants as st
 use Rattle.csv.specs.declared.parser.Config.{Config}
 use Rattle.csv.specs.declared.parser.State.{State}

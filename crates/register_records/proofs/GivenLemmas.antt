@@ -6,8 +6,8 @@ use Rattle.register_records.proofs.Common.{HasTooMany, IsNotSealed, Numbered, Re
 use Rattle.register_records.proofs.Common.{record_limit, Fields, AreClosed, before_seal, entry_records, is_seal}
 use Rattle.register_records.proofs.Common.{entry_seen, Entry, Form, ∥∥₁_map, nat_tests, append_cancel_left}
 use Rattle.register_records.specs.ReadingState.{reading_by}
-use Rattle.register_records.specs.views.ReadingState.{Ends, HasEntry, IsNoSeal, LacksSeal, TakesFirst, EndsAt}
-use Rattle.register_records.specs.views.ReadingState.{Gives, HasRead}
+use Rattle.register_records.specs.private.ReadingState.{Ends, HasEntry, IsNoSeal, LacksSeal, TakesFirst, EndsAt}
+use Rattle.register_records.specs.private.ReadingState.{Gives, HasRead}
 use Rattle.register_records.specs.declared.reading.ReaderState.{ReaderState}
 use Rattle.register_records.specs.declared.reading.ReaderState.TheVariants as states
 use Rattle.register_records.specs.Entries.{HasRecords, entries_of, text_records}

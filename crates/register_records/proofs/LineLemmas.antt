@@ -12,8 +12,8 @@ use Rattle.register_records.proofs.Common.{map-append, take_more, AllPass-from_l
 use Rattle.std.proofs.lemmas.Fmt.{length-decimal-le, decimal_by_steps}
 use Rattle.std.proofs.lemmas.List.{at_drop_more, flat_map_more, take_more_set, take-append-le}
 use borrow.Rule.Slice.PartMut.{put_mid}
-use Rattle.register_records.specs.views.LineRoom.{columns_room, number_room}
-use Rattle.register_records.specs.views.TableColumns.{tail_texts, row_with, heading, kind_fields, laid_out}
+use Rattle.register_records.specs.private.LineRoom.{columns_room, number_room}
+use Rattle.register_records.specs.private.TableColumns.{tail_texts, row_with, heading, kind_fields, laid_out}
 use Rattle.register_records.specs.declared.table_columns.ColumnKind.{ColumnKind}
 use Rattle.register_records.specs.declared.table_columns.ColumnKind.TheVariants.{Cells}
 use Rattle.register_records.proofs.BareLemmas.{bare_text}

@@ -14,7 +14,7 @@ use Rattle.std.proofs.lemmas.List.Splits.{length-slice_split}
 use Rattle.day_numbers.specs.Numbered.{words}
 use Rattle.day_numbers.proofs.NameLemmas.{each_name}
 use Rattle.register_records.specs.RowTails.{fields_of}
-use Rattle.register_records.specs.views.TableColumns.{column_texts, tail_texts, row_with, IsCellField}
+use Rattle.register_records.specs.private.TableColumns.{column_texts, tail_texts, row_with, IsCellField}
 use Rattle.register_records.specs.declared.row_tails.RowTail.{RowTail}
 use Rattle.register_records.specs.declared.table_columns.ColumnKind.TheVariants.{Cells, Refusal as RefusalColumn}
 use Rattle.register_records.proofs.OutcomeLemmas.{has_cells, one_cells}

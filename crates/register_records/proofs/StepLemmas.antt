@@ -3,8 +3,8 @@ use Rattle.std.proofs.Common.{◌≡◌, ℕ, Bool, true, false, List, [], ◌�
 use Rattle.std.proofs.Common.{Result, sym, refl, ◌∙◌, arith, rules}
 use Rattle.register_records.proofs.Common.{Reader, Fields, Agrees, is_seal, Entry, EntryFault, Form, Sealed}
 use Rattle.register_records.specs.ReadingState.{records_left}
-use Rattle.register_records.specs.views.ReadingState.{Ends, HasEntry, IsNoSeal, LacksSeal, Reads, TakesFirst}
-use Rattle.register_records.specs.views.ReadingState.{EndsBehind, ReadsEntry}
+use Rattle.register_records.specs.private.ReadingState.{Ends, HasEntry, IsNoSeal, LacksSeal, Reads, TakesFirst}
+use Rattle.register_records.specs.private.ReadingState.{EndsBehind, ReadsEntry}
 use Rattle.register_records.proofs.GivenLemmas.{before_none, if_some, no_seal_first, seal_first}
 
 -- of a read that found a record, or none

@@ -20,7 +20,7 @@ use Rattle.register_records.specs.Sources.{IsFrontOfTable, IsTableOf, IsTableWit
 use Rattle.register_records.specs.Sources.{IfWhole, IsTableOfAll, IsWholeTable}
 use Rattle.std.specs.declared.io.traits.Read.{Ghosts}
 use Rattle.register_records.specs.NextEntries.{ReadsNext}
-use Rattle.register_records.specs.views.SourceTables.{IsBroken}
+use Rattle.register_records.specs.private.SourceTables.{IsBroken}
 use Rattle.register_records.specs.declared.reading.EntryReader.{EntryReader}
 use Rattle.register_records.specs.declared.ends.Cause.TheVariants as cause
 use Rattle.register_records.specs.declared.ends.SourceEnd.TheVariants as end

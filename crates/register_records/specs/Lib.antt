@@ -23,4 +23,4 @@ pub mod TableStates
 pub mod TablesWritten
 pub mod ShortLists
 pub mod Faults
-pub mod views
+pub mod private

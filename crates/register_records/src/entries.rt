@@ -4,9 +4,9 @@ ghost use Rattle.std.specs.Prelude.{◌≡◌, ◌≤◌, ◌↔◌, ◌∷◌, 
 ghost use Rattle.std.specs.List.{list_all};
 ghost use Rattle.std.specs.Str.{is_utf8};
 ghost use Rattle.csv.specs.Records.{fields_of, text_of};
-ghost use Rattle.register_records.specs.views.BareTexts.{IsPlain, has_plain_texts, is_plain_byte};
+ghost use Rattle.register_records.specs.private.BareTexts.{IsPlain, has_plain_texts, is_plain_byte};
 ghost use Rattle.register_records.specs.Entries.{HaveOneDate, are_fit, body_of, body_seen, may_hold, record_limit};
-ghost use Rattle.register_records.specs.views.Entries.{HasDate};
+ghost use Rattle.register_records.specs.private.Entries.{HasDate};
 
 use crate::record_fields::RecordFields;
 use crate::setups::Form;
@@ -276,7 +276,7 @@ fn copy_text<const N: usize>(copy: &mut ArrayString<N>, field: &[u8])
 }
 
 impl Body {
-    ghost use Rattle.register_records.specs.views.Seen.{fields_seen};
+    ghost use Rattle.register_records.specs.private.Seen.{fields_seen};
 
     /// A body of empty texts.
     fn blank() -> Body

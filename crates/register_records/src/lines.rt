@@ -8,7 +8,7 @@ ghost use Rattle.std.specs.Prelude.{◌==◌, IfOk, IsOk, OnOk, if◌then◌else
 ghost use Rattle.std.specs.Fmt.{decimal};
 ghost use Rattle.csv.specs.Writing as Spec;
 ghost use Rattle.register_records.specs.LineRoom.{Begins, GainsFields, field_room, writing};
-ghost use Rattle.register_records.specs.views.LineRoom.{number_room};
+ghost use Rattle.register_records.specs.private.LineRoom.{number_room};
 ghost use Rattle.register_records.specs.Lines.{line_text};
 ghost use Rattle.register_records.specs.SetupRules.{is_delimiter};
 ghost use Rattle.register_records.specs.declared.lines.TheConstants.{QUOTE};

@@ -6,10 +6,10 @@ ghost use Rattle.csv.specs.Reading.{error_kind, has_failed, stops_reader};
 ghost use Rattle.csv.specs.Records.{fields_of};
 ghost use Rattle.register_records.specs.Entries.{HasFirstEntries, HaveOneDate, body_seen, record_limit};
 ghost use Rattle.register_records.specs.ReadingState.{IsLive};
-ghost use Rattle.register_records.specs.views.ReadingState.{EndsBehind, HasBegun, IsOfReading, ReadsEntry};
+ghost use Rattle.register_records.specs.private.ReadingState.{EndsBehind, HasBegun, IsOfReading, ReadsEntry};
 ghost use Rattle.register_records.specs.ReadingState.{reading_by, records_left};
-ghost use Rattle.register_records.specs.views.ReadingState.{Reads, HasRead, fault_of};
-ghost use Rattle.register_records.specs.views.Retrying.{inner_remaining};
+ghost use Rattle.register_records.specs.private.ReadingState.{Reads, HasRead, fault_of};
+ghost use Rattle.register_records.specs.private.Retrying.{inner_remaining};
 ghost use Rattle.register_records.specs.Seals.{is_seal as is_seal_record};
 ghost use Rattle.register_records.specs.declared.reading.ReaderState.{ReaderState};
 

@@ -29,7 +29,7 @@ pub(crate) struct RecordFields<'a> {
 
 impl<'a> RecordFields<'a> {
     ghost use Rattle.register_records.specs.Entries.{are_fit, are_utf8, body_of_texts, may_hold};
-    ghost use Rattle.register_records.specs.views.Seen.{fields_seen};
+    ghost use Rattle.register_records.specs.private.Seen.{fields_seen};
     ghost use Rattle.register_records.specs.declared.entries.Body.TheVariants as body;
 
     /// The fields of a record that has as many as the form wants.

@@ -2,19 +2,19 @@
 
 ghost use Rattle.std.specs.Prelude.{◌≡◌, ◌≤◌, ◌+◌, ◌++◌, ◌∷◌, [], length, map, true, false};
 ghost use Rattle.date_texts.specs.declared.target.TheConstants.{MAX_TARGETS};
-ghost use Rattle.register_records.specs.views.BareTexts.{has_plain_texts};
+ghost use Rattle.register_records.specs.private.BareTexts.{has_plain_texts};
 ghost use Rattle.register_records.specs.Columns.{entry_order};
 ghost use Rattle.register_records.specs.Entries.{body_seen};
 ghost use Rattle.register_records.specs.LineRoom.{Begins, GainsFields};
-ghost use Rattle.register_records.specs.views.LineRoom.{entry_name_room, entry_room, name_room};
-ghost use Rattle.register_records.specs.views.LineRoom.{quoted_room};
+ghost use Rattle.register_records.specs.private.LineRoom.{entry_name_room, entry_room, name_room};
+ghost use Rattle.register_records.specs.private.LineRoom.{quoted_room};
 ghost use Rattle.register_records.specs.LineViews.{GrowsBy, line_bytes, line_capacity};
 ghost use Rattle.register_records.specs.Lines.{line_text};
 ghost use Rattle.register_records.specs.SetupRules.{is_delimiter};
-ghost use Rattle.register_records.specs.views.TableColumns.{entry_field, text_shown, heading, kind_name, kind_names};
-ghost use Rattle.register_records.specs.views.TableColumns.{row_fields};
+ghost use Rattle.register_records.specs.private.TableColumns.{entry_field, text_shown, heading, kind_name, kind_names};
+ghost use Rattle.register_records.specs.private.TableColumns.{row_fields};
 ghost use Rattle.register_records.specs.Views.{row_seen, row_targets};
-ghost use Rattle.register_records.specs.views.Tails.{tail_fields};
+ghost use Rattle.register_records.specs.private.Tails.{tail_fields};
 ghost use Rattle.register_records.specs.declared.row_tails.TheConstants.{TAIL_ROOM};
 ghost use Rattle.register_records.specs.declared.row_lines.TheConstants.{LINE_ROOM};
 

@@ -12,12 +12,12 @@ ghost use Rattle.date_texts.specs.Refusals.{refusal_number};
 ghost use Rattle.date_texts.specs.declared.target.TheConstants.{MAX_TARGETS};
 ghost use Rattle.date_texts.specs.declared.cells.TheConstants.{MAX_CELL};
 ghost use Rattle.register_records.specs.LineRoom.{writing};
-ghost use Rattle.register_records.specs.views.LineRoom.{plain_room};
+ghost use Rattle.register_records.specs.private.LineRoom.{plain_room};
 ghost use Rattle.register_records.specs.Lines.{fields_behind};
 ghost use Rattle.register_records.specs.Outcomes.{AreCells};
 ghost use Rattle.register_records.specs.Seen.{outcome_seen};
 ghost use Rattle.register_records.specs.SetupRules.{is_delimiter};
-ghost use Rattle.register_records.specs.views.TableColumns.{IsCellField, column_texts, tail_texts};
+ghost use Rattle.register_records.specs.private.TableColumns.{IsCellField, column_texts, tail_texts};
 ghost use Rattle.register_records.specs.declared.row_tails.TheConstants.{CELL_ROOM, TAIL_ROOM};
 
 use crate::short_lists::ShortList;
@@ -141,7 +141,7 @@ impl RowTail {
     ghost use Rattle.std.specs.Prelude.{drop, map};
     ghost use Rattle.register_records.specs.Columns.{tail_order};
     ghost use Rattle.register_records.specs.RowTails.{cells_of, fields_of, is_cells};
-    ghost use Rattle.register_records.specs.views.RowTails.{is_of_entry};
+    ghost use Rattle.register_records.specs.private.RowTails.{is_of_entry};
     ghost use Rattle.register_records.specs.ShortLists.{items_in};
 
     /// The tail of no field.

@@ -7,7 +7,7 @@ ghost use Rattle.register_records.specs.Outcomes.{AreCells, IsOutcome, IsRowOf};
 ghost use Rattle.register_records.specs.RowTails.{cells_of, fields_of};
 ghost use Rattle.register_records.specs.ShortLists.{items_in};
 ghost use Rattle.register_records.specs.Seen.{entry_seen, outcome_seen, row_made};
-ghost use Rattle.register_records.specs.views.TableColumns.{tail_texts};
+ghost use Rattle.register_records.specs.private.TableColumns.{tail_texts};
 
 use crate::ends::Note;
 use crate::entries::{Body, Entry};
@@ -137,7 +137,7 @@ impl Row {
     ghost use Rattle.register_records.specs.SetupRules.{is_delimiter};
     ghost use Rattle.register_records.specs.Tables.{refusal_notes};
     ghost use Rattle.register_records.specs.Views.{row_delimiter, row_seen, row_targets, tail_shown};
-    ghost use Rattle.register_records.specs.views.Tails.{tail_fields};
+    ghost use Rattle.register_records.specs.private.Tails.{tail_fields};
     ghost use Rattle.register_records.specs.Views.{targets_of};
     ghost use Rattle.register_records.specs.declared.row_tails.TheConstants.{TAIL_ROOM};
     ghost use Rattle.register_records.specs.declared.table_columns.TheConstants.{CELLS_PLACE};

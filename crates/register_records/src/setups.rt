@@ -25,7 +25,7 @@ pub enum Form {
 }
 
 impl Form {
-    ghost use Rattle.register_records.specs.views.Records.{field_count};
+    ghost use Rattle.register_records.specs.private.Records.{field_count};
 
     /// How many fields the header and each entry have.
     pub(crate) fn field_count(self) -> usize

@@ -5,7 +5,7 @@ ghost use Rattle.register_records.specs.Entries.{HasNoHeader, HasTooMany, IsNotS
 ghost use Rattle.std.specs.Prelude.{IfSome};
 ghost use Rattle.register_records.specs.Sources.{ArePartOfTable, Gains, IfBroken, IfWhole, IsFrontOfTable};
 ghost use Rattle.register_records.specs.Sources.{IsTableOfAll, IsWholeTable};
-ghost use Rattle.register_records.specs.views.SourceTables.{HasWhole, IsBroken, IsNewTable};
+ghost use Rattle.register_records.specs.private.SourceTables.{HasWhole, IsBroken, IsNewTable};
 ghost use Rattle.register_records.specs.declared.setups.Form.TheVariants.{Sealed};
 ghost use Rattle.register_records.specs.Views.{given_of, layout_of, reader_failed, reading_of, reads_by, text_of};
 

@@ -4,8 +4,8 @@
 ghost use Rattle.std.specs.Prelude.{◌≡◌, ◌≤◌, length};
 ghost use Rattle.register_records.specs.Columns.{entry_order, tail_order};
 ghost use Rattle.register_records.specs.Entries.{body_seen};
-ghost use Rattle.register_records.specs.views.LineRoom.{limit, name_limit};
-ghost use Rattle.register_records.specs.views.TableColumns.{text_shown, kind_name};
+ghost use Rattle.register_records.specs.private.LineRoom.{limit, name_limit};
+ghost use Rattle.register_records.specs.private.TableColumns.{text_shown, kind_name};
 
 use crate::entries::Body;
 

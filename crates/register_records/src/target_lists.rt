@@ -5,7 +5,7 @@ ghost use Rattle.date_texts.specs.Calendars.{default_targets};
 ghost use Rattle.date_texts.specs.declared.target.TheConstants.{MAX_TARGETS};
 ghost use Rattle.register_records.specs.ShortLists.{items_in};
 ghost use Rattle.register_records.specs.declared.target_lists.TheConstants.{RANK_ROOM};
-ghost use Rattle.register_records.specs.views.TargetRanks.{rank_of, ranks_in};
+ghost use Rattle.register_records.specs.private.TargetRanks.{rank_of, ranks_in};
 
 use crate::short_lists::ShortList;
 use date_texts::laws::{all_targets, default_targets};

@@ -17,22 +17,22 @@ pub use Rattle.register_records.specs.declared.rows.Row.{Row}
 pub use Rattle.register_records.specs.declared.setups.Setup.{Setup}
 pub use Rattle.register_records.specs.declared.tables.Table.{Table}
 pub use Rattle.register_run.specs.Carried.{carried}
-pub use Rattle.register_run.specs.views.Carried.{AreDealt, AreOfAllTaken, AreOfTaken, HasEnd, HasEnded, WereDealt}
+pub use Rattle.register_run.specs.private.Carried.{AreDealt, AreOfAllTaken, AreOfTaken, HasEnd, HasEnded, WereDealt}
 pub use Rattle.register_run.specs.Carried.{row_entries, rows_carried}
-pub use Rattle.register_run.specs.views.Carried.{dealt}
-pub use Rattle.register_run.specs.views.Cases.{Case, case, case_of, cases, end_of, ended_case, output_of, ran_of}
+pub use Rattle.register_run.specs.private.Carried.{dealt}
+pub use Rattle.register_run.specs.private.Cases.{Case, case, case_of, cases, end_of, ended_case, output_of, ran_of}
 pub use Rattle.register_run.specs.Histories.{AreOfMachine, HaveHistories, IsMachineWithTable}
-pub use Rattle.register_run.specs.views.Histories.{Carries}
+pub use Rattle.register_run.specs.private.Histories.{Carries}
 pub use Rattle.register_run.specs.JoinedThreads.{AreOfLanes}
-pub use Rattle.register_run.specs.views.JoinedThreads.{HasPassed, HasSent, IsConverting, IsGiven, IsNotOfOutput}
-pub use Rattle.register_run.specs.views.JoinedThreads.{IsOfGiven, IsOfThreads, MaySend, Sends, is_of_reading}
-pub use Rattle.register_run.specs.views.JoinedThreads.{speaks_of_text}
-pub use Rattle.register_run.specs.views.Popped.{AreOpen, HasLooked, HasLookedAt, HasPopped, IsInTurn, popped}
-pub use Rattle.register_run.specs.views.Popped.{popped_from}
-pub use Rattle.register_run.specs.views.Stripes.{AnyTook, AreSameStripes, AreStaffed, HasPassedOn, HavePassedOn}
-pub use Rattle.register_run.specs.views.Stripes.{IsRowNext}
+pub use Rattle.register_run.specs.private.JoinedThreads.{HasPassed, HasSent, IsConverting, IsGiven, IsNotOfOutput}
+pub use Rattle.register_run.specs.private.JoinedThreads.{IsOfGiven, IsOfThreads, MaySend, Sends, is_of_reading}
+pub use Rattle.register_run.specs.private.JoinedThreads.{speaks_of_text}
+pub use Rattle.register_run.specs.private.Popped.{AreOpen, HasLooked, HasLookedAt, HasPopped, IsInTurn, popped}
+pub use Rattle.register_run.specs.private.Popped.{popped_from}
+pub use Rattle.register_run.specs.private.Stripes.{AnyTook, AreSameStripes, AreStaffed, HasPassedOn, HavePassedOn}
+pub use Rattle.register_run.specs.private.Stripes.{IsRowNext}
 pub use Rattle.register_run.specs.Stripes.{feeding_lane}
-pub use Rattle.register_run.specs.views.Stripes.{IsSameStripe, StartWithRow, StripeTook, start_fault_cause}
+pub use Rattle.register_run.specs.private.Stripes.{IsSameStripe, StartWithRow, StripeTook, start_fault_cause}
 pub use Rattle.register_run.specs.Stripes.{stripe_setup}
 pub use Rattle.register_run.specs.Worlds.{World, numbers}
 pub use Rattle.register_run.specs.declared.ended_sources.Findings.{Findings}

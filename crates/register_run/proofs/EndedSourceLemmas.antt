@@ -18,7 +18,7 @@ use Rattle.register_records.specs.declared.outputs.Output as outputs
 use Rattle.register_records.specs.declared.ends.Cause.TheVariants as cause
 use Rattle.register_records.specs.declared.ends.SourceEnd.TheVariants as end
 use Rattle.register_run.specs.MetCauses.{IsLowest, IsMet, Differs}
-use Rattle.register_run.specs.views.MetCauses.{HasMetNone}
+use Rattle.register_run.specs.private.MetCauses.{HasMetNone}
 use Rattle.register_run.specs.Headline.{IsSourceEnd, IsAllOfTable, causes_of_reading}
 use Rattle.register_run.proofs.GivenLemmas.{first_of_first, front_all, rows_front}
 

@@ -21,7 +21,7 @@ use Rattle.register_run.specs.Headline.{AtEachPlace, IsSourceEnd}
 use Rattle.register_run.specs.Reports.{IsReport, IsReportOfMachine, IsReportOfThreads}
 use Rattle.register_run.specs.Threads.{AreThreads, HasRing, AreThreadsOf}
 use Rattle.register_run.specs.MetCauses.{IsLowest, IsMet}
-use Rattle.register_run.specs.views.MetCauses.{HasMetNone}
+use Rattle.register_run.specs.private.MetCauses.{HasMetNone}
 use Rattle.register_run.proofs.HistoryLemmas.{staff}
 use Rattle.register_run.proofs.EndedSourceLemmas.{thread_outcome}
 

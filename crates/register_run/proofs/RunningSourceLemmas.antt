@@ -16,7 +16,7 @@ use Rattle.register_records.specs.declared.outputs.Output as outputs
 use Rattle.register_records.specs.declared.ends.Cause.TheVariants as cause
 use Rattle.register_run.specs.declared.stripes.Look.{Look}
 use Rattle.register_run.specs.declared.stripes.StartFault.{StartFault}
-use Rattle.register_run.specs.views.Written.{Concludes, Wrote}
+use Rattle.register_run.specs.private.Written.{Concludes, Wrote}
 use Rattle.register_run.proofs.GivenLemmas.{passed_not}
 
 abbrev IsOpen : Stripe → Type 0

@@ -15,7 +15,7 @@ use Rattle.lane_rings.specs.declared.item.Gone.{Gone}
 use Rattle.lane_rings.specs.Items.{entries_in}
 use Rattle.lane_rings.specs.declared.item.Item.TheVariants as item
 use Rattle.date_texts.specs.declared.refusal.Refusal.TheVariants as refusal
-use Rattle.register_run.specs.views.Stripes.{StripeTook}
+use Rattle.register_run.specs.private.Stripes.{StripeTook}
 use Rattle.register_run.proofs.CarriedLemmas.{one_more, entry_within, map_within, prefix_within}
 
 -- one more, where each is made into another, which is the value that is seen

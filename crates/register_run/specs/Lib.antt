@@ -8,4 +8,4 @@ pub mod Reports
 pub mod Worlds
 pub mod EveryScheduleLaw
 pub mod Histories
-pub mod views
+pub mod private

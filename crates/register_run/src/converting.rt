@@ -2,8 +2,8 @@
 
 ghost use Rattle.std.specs.Prelude.{◌≡◌, [], false};
 ghost use Rattle.lane_rings.specs.Lane.{receiver_lane, sender_lane, sent, taken};
-ghost use Rattle.register_run.specs.views.Carried.{AreOfAllTaken, AreOfTaken};
-ghost use Rattle.register_run.specs.views.JoinedThreads.{IsConverting};
+ghost use Rattle.register_run.specs.private.Carried.{AreOfAllTaken, AreOfTaken};
+ghost use Rattle.register_run.specs.private.JoinedThreads.{IsConverting};
 
 use crate::gates::Gate;
 use lane_rings::{Closed, Item, Receiver, Sender};

@@ -7,12 +7,12 @@ ghost use Rattle.register_records.specs.Views.{layout_of, reading_of};
 ghost use Rattle.register_records.specs.declared.ends.Cause.TheVariants as cause;
 ghost use Rattle.register_records.specs.declared.ends.SourceEnd.TheVariants as ended;
 ghost use Rattle.register_run.specs.MetCauses.{Differs, IsLowest, IsMet};
-ghost use Rattle.register_run.specs.views.MetCauses.{HasMetNone};
+ghost use Rattle.register_run.specs.private.MetCauses.{HasMetNone};
 ghost use Rattle.register_run.specs.Headline.{IsSourceEnd};
 ghost use Rattle.register_run.specs.Histories.{IsMachineWithTable};
-ghost use Rattle.register_run.specs.views.Stripes.{AreStaffed};
+ghost use Rattle.register_run.specs.private.Stripes.{AreStaffed};
 ghost use Rattle.register_run.specs.Threads.{AreThreadsOf};
-ghost use Rattle.register_run.specs.views.Written.{Concludes};
+ghost use Rattle.register_run.specs.private.Written.{Concludes};
 
 use crate::reading::Sent;
 use crate::reports::Ran;

@@ -4,8 +4,8 @@ ghost use Rattle.std.specs.Prelude.{◌≡◌, ◌<◌, ◌≤◌, ◌+◌, ◌/
 ghost use Rattle.std.specs.List.{AllZip};
 ghost use Rattle.lane_rings.specs.Lane.{sender_lane, sent};
 ghost use Rattle.register_records.specs.Views.{given_of, reading_of, reads_by, text_of};
-ghost use Rattle.register_run.specs.views.Carried.{HasEnded};
-ghost use Rattle.register_run.specs.views.JoinedThreads.{IsReading, MaySend};
+ghost use Rattle.register_run.specs.private.Carried.{HasEnded};
+ghost use Rattle.register_run.specs.private.JoinedThreads.{IsReading, MaySend};
 
 use crate::turns::turn_after;
 use lane_rings::{Closed, Sender};

@@ -3,7 +3,7 @@
 ghost use Rattle.std.specs.Prelude.{◌≡◌, ◌≤◌, ◌↔◌, [], All, IfErr, IfOk, map, true};
 ghost use Rattle.std.specs.Prelude.{vec_capacity, vec_len};
 ghost use Rattle.register_records.specs.Sources.{is_whole_end};
-ghost use Rattle.register_run.specs.views.Cases.{case_of, cases, end_of, ended_case, output_of, ran_of};
+ghost use Rattle.register_run.specs.private.Cases.{case_of, cases, end_of, ended_case, output_of, ran_of};
 ghost use Rattle.register_run.specs.Reports.{HandsBack, IsReport, IsReportOfMachine, IsReportOfThreads};
 ghost use Rattle.register_run.specs.Reports.{RefusesOutputs, RefusesSources};
 

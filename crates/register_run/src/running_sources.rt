@@ -8,14 +8,14 @@ ghost use Rattle.register_records.specs.TablesWritten.{has_lost_output, is_heade
 ghost use Rattle.register_records.specs.Views.{reading_of};
 ghost use Rattle.register_records.specs.declared.row_lines.TheConstants.{LINE_ROOM};
 ghost use Rattle.register_records.specs.declared.writing.TheConstants.{MOST_WAITING};
-ghost use Rattle.register_run.specs.views.Histories.{Carries};
+ghost use Rattle.register_run.specs.private.Histories.{Carries};
 ghost use Rattle.register_run.specs.JoinedThreads.{AreOfLanes};
-ghost use Rattle.register_run.specs.views.JoinedThreads.{HasPassed, HasStarted, IsReading};
-ghost use Rattle.register_run.specs.views.Popped.{IsInTurn, popped};
+ghost use Rattle.register_run.specs.private.JoinedThreads.{HasPassed, HasStarted, IsReading};
+ghost use Rattle.register_run.specs.private.Popped.{IsInTurn, popped};
 ghost use Rattle.register_run.specs.Stripes.{feeding_lane, stripe_setup};
-ghost use Rattle.register_run.specs.views.Stripes.{AnyTook, HavePassedOn, IsReaderOf};
+ghost use Rattle.register_run.specs.private.Stripes.{AnyTook, HavePassedOn, IsReaderOf};
 ghost use Rattle.register_run.specs.Worlds.{World};
-ghost use Rattle.register_run.specs.views.Written.{Wrote};
+ghost use Rattle.register_run.specs.private.Written.{Wrote};
 ghost use Rattle.lane_rings.specs.Machine.{turn as turn_in};
 
 use crate::ended_sources::{EndedSource, JoinedThreads, conclude, lower};
@@ -60,8 +60,8 @@ pub(crate) struct RunningSource<R: Read, W: Output> {
 }
 
 impl<R: Read + Drop, W: Output + Drop> RunningSource<R, W> {
-    ghost use Rattle.register_run.specs.views.Cases.{case, case_of, ended_case};
-    ghost use Rattle.register_run.specs.views.Popped.{AreOpen, IsRowNextAt};
+    ghost use Rattle.register_run.specs.private.Cases.{case, case_of, ended_case};
+    ghost use Rattle.register_run.specs.private.Popped.{AreOpen, IsRowNextAt};
 
     /// Starts the threads of a source. Where they do not start, the source is dropped and the cause is kept.
     pub(crate) fn start<'s, 'e, T: Host, G: Gate + Sync>(

@@ -2,7 +2,7 @@
 
 ghost use Rattle.std.specs.Prelude.{◌≡◌, ◌<◌, ◌+◌, [], Err, IfErr, IfOk, IfSome, Ok};
 ghost use Rattle.lane_rings.specs.Lane.{lane_capacity, receiver_lane, sender_lane, sent, taken};
-ghost use Rattle.register_run.specs.views.JoinedThreads.{IsConverting};
+ghost use Rattle.register_run.specs.private.JoinedThreads.{IsConverting};
 
 use crate::converting::{ConverterResult, convert_entries};
 use crate::gates::Gate;
@@ -57,7 +57,7 @@ impl From<AllocError> for StartFault {
 }
 
 impl From<StartFault> for Cause {
-    ghost use Rattle.register_run.specs.views.Stripes.{start_fault_cause};
+    ghost use Rattle.register_run.specs.private.Stripes.{start_fault_cause};
 
     ghost from_gives = { λ fault cause. cause ≡ start_fault_cause fault };
 
@@ -134,10 +134,10 @@ pub(crate) struct Stripe {
 
 impl Stripe {
     ghost use Rattle.register_run.specs.Stripes.{feeding_lane};
-    ghost use Rattle.register_run.specs.views.Stripes.{HasPassedOn, IsRowNext, IsSameStripe, StripeTook};
+    ghost use Rattle.register_run.specs.private.Stripes.{HasPassedOn, IsRowNext, IsSameStripe, StripeTook};
     ghost use Rattle.register_run.specs.Stripes.{stripe_setup};
     ghost use Rattle.register_run.specs.JoinedThreads.{IsOfLane};
-    ghost use Rattle.register_run.specs.views.Popped.{HasLooked, popped_from};
+    ghost use Rattle.register_run.specs.private.Popped.{HasLooked, popped_from};
 
     /// Starts a converter, and gives the sender that feeds it.
     ///
@@ -197,7 +197,7 @@ impl Stripe {
     }
 
     /// What is next, after a look. An end and a stop are taken.
-    #[tactic(auto, using(crate::proofs::CarriedLemmas::same_seen), unfolding(crate::specs::views::Stripes::StripeTook))]
+    #[tactic(auto, using(crate::proofs::CarriedLemmas::same_seen), unfolding(crate::specs::private::Stripes::StripeTook))]
     fn take_found(&mut self) -> Look
         ensures same { IsSameStripe self.old self.new }
         ensures looked { HasLooked self.old self.new result }
@@ -219,7 +219,7 @@ impl Stripe {
     }
 
     /// The row that a look found, where it lies.
-    #[tactic(auto, using(crate::proofs::CarriedLemmas::seen_next), unfolding(crate::specs::views::Stripes::StripeTook))]
+    #[tactic(auto, using(crate::proofs::CarriedLemmas::seen_next), unfolding(crate::specs::private::Stripes::StripeTook))]
     pub(crate) fn row(&self) -> Option<&Row>
         ensures { IfSome result (λ row. StripeTook self.now row.now) }
     {
@@ -230,7 +230,7 @@ impl Stripe {
     }
 
     /// Takes the row that a look found.
-    #[tactic(auto, using(crate::proofs::CarriedLemmas::passing), unfolding(crate::specs::views::Stripes::StripeTook))]
+    #[tactic(auto, using(crate::proofs::CarriedLemmas::passing), unfolding(crate::specs::private::Stripes::StripeTook))]
     pub(crate) fn pass(&mut self)
         requires { IsRowNext self.old }
         ensures same { IsSameStripe self.old self.new }

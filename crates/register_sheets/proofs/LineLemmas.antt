@@ -8,7 +8,7 @@ use Rattle.std.specs.Prelude.{Err, Ok, OnOk, Result}
 use Rattle.register_records.specs.LineRoom as buffer
 use Rattle.register_records.specs.LineRoom.{writing}
 use Rattle.register_records.specs.LineViews.{line_bytes}
-use Rattle.register_records.specs.views.LineViews.{line_delimiter}
+use Rattle.register_records.specs.private.LineViews.{line_delimiter}
 use Rattle.register_records.specs.Lines.{line_text}
 use Rattle.register_records.specs.declared.lines.LineBuffer.{LineBuffer}
 use Rattle.register_sheets.specs.LineViews.{EndsLine, GainsFields}

@@ -2,7 +2,7 @@
 use Rattle.std.proofs.Common.{◌≡◌, suc, ℕ, List, [], ◌∷◌, ◌++◌, get_or, length, arith, max, Option, None, IsSome, IfSome}
 use Rattle.csv.specs.Records.{field_at}
 use Rattle.register_records.specs.Entries.{Fields}
-use Rattle.register_records.specs.views.ReadingState.{TakesFirst}
+use Rattle.register_records.specs.private.ReadingState.{TakesFirst}
 use Rattle.register_sheets.specs.Reading.{left_in}
 use Rattle.register_sheets.specs.Sheets.{widest}
 

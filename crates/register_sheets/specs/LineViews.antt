@@ -2,7 +2,7 @@
 use Rattle.std.specs.Prelude.{◌≡◌, ◌≤◌, ◌++◌, ℕ, true, false, List, [], length}
 use Rattle.register_records.specs.LineRoom as buffer
 use Rattle.register_records.specs.LineViews.{line_bytes}
-use Rattle.register_records.specs.views.LineViews.{line_delimiter}
+use Rattle.register_records.specs.private.LineViews.{line_delimiter}
 use Rattle.register_records.specs.Lines.{line_text}
 use Rattle.register_records.specs.Views.{row_delimiter}
 use Rattle.register_records.specs.declared.rows.Row.{Row}

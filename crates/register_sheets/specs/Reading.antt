@@ -4,7 +4,7 @@ use Rattle.std.specs.Borrow.{Bor}
 use Rattle.csv.specs.declared.reader.Reader.{Reader}
 use Rattle.register_records.specs.Entries.{Fields}
 use Rattle.register_records.specs.ReadingState.{IsLive, records_left}
-use Rattle.register_records.specs.views.ReadingState.{HasBegun}
+use Rattle.register_records.specs.private.ReadingState.{HasBegun}
 
 -- the records that are left, of a reader that has not failed
 abbrev pub known_left : Reader (Bor (List ℕ)) → Option (List Fields)

@@ -6,7 +6,7 @@ pub use Rattle.day_numbers.specs.Rules.{HasYear, IsDateOf, day_number_of, days_b
 pub use Rattle.day_numbers.specs.Rules.{numbered_from, total_days, with_zero, without_zero, year_length, year_start}
 pub use Rattle.solar_calendars.specs.Gregorian.{gregorian_rules, is_gregorian_leap}
 pub use Rattle.solar_calendars.specs.Julian.{is_julian_leap, julian_rules}
-pub use Rattle.solar_calendars.specs.views.Julian.{years_before}
+pub use Rattle.solar_calendars.specs.private.Julian.{years_before}
 pub use Rattle.solar_calendars.specs.TwelveMonths.{twelve_months}
 pub use Rattle.solar_calendars.specs.declared.roman_date.RomanName.{RomanName}
 pub use Rattle.solar_calendars.specs.declared.roman_date.RomanName.TheVariants.{Ides, Kalends, Nones, SecondSixth}

@@ -3,9 +3,9 @@ use Rattle.std.proofs.Common.{inl, inr, ◌≡◌, ℕ, zero, suc, ◌+◌, ◌-
 use Rattle.std.proofs.Common.{pos, negsuc, ◌+ℤ◌, ◌-ℤ◌, List, [], ◌∷◌, if◌then◌else◌, ◌==◌, ◌&&◌, ne_eqb, ◌↔◌, ◌<◌, ◌≤ℤ◌}
 use Rattle.std.proofs.Common.{◌<ℤ◌, unsigned_abs, IsTrue}
 use Rattle.solar_calendars.specs.Roman.{roman_day_number, IsRomanDate, day_of_ides, has_two_sixths, principal_day}
-use Rattle.solar_calendars.specs.views.RomanPlaces.{kalends, month_length, year_before, month_before}
-use Rattle.solar_calendars.specs.views.RomanPlaces.{year_of_month_before}
-use Rattle.solar_calendars.specs.views.RomanPlaces.{nones, ides, preceding_day, prior_length, prior_ides}
+use Rattle.solar_calendars.specs.private.RomanPlaces.{kalends, month_length, year_before, month_before}
+use Rattle.solar_calendars.specs.private.RomanPlaces.{year_of_month_before}
+use Rattle.solar_calendars.specs.private.RomanPlaces.{nones, ides, preceding_day, prior_length, prior_ides}
 use Rattle.day_numbers.proofs.RulesLemmas.{date_unique, next_year, start_next}
 use Rattle.solar_calendars.proofs.Common.{by_lt_z, cases_eq, day_number_of, days_before_month, days_of_month, HasYear}
 use Rattle.solar_calendars.proofs.Common.{Ides, is_julian_leap, IsDateOf, julian_rules, Kalends, nat_tests, Nones}

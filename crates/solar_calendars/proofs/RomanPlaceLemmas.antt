@@ -4,10 +4,10 @@ use Rattle.std.proofs.Common.{neg_ℤ, ◌+ℤ◌, ◌-ℤ◌, ◌≤ℤ◌, ◌
 use Rattle.std.proofs.Common.{subst, ◌∙◌}
 use Rattle.std.proofs.Props.{props}
 use Rattle.solar_calendars.specs.Roman.{day_of_ides, has_two_sixths, days_back, roman_day_number, IsRomanDate, count_of}
-use Rattle.solar_calendars.specs.views.RomanPlaces.{kalends, month_before, year_of_month_before, kalends_back, HasPlace}
-use Rattle.solar_calendars.specs.views.RomanPlaces.{place, prior_length, prior_ides, month_length, next_month}
-use Rattle.solar_calendars.specs.views.RomanPlaces.{year_of_next_month, IsPlaced, year_before, name_within, name_after}
-use Rattle.solar_calendars.specs.views.RomanPlaces.{RomanParts, parts_on, parts_of}
+use Rattle.solar_calendars.specs.private.RomanPlaces.{kalends, month_before, year_of_month_before, kalends_back, HasPlace}
+use Rattle.solar_calendars.specs.private.RomanPlaces.{place, prior_length, prior_ides, month_length, next_month}
+use Rattle.solar_calendars.specs.private.RomanPlaces.{year_of_next_month, IsPlaced, year_before, name_within, name_after}
+use Rattle.solar_calendars.specs.private.RomanPlaces.{RomanParts, parts_on, parts_of}
 use Rattle.day_numbers.proofs.DateLemmas.{same_made}
 use Rattle.solar_calendars.specs.declared.roman_date.RomanDate.{RomanDate}
 use Rattle.solar_calendars.specs.Laws.{OneRomanDate}

@@ -7,4 +7,4 @@ pub mod IsoWeek
 pub mod French
 pub mod Roman
 pub mod Laws
-pub mod views
+pub mod private

@@ -5,7 +5,7 @@ ghost use Rattle.day_numbers.specs.Days.{IsDayNumber};
 ghost use Rattle.day_numbers.specs.Dates.{IsBetween, IsYear};
 ghost use Rattle.solar_calendars.specs.IsoWeek.{monday_on_or_before as monday_of, week_year_start as start};
 ghost use Rattle.solar_calendars.specs.IsoWeek.{week_day_number, IsWeekDate};
-ghost use Rattle.solar_calendars.specs.views.IsoWeekLaw.{one_week_date};
+ghost use Rattle.solar_calendars.specs.private.IsoWeekLaw.{one_week_date};
 
 use crate::gregorian::{first_of_year, year_and_days_before};
 use day_numbers::{ArithmeticCalendar, DateFault, Day, Ymd};

@@ -5,7 +5,7 @@ ghost use Rattle.day_numbers.specs.Dates.{IsBetween, IsYear};
 ghost use Rattle.day_numbers.specs.Rules.{HasYear, without_zero, year_start as start};
 ghost use Rattle.day_numbers.proofs.DateLemmas.{rules_one_to_one};
 ghost use Rattle.solar_calendars.specs.Julian.{julian_rules, is_julian_leap};
-ghost use Rattle.solar_calendars.specs.views.Julian.{years_before as count_before};
+ghost use Rattle.solar_calendars.specs.private.Julian.{years_before as count_before};
 
 use crate::twelve_months::{month_at, twelve_months};
 use day_numbers::by_rules::CalendarByRules;

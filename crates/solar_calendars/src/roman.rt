@@ -11,11 +11,11 @@ ghost use Rattle.day_numbers.specs.Rules.{HasYear, without_zero};
 ghost use Rattle.solar_calendars.specs.Julian.{is_julian_leap};
 ghost use Rattle.solar_calendars.specs.Roman.{day_of_ides as ides_spec, has_two_sixths as two_sixths, count_of};
 ghost use Rattle.solar_calendars.specs.Roman.{roman_day_number, IsRomanDate};
-ghost use Rattle.solar_calendars.specs.views.RomanPlaces.{day_of_nones as nones_spec};
-ghost use Rattle.solar_calendars.specs.views.RomanPlaces.{month_length, prior_length, prior_ides, HasPlace};
-ghost use Rattle.solar_calendars.specs.views.RomanPlaces.{kalends as kalends_spec, kalends_back, place as place_spec};
-ghost use Rattle.solar_calendars.specs.views.RomanPlaces.{name_within as within_spec, name_after as after_spec};
-ghost use Rattle.solar_calendars.specs.views.RomanPlaces.{year_of_next_month as next_year_spec, parts_on, parts_of};
+ghost use Rattle.solar_calendars.specs.private.RomanPlaces.{day_of_nones as nones_spec};
+ghost use Rattle.solar_calendars.specs.private.RomanPlaces.{month_length, prior_length, prior_ides, HasPlace};
+ghost use Rattle.solar_calendars.specs.private.RomanPlaces.{kalends as kalends_spec, kalends_back, place as place_spec};
+ghost use Rattle.solar_calendars.specs.private.RomanPlaces.{name_within as within_spec, name_after as after_spec};
+ghost use Rattle.solar_calendars.specs.private.RomanPlaces.{year_of_next_month as next_year_spec, parts_on, parts_of};
 ghost use Rattle.solar_calendars.specs.declared.roman_date.RomanDate.{RomanDate};
 ghost use Rattle.solar_calendars.specs.declared.roman_date.RomanName.{RomanName};
 

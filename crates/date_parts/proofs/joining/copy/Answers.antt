@@ -2,7 +2,7 @@ use Rattle.std.proofs.Common.{◌≡◌, ◌∙◌, ap, arith, false, rules, sub
 use Rattle.std.specs.Prelude.{Ok}
 use Rattle.csv.specs.Records.{fields_of}
 use Rattle.register_sheets.specs.Reading.{left_of}
-use Rattle.date_parts.specs.views.SheetViews.{GainsRecords}
+use Rattle.date_parts.specs.private.SheetViews.{GainsRecords}
 use Rattle.register_sheets.proofs.ListLemmas.{all_taken, one_taken}
 use Rattle.date_parts.proofs.RecordLemmas.{gains_more}
 use Rattle.date_parts.proofs.joining.copy.Goals as goal

@@ -1,6 +1,6 @@
 use Rattle.std.proofs.Common.{◌≡◌, drop, take}
 use Rattle.register_sheets.specs.Reading.{IsReading, left_of}
-use Rattle.date_parts.specs.views.SheetViews.{GainsRecords}
+use Rattle.date_parts.specs.private.SheetViews.{GainsRecords}
 use Rattle.date_parts.proofs.joining.copy.Given as goal
 
 abbrev pub invariant-copied : goal.invariant-copied

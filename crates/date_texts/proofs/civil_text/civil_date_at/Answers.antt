@@ -1,5 +1,5 @@
 use Rattle.std.proofs.Common.{◌∙◌, Some, ap, rules, to_z-of_z, FitsSigned, w32, refl}
-use Rattle.date_texts.specs.views.Reading.{◌>>=◌}
+use Rattle.date_texts.specs.private.Reading.{◌>>=◌}
 use Rattle.date_texts.proofs.Common.{Civil, CivilDate}
 use Rattle.date_texts.proofs.DateTextLemmas.{civil, civil_parts, none_says, some_says}
 use Rattle.date_texts.proofs.civil_text.civil_date_at.Goals as goal

@@ -1,5 +1,5 @@
 use Rattle.std.proofs.Common.{◌≡◌, ◌-◌, ◌^◌, ◌<◌, ◌≤◌}
-use Rattle.date_texts.specs.views.Reading.{digits_at}
+use Rattle.date_texts.specs.private.Reading.{digits_at}
 use Rattle.date_texts.proofs.numerals.digits_at.Given as goal
 
 abbrev pub invariant-loop-left : goal.invariant-loop-left

@@ -1,6 +1,6 @@
 use Rattle.std.proofs.Common.{◌≡◌, drop, map}
 use Rattle.family_trees.specs.DateValues.{dated_by}
-use Rattle.family_trees.specs.views.DateViews.{pair_seen}
+use Rattle.family_trees.specs.private.DateViews.{pair_seen}
 use Rattle.family_trees.proofs.date_values.dated_by.Given as goal
 
 -- the value has none of the pairs so far

@@ -1,6 +1,6 @@
 use Rattle.std.proofs.Common.{◌≡◌, drop, map}
 use Rattle.family_trees.specs.DateValues.{marked}
-use Rattle.family_trees.specs.views.DateViews.{pair_seen}
+use Rattle.family_trees.specs.private.DateViews.{pair_seen}
 use Rattle.family_trees.proofs.date_values.marked_by.Given as goal
 
 -- the date begins with none of the marks so far

@@ -1,7 +1,7 @@
 use Rattle.std.proofs.Common.{rules, map, sym, ◌∙◌, ap}
 use Rattle.std.proofs.lemmas.List.{map_push}
 use Rattle.family_trees.specs.DateViews.{date_seen}
-use Rattle.family_trees.specs.views.LineViews.{line_seen}
+use Rattle.family_trees.specs.private.LineViews.{line_seen}
 use Rattle.family_trees.proofs.DateLemmas.{no_date_more, one_date_more}
 use Rattle.family_trees.proofs.dates.dates_of.Goals as goal
 use Rattle.family_trees.proofs.dates.dates_of.Goals.{else-is_date, then-is_date+in_ok-date+in_ok-push}

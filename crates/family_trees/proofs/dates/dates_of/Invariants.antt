@@ -1,6 +1,6 @@
 use Rattle.std.proofs.Common.{◌≡◌, ◌++◌, [], map}
 use Rattle.family_trees.specs.DateViews.{date_seen}
-use Rattle.family_trees.specs.views.LineViews.{line_seen}
+use Rattle.family_trees.specs.private.LineViews.{line_seen}
 use Rattle.family_trees.specs.Trees.{dates_in}
 use Rattle.family_trees.proofs.DateLemmas.{dates_left}
 use Rattle.family_trees.proofs.dates.dates_of.Given as goal

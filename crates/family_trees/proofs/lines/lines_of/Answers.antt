@@ -2,7 +2,7 @@ use Rattle.std.proofs.Common.{rules, refl, map, tests}
 use Rattle.std.proofs.lemmas.Iterator.Consumers.{YieldsList-at, YieldsList-end}
 use Rattle.std.proofs.lemmas.Iterator.Splits.{YieldsList-from_slice_split}
 use Rattle.std.proofs.lemmas.List.{append-nil, map_push}
-use Rattle.family_trees.specs.views.LineViews.{line_seen}
+use Rattle.family_trees.specs.private.LineViews.{line_seen}
 use Rattle.family_trees.specs.Lines.{is_end}
 use Rattle.family_trees.proofs.LineLemmas.{one_part_more}
 use Rattle.family_trees.proofs.lines.lines_of.Goals as goal

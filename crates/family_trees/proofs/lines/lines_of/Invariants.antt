@@ -1,6 +1,6 @@
 use Rattle.std.proofs.Common.{◌≡◌, map}
 use Rattle.std.specs.List.{flat_map}
-use Rattle.family_trees.specs.views.LineViews.{line_seen}
+use Rattle.family_trees.specs.private.LineViews.{line_seen}
 use Rattle.family_trees.specs.Lines.{line_in}
 use Rattle.family_trees.proofs.lines.lines_of.Given as goal
 

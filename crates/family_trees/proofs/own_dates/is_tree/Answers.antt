@@ -5,7 +5,7 @@ use Rattle.std.specs.List.{flat_map, slice_split}
 use Rattle.std.proofs.lemmas.Iterator.Consumers.{YieldsList-at, YieldsList-end, YieldsList-so_far, YieldsList-turn}
 use Rattle.std.proofs.lemmas.Iterator.Splits.{YieldsList-from_slice_split}
 use Rattle.std.proofs.lemmas.List.{map_push}
-use Rattle.family_trees.specs.views.LineViews.{line_seen}
+use Rattle.family_trees.specs.private.LineViews.{line_seen}
 use Rattle.family_trees.specs.Lines.{is_end, line_in, line_of, unindented}
 use Rattle.family_trees.specs.OwnDates.{begins_with_head}
 use Rattle.family_trees.proofs.LineLemmas.{first_line, no_line_more}

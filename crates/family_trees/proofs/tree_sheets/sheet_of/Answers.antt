@@ -1,7 +1,7 @@
 use Rattle.std.proofs.Common.{◌≡◌, ◌++◌, ◌∷◌, [], List, ap, append-nil, arith, map, refl, sym, subst, take_all, take}
 use Rattle.csv.specs.Writing.{default_writer, row_text}
 use Rattle.family_trees.specs.DateViews.{date_seen}
-use Rattle.family_trees.specs.views.SheetViews.{Holds}
+use Rattle.family_trees.specs.private.SheetViews.{Holds}
 use Rattle.family_trees.specs.Trees.{DateOfTree}
 use Rattle.family_trees.specs.declared.dates.TreeDate.{TreeDate}
 use Rattle.family_trees.specs.TreeSheets.{date_record, records_text, tree_head}

@@ -1,6 +1,6 @@
 use Rattle.std.proofs.Common.{◌∷◌, map, take}
 use Rattle.family_trees.specs.DateViews.{date_seen}
-use Rattle.family_trees.specs.views.SheetViews.{Holds}
+use Rattle.family_trees.specs.private.SheetViews.{Holds}
 use Rattle.family_trees.specs.TreeSheets.{date_record, records_text, tree_head}
 use Rattle.family_trees.proofs.tree_sheets.sheet_of.Given as goal
 

@@ -1,5 +1,5 @@
 use Rattle.std.proofs.Common.{◌≡◌, ◌≤◌, length, map, reverse, take}
-use Rattle.family_trees.specs.views.LineViews.{line_seen}
+use Rattle.family_trees.specs.private.LineViews.{line_seen}
 use Rattle.family_trees.specs.Trees.{line_over}
 use Rattle.family_trees.proofs.trees.line_over.Given as goal
 

@@ -1,6 +1,6 @@
 use Rattle.std.proofs.Common.{◌≤◌, drop, length, map}
-use Rattle.family_trees.specs.views.LineViews.{line_seen}
-use Rattle.family_trees.specs.views.TreeViews.{AreNames}
+use Rattle.family_trees.specs.private.LineViews.{line_seen}
+use Rattle.family_trees.specs.private.TreeViews.{AreNames}
 use Rattle.family_trees.proofs.trees.names_of.Given as goal
 
 -- the names are those of the lines from this place on

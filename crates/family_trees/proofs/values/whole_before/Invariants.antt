@@ -1,5 +1,5 @@
 use Rattle.std.proofs.Common.{◌≡◌, ◌≤◌, drop, length, map, reverse, take}
-use Rattle.family_trees.specs.views.LineViews.{line_seen}
+use Rattle.family_trees.specs.private.LineViews.{line_seen}
 use Rattle.family_trees.specs.Trees.{whole_before}
 use Rattle.family_trees.proofs.values.whole_before.Given as goal
 

@@ -1,6 +1,6 @@
 use Rattle.register_records.proofs.Common.{◌≡◌, ◌+◌, ◌≤◌, ◌++◌, map, take, drop, flat_map, entry_order, tail_order}
 use Rattle.register_records.proofs.Common.{Begins, line_bytes, line_capacity, kind_name, kind_names}
-use Rattle.register_records.specs.views.LineRoom.{columns_room, entry_name_room, name_room}
+use Rattle.register_records.specs.private.LineRoom.{columns_room, entry_name_room, name_room}
 use Rattle.register_records.proofs.row_lines.make_heading.Given as goal
 
 abbrev pub invariant-columns : goal.invariant-columns

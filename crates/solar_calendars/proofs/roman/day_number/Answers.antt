@@ -1,5 +1,5 @@
 use Rattle.std.proofs.Common.{arith, rules, to_z-of_z, FitsSigned, w32, refl}
-use Rattle.solar_calendars.specs.views.RomanPlaces.{HasPlace}
+use Rattle.solar_calendars.specs.private.RomanPlaces.{HasPlace}
 use Rattle.solar_calendars.proofs.Common.{HasYear, signed_arith, without_zero}
 use Rattle.solar_calendars.proofs.RomanPlaceLemmas.{month_of, placed, place_near, number}
 use Rattle.solar_calendars.proofs.roman.day_number.Goals as goal

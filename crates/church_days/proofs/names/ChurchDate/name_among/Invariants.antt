@@ -1,7 +1,7 @@
 use Rattle.std.proofs.Common.{◌≡◌, ℕ, List, Option, drop, map}
 use Rattle.church_days.specs.Computed.{first_name}
 use Rattle.church_days.specs.Names.{IsFirst}
-use Rattle.church_days.specs.views.NameViews.{seen}
+use Rattle.church_days.specs.private.NameViews.{seen}
 use Rattle.church_days.proofs.names.ChurchDate.name_among.Given as goal
 
 -- what is first among the rest is first among all

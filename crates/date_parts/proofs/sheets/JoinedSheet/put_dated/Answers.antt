@@ -1,7 +1,7 @@
 use Rattle.std.proofs.Common.{List, ℕ, subst}
 use Rattle.csv.specs.Records.{fields_of}
 use Rattle.date_parts.specs.JoinedDates.{with_field}
-use Rattle.date_parts.specs.views.SheetViews.{GainsRecord}
+use Rattle.date_parts.specs.private.SheetViews.{GainsRecord}
 use Rattle.date_parts.proofs.RecordLemmas.{then_ok}
 use Rattle.date_parts.proofs.sheets.JoinedSheet.put_dated.Goals as goal
 

@@ -2,7 +2,7 @@ use Rattle.std.proofs.Common.{◌≡◌, ◌∙◌, ◌++◌, ℕ, List, ap, ref
 use Rattle.csv.specs.Records.{fields_of}
 use Rattle.date_parts.specs.JoinedDates.{with_field}
 use Rattle.register_records.specs.Lines.{line_text}
-use Rattle.date_parts.specs.views.SheetViews.{Holds}
+use Rattle.date_parts.specs.private.SheetViews.{Holds}
 use Rattle.date_parts.proofs.RecordLemmas.{gains_one, then_ok}
 use Rattle.date_parts.proofs.sheets.JoinedSheet.put_row.Goals as goal
 

@@ -1,4 +1,4 @@
-use Rattle.register_records.specs.views.Seen.{fields_seen}
+use Rattle.register_records.specs.private.Seen.{fields_seen}
 use Rattle.register_records.proofs.BareLemmas.{utf8_texts}
 use Rattle.register_records.proofs.entries.Body.set.Goals as goal
 

@@ -1,6 +1,6 @@
 use Rattle.register_run.proofs.Common.{rules}
 use Rattle.lane_rings.specs.declared.item.Item.TheVariants as item
-use Rattle.register_run.specs.views.Stripes.{StripeTook}
+use Rattle.register_run.specs.private.Stripes.{StripeTook}
 use Rattle.register_run.proofs.CarriedLemmas.{seen_kept}
 use Rattle.register_run.proofs.stripes.Stripe.look.Goals as goal
 

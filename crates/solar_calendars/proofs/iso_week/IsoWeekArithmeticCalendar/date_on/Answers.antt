@@ -1,5 +1,5 @@
 use Rattle.day_numbers.proofs.DateLemmas.{only_found}
-use Rattle.solar_calendars.specs.views.IsoWeekLaw.{one_week_date}
+use Rattle.solar_calendars.specs.private.IsoWeekLaw.{one_week_date}
 use Rattle.solar_calendars.proofs.iso_week.IsoWeekArithmeticCalendar.date_on.Goals as goal
 
 pub returns-clause-only : goal.returns-clause-only

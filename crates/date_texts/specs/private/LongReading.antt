@@ -1,6 +1,6 @@
 -- Reading long counts from left to right.
 use Rattle.std.specs.Prelude.{ℕ, List, Option}
-use Rattle.date_texts.specs.views.Reading.{number_at, ◌>>=◌, part_at, all_read}
+use Rattle.date_texts.specs.private.Reading.{number_at, ◌>>=◌, part_at, all_read}
 
 -- a place of a long count, and what follows the dot behind it
 unfoldable pub place_at : List ℕ → Option (ℕ × List ℕ)

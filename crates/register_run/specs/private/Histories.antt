@@ -2,7 +2,7 @@
 use Rattle.std.specs.Prelude.{ℕ, List, Option}
 use Rattle.register_records.specs.declared.rows.Row.{Row}
 use Rattle.register_records.specs.declared.setups.Setup.{Setup}
-use Rattle.register_run.specs.views.JoinedThreads.{IsOfGiven}
+use Rattle.register_run.specs.private.JoinedThreads.{IsOfGiven}
 use Rattle.register_run.specs.declared.stripes.Stripe.{Stripe}
 use Rattle.register_run.specs.Histories.{IsOfMachine}
 

@@ -4,7 +4,7 @@ use Rattle.std.specs.Char.{to_ascii_lowercase}
 use Rattle.std.specs.Str.{str_eq_ignore_ascii_case}
 use Rattle.solar_calendars.specs.declared.roman_date.RomanName.{RomanName}
 use Rattle.solar_calendars.specs.declared.roman_date.RomanName.TheVariants.{Kalends, Nones, Ides, SecondSixth}
-use Rattle.date_texts.specs.views.Reading.{number_at, ◌>>=◌, part_at, year_at, all_read}
+use Rattle.date_texts.specs.private.Reading.{number_at, ◌>>=◌, part_at, year_at, all_read}
 
 -- the count of a Roman name, of one or two digits to the end
 unfoldable pub count_at : List ℕ → Option ℕ

@@ -1,6 +1,6 @@
 -- What a clause sees of the tail of a `Row`.
 use Rattle.std.specs.Prelude.{ℕ, List}
-use Rattle.register_records.specs.views.TableColumns.{tail_texts}
+use Rattle.register_records.specs.private.TableColumns.{tail_texts}
 use Rattle.register_records.specs.declared.rows.Row.{Row}
 use Rattle.register_records.specs.Views.{row_seen, row_targets}
 

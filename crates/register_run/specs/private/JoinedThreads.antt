@@ -13,7 +13,7 @@ use Rattle.register_records.specs.declared.rows.Row.{Row}
 use Rattle.register_records.specs.declared.setups.Form.TheVariants.{Sealed}
 use Rattle.register_records.specs.declared.ends.Cause.{Cause}
 use Rattle.register_records.specs.declared.ends.Cause.TheVariants as cause
-use Rattle.register_run.specs.views.Carried.{AreDealt, AreOfAllTaken, AreOfTaken, HasEnd, WereDealt}
+use Rattle.register_run.specs.private.Carried.{AreDealt, AreOfAllTaken, AreOfTaken, HasEnd, WereDealt}
 use Rattle.register_run.specs.Worlds.{World}
 use Rattle.register_run.specs.declared.reading.ReaderResult.{ReaderResult}
 use Rattle.register_run.specs.declared.reading.Sent.{Sent}

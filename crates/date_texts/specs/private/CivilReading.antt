@@ -2,7 +2,7 @@
 use Rattle.std.specs.Prelude.{ℕ, List, [], ◌∷◌, Option, Some, None, ℤ, ◌==◌, if◌then◌else◌}
 use Rattle.date_texts.specs.declared.grammar.Grammar.{Grammar}
 use Rattle.date_texts.specs.declared.grammar.Grammar.TheVariants as grammars
-use Rattle.date_texts.specs.views.Reading.{number_at, ◌>>=◌, part_at, year_at, all_read}
+use Rattle.date_texts.specs.private.Reading.{number_at, ◌>>=◌, part_at, year_at, all_read}
 
 -- what follows the letter W or w
 unfoldable pub after_week_letter : List ℕ → Option (List ℕ)

@@ -8,9 +8,9 @@ use Rattle.register_records.specs.TablesWritten.{Holds}
 use Rattle.register_records.specs.Views.{reading_of}
 use Rattle.register_run.specs.declared.stripes.Stripe.{Stripe}
 use Rattle.register_run.specs.declared.reading.Sent.{Sent}
-use Rattle.register_run.specs.views.Histories.{Carries}
-use Rattle.register_run.specs.views.Stripes.{AnyTook}
-use Rattle.register_run.specs.views.JoinedThreads.{HasPassed}
+use Rattle.register_run.specs.private.Histories.{Carries}
+use Rattle.register_run.specs.private.Stripes.{AnyTook}
+use Rattle.register_run.specs.private.JoinedThreads.{HasPassed}
 
 module _ {W : Type 0} (o : outputs.Ghosts W) where
   -- the rows of the table were taken from the stripes, or were seen to be next

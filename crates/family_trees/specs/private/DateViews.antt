@@ -2,7 +2,7 @@
 use Rattle.std.specs.Prelude.{ℕ, List, Option, map, option_map}
 use Rattle.std.specs.Borrow.{Bor}
 use Rattle.family_trees.specs.Lines.{TreeLine}
-use Rattle.family_trees.specs.views.LineViews.{line_seen}
+use Rattle.family_trees.specs.private.LineViews.{line_seen}
 use Rattle.family_trees.specs.TextViews.{text_seen}
 use Rattle.family_trees.specs.declared.trees.Tree.{Tree}
 use Rattle.family_trees.specs.declared.date_values.DateValue.{DateValue}

@@ -2,13 +2,8 @@
 use Rattle.std.specs.Prelude.{◌≡◌, ◌+◌, ℕ, List, Bool, false, true, All, get_or, length, sum_by}
 use Rattle.lane_rings.specs.Items.{entries_in}
 use Rattle.lane_rings.specs.Lane.{taken}
-<<<<<<< HEAD:crates/register_run/specs/Popped.antt
-use Rattle.register_run.specs.Stripes.{IsRowNext}
+use Rattle.register_run.specs.private.Stripes.{IsRowNext}
 use Rattle.lane_rings.specs.Machine.{turn}
-=======
-use Rattle.register_run.specs.views.Stripes.{IsRowNext}
-use Rattle.lane_rings.specs.Machine.{turn}
->>>>>>> f96d5b6b11e5857579c12d1f32893d7ec139c0e5:crates/register_run/specs/views/Popped.antt
 use Rattle.register_run.specs.Worlds.{World}
 use Rattle.register_run.specs.declared.stripes.Look.{Look}
 use Rattle.register_run.specs.declared.stripes.Look.TheVariants as look

@@ -1,6 +1,6 @@
 // What stands between the page, or Node, and the WebAssembly module: a heap, and the module's calls.
 
-import { FACTS } from './unbuilt-facts.mjs';
+import { FACTS } from './unbuilt.mjs';
 
 const PAGE = 65536;
 // What the module's memory can have: pointers of 32 bits, without the last page.

@@ -4,7 +4,7 @@ import { BESIDE, CALENDARS } from './calendars.mjs';
 import { columnNumbers, noPicks, numbersOf } from './choices.mjs';
 import { REASONS, instantiate } from './module.mjs';
 import { Table, range } from './tables.mjs';
-import { NAMES } from './unbuilt-names.mjs';
+import { NAMES } from './unbuilt.mjs';
 
 const COMMA = 44, ROOM = 2 ** 16;
 // Where a register has its dates; the refusal of a date that is not written as its calendar wants it.

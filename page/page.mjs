@@ -8,10 +8,23 @@ import { NAMES_OF_LANGUAGES, likelyLanguage, speak } from './language.mjs';
 import { registersView } from './registers-view.mjs';
 import { sheetView } from './sheet-view.mjs';
 import { Page } from './state.mjs';
-import { sayNoModule, unpacked } from './unpack.mjs';
+
+// The module that a text in base64 has packed by gzip.
+async function unpacked(text) {
+  const packed = new Blob([Uint8Array.from(atob(text), (letter) => letter.charCodeAt(0))]);
+  // @ts-ignore: the checker of today knows no DecompressionStream.
+  const bytes = new Response(packed.stream().pipeThrough(new DecompressionStream('gzip'))).arrayBuffer();
+  return WebAssembly.compile(await bytes);
+}
+
+// Says that nothing can be converted here, and why.
+function sayNoModule(why) {
+  document.getElementById('no-module-why').textContent = why;
+  document.getElementById('no-module').hidden = false;
+}
 
 const now = () => performance.now();
-const compiled = packedModule().then(unpacked).then((it) => it.arrayBuffer()).then((bytes) => WebAssembly.compile(bytes));
+const compiled = packedModule().then(unpacked);
 compiled.catch((fault) => sayNoModule(fault.message));
 
 const views = {};

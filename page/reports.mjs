@@ -490,8 +490,8 @@ function refusedDatesTable({ refused, refusedDates }, { dates }, names) {
 }
 
 // How the files of registers are called behind the name of the sheet.
-function registerFiles({ dates, ...picks }) {
-  const ends = endsOf(picks).map((end) => (end === null ? '' : WORDS.endSuffixes[end]));
+function registerFiles(picks) {
+  const { dates } = picks, ends = endsOf(picks).map((end) => (end === null ? '' : WORDS.endSuffixes[end]));
   return dates.flatMap((_, k) => ends.map((end) => `${dates.length === 1 ? '' : `.${k + 1}`}${end}${WORDS.registerSuffix}`));
 }
 

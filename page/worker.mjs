@@ -14,8 +14,7 @@ import { EVERY, LOOKED_AT, REFUSED_SHOWN, SHOWN, Table, isOfEmpty, range, rowsOf
 import { NoArchive, filesIn } from './packed.mjs';
 import { Scan, scanned } from './scans.mjs';
 import { timelineOf } from './timeline.mjs';
-import { FACTS } from './unbuilt-facts.mjs';
-import { NAMES } from './unbuilt-names.mjs';
+import { NAMES } from './unbuilt.mjs';
 import { NoWorkbook, cellsOf, kindOfBook } from './workbook.mjs';
 
 const COMMA = 44, TAB = 9;
@@ -324,7 +323,9 @@ async function readBook(module, { raw, bytesAt }, { number, file, page }) {
 }
 
 // The sheet as it is in its file.
-async function readOwn({ compiled, number, file, encoding: chosen, ...source }) {
+/** @param {Source} source */
+async function readOwn(source) {
+  const { compiled, number, file, encoding: chosen } = source;
   const module = await instantiate(compiled), read = await rawOf(module, file);
   const kind = kindOf(read.bytesAt(0, read.raw.length));
   if (kind === 'workbook') return readBook(module, read, { number, file, page: source.page });
@@ -401,7 +402,7 @@ const widestOf = ({ module, text, delimiter }, most) => module.pick(text, delimi
 const headingOf = (read, above) => begins(read, above, 0, widestOf(read, above + 1)).heading;
 
 // The three columns with years, months and days that are chosen, or were kept, where the sheet has them.
-function threeOf(read, above, { three, kept }) {
+function threeOf(read, above, { three = null, kept }) {
   if (read.isOfTree) return NO_THREE;
   const own = three ?? (kept ? threeIn(kept, headingOf(read, above)) : NO_THREE);
   return isThree(own) && Math.max(...own.map(Number)) >= widestOf(read, EVERY) ? NO_THREE : own;

@@ -5,7 +5,7 @@ import { TARGETS } from './calendars.mjs';
 import { DATES_AT, NO_THREE, choicesOf, columnNumbers, isThree, spansIn, threeIn, widthOf, withSpans } from './choices.mjs';
 import { ChangedFile, NoReading, checkUnchanged, readFile } from './files.mjs';
 import { formulasAmong } from './formulas.mjs';
-import { NO_DAY, NoMemory, expectedLength, instantiate } from './module.mjs';
+import { NO_DAY, NoMemory, checkEnding, expectedLength, instantiate } from './module.mjs';
 import { date } from './one-date.mjs';
 import {
   isAnsel, isDelimiterOf, isIbmPc, isJson, isObject, isTree, kindOf, likelyAbove, likelyDelimiter, likelyEncodings, markedEncoding,
@@ -591,12 +591,6 @@ function foundOf({ module, text, delimiter }, table, made, refused, width) {
   const formulas = formulasOf(module, seen, text, table, delimiter, made.own, made.above + made.rows);
   if (!refused.some(Boolean)) return { formulas };
   return { formulas, refusedDates: refusedDates(module, table, delimiter, made, width) };
-}
-
-// Throws where a call of the module was not ended as it should.
-function checkEnding(name, ending) {
-  if (ending === 1) throw new NoMemory();
-  if (ending !== 0) throw new Error(`${name}: ${ending}`);
 }
 
 /** The register of one column of dates of the sheet that was converted last, and of one end of these. */

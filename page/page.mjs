@@ -3,7 +3,7 @@
 import { newWorker, packedModule } from './unbuilt.mjs';
 import { dateView } from './date-view.mjs';
 import { doorView } from './door-view.mjs';
-import { byId, clear, element, putWords } from './elements.mjs';
+import { button, byId, clear, putWords } from './elements.mjs';
 import { NAMES_OF_LANGUAGES, likelyLanguage, speak } from './language.mjs';
 import { registersView } from './registers-view.mjs';
 import { sheetView } from './sheet-view.mjs';
@@ -42,7 +42,7 @@ function open(language) {
   main.append(...undrawn.cloneNode(true).childNodes);
   main.querySelectorAll('details').forEach((it, i) => { it.open = isOpen[i]; });
   putWords();
-  for (const button of byId('languages').children) button.setAttribute('aria-pressed', String(button.lang === language));
+  for (const it of byId('languages').children) it.setAttribute('aria-pressed', String(it.lang === language));
   views.date = dateView(stepOf('date'));
   views.door = doorView(stepOf('door'), { anew: () => page.startAnew(), answer: (isYes) => page.answer(isYes) });
   views.registers = registersView(stepOf('registers'), now);
@@ -50,11 +50,8 @@ function open(language) {
   page.settle();
 }
 
-byId('languages').append(...NAMES_OF_LANGUAGES.map(({ language, name }) => {
-  const button = element('button', name, { type: 'button', className: 'plain', lang: language });
-  button.addEventListener('click', () => open(language));
-  return button;
-}));
+byId('languages').append(...NAMES_OF_LANGUAGES.map(({ language, name }) =>
+  button(name, 'plain', { lang: language }, () => open(language))));
 open(likelyLanguage(navigator.languages));
 
 // The link to what is proved unfolds it.

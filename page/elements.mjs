@@ -196,19 +196,17 @@ export function columnTicks(box, names, none, choose) {
   };
 }
 
+const choicesCalled = (name) =>
+  /** @type {NodeListOf<HTMLInputElement>} */ (document.querySelectorAll(`input[name=${name}]`));
+
 /** Draws which of the choices of this name is made. */
 export function check(name, value) {
-  for (const choice of document.querySelectorAll(`input[name=${name}]`)) {
-    const input = /** @type {HTMLInputElement} */ (choice);
-    input.checked = input.value === String(value);
-  }
+  for (const choice of choicesCalled(name)) choice.checked = choice.value === String(value);
 }
 
 /** Tells `choose` the value that is chosen among those of this name. */
 export function onCheck(name, choose) {
-  for (const choice of document.querySelectorAll(`input[name=${name}]`)) {
-    choice.addEventListener('change', () => choose(/** @type {HTMLInputElement} */ (choice).value));
-  }
+  for (const choice of choicesCalled(name)) choice.addEventListener('change', () => choose(choice.value));
 }
 
 // The names of folders among what is dropped, and the files.

@@ -10,7 +10,7 @@ import { date } from './one-date.mjs';
 import {
   isAnsel, isDelimiterOf, isIbmPc, isJson, isObject, isTree, kindOf, likelyAbove, likelyDelimiter, likelyEncodings, markedEncoding,
 } from './proposals.mjs';
-import { EVERY, LOOKED_AT, REFUSED_SHOWN, SHOWN, Table, isOfEmpty, range, rowsOf } from './tables.mjs';
+import { EVERY, LOOKED_AT, OF_EMPTY, REFUSED_SHOWN, SHOWN, Table, isOfEmpty, range, rowsOf } from './tables.mjs';
 import { NoArchive, filesIn } from './packed.mjs';
 import { Scan, scanned } from './scans.mjs';
 import { timelineOf } from './timeline.mjs';
@@ -28,8 +28,6 @@ const MOST_CUT = 1000, MOST_CHOICES = 1e6, FRONT = 2 ** 16;
 const NO_HEADER = 6, HEADER = 256, LINE_SHOWN = 100;
 // Where a register has its dates.
 const DATE_AT = 2;
-// Refusals that a record without a date can have: its calendar is not known, or the date is not written as it wants.
-const NO_SUCH_NAME = 4, NOT_WRITTEN = 5;
 // How registers can be written.
 const FORMS = [false, true].flatMap((sealed) => [44, 59, 9].map((delimiter) => ({ delimiter, sealed })));
 // Fields that are looked through at once.
@@ -67,12 +65,15 @@ async function blobOf(module, part, ...first) {
   return new Blob(pieces, { type: 'text/csv' });
 }
 
-// Takes the bytes of a Blob into the module's memory, and looks at each piece of them.
-async function partOf(module, blob, look = (_) => {}) {
-  const part = module.malloc(blob.size);
-  await readFile(blob, (at, length) => module.bytes({ pointer: part.pointer + at, length }), look);
-  return part;
+// Takes the bytes of a file into the module's memory, and looks at each piece of them. The answer has them, and how they are
+// read.
+async function taken(module, file, look = (_) => {}) {
+  const part = module.malloc(file.size), bytesAt = (at, length) => module.bytes({ pointer: part.pointer + at, length });
+  await readFile(file, bytesAt, look);
+  return { part, bytesAt };
 }
+
+const partOf = async (module, blob, look) => (await taken(module, blob, look)).part;
 
 const numbersOf = (targets) => targets.map((name) => TARGETS.indexOf(name));
 
@@ -159,13 +160,10 @@ async function looks({ compiled, files }) {
 
 // A register. Its text is told when it is read where `isTold`, so that its days are found at the same time.
 async function register({ compiled, file, columns, isTold }, tell) {
-  const module = await instantiate(compiled);
-  const text = module.malloc(file.size);
-  const bytesAt = (at, length) => module.bytes({ pointer: text.pointer + at, length });
-  const seen = new Scan();
-  await readFile(file, bytesAt, (piece) => seen.look(piece));
+  const module = await instantiate(compiled), seen = new Scan();
+  const { part: text, bytesAt } = await taken(module, file, (piece) => seen.look(piece));
   const bytes = bytesAt(0, text.length), kind = kindOf(bytes) || (markedEncoding(bytes) && 'utf16');
-  const form = formOf(module, bytesAt(0, text.length));
+  const form = formOf(module, bytes);
   if (kind !== null && form === null) throw new OtherKind(kind === 'workbook' ? 'book' : kind);
   if (isTree(frontOf(module, text))) throw new OtherKind('tree');
   const { delimiter, sealed } = form || FORMS[0];
@@ -187,7 +185,7 @@ async function register({ compiled, file, columns, isTold }, tell) {
 
 // The refusals of a register without those of records that have no date.
 function withoutEmpty(module, seen, text, setup, { refused, counts }) {
-  if (counts[NO_SUCH_NAME - 1] + counts[NOT_WRITTEN - 1] === 0) return { empty: 0 };
+  if (OF_EMPTY.every((refusal) => counts[refusal - 1] === 0)) return { empty: 0 };
   const { refusals } = emptyOf(module, seen, text, setup), now = [...counts];
   for (const refusal of refusals) now[refusal - 1] -= 1;
   return { refused: refused - refusals.length, counts: now, empty: refusals.length };
@@ -203,7 +201,7 @@ function emptyOf(module, seen, text, { delimiter, sealed }) {
   const { table } = module.convert(own, { columns, delimiter, sealed }, expectedLength(own.length, blank.length, 0));
   const rows = new Table(module, table, delimiter).rows(['refusal'], EVERY).map(([refusal]) => Number(refusal));
   module.free(table, own);
-  const isEmpty = (_, i) => rows[i] === NO_SUCH_NAME || rows[i] === NOT_WRITTEN;
+  const isEmpty = (_, i) => OF_EMPTY.includes(rows[i]);
   return { records: blank.slice(1).map((record) => record - 1).filter(isEmpty), refusals: rows.filter(isEmpty) };
 }
 
@@ -247,7 +245,7 @@ let sheet = null;
 
 // Takes a file into the module's memory. The answer has its bytes, and whether these are UTF-8, or even ASCII alone.
 async function rawOf(module, file) {
-  const raw = module.malloc(file.size), decoder = new TextDecoder('utf-8', { fatal: true });
+  const decoder = new TextDecoder('utf-8', { fatal: true });
   let isUtf8 = true, isAscii = true;
   const look = (piece, isLast) => {
     try {
@@ -257,8 +255,7 @@ async function rawOf(module, file) {
       isUtf8 = false;
     }
   };
-  const bytesAt = (at, length) => module.bytes({ pointer: raw.pointer + at, length });
-  await readFile(file, bytesAt, (piece) => isUtf8 && look(piece, false));
+  const { part: raw, bytesAt } = await taken(module, file, (piece) => isUtf8 && look(piece, false));
   if (isUtf8) look(new Uint8Array(), true);
   return { raw, bytesAt, isUtf8, isAscii: isUtf8 && isAscii };
 }

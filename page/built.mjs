@@ -11,7 +11,8 @@
 /** @type {Facts} */
 export const FACTS = JSON.parse('{facts}');
 
-// The list of names by what they mean: of each part the first is the meaning and the calendars, and the others are names.
+// The list of names by what they mean: of each part the first is the meaning and the calendars, and the others are
+// names.
 const PARTS = '{names}'.split('|').map((part) => part.split(';'));
 const LINES = PARTS.flatMap(([means, ...names]) => names.map((name) => `${name},${means}\n`));
 

@@ -21,7 +21,8 @@ function cellPart(cell, end) {
 function drawnCells([name, ...cells]) {
   const [ends, words] = [0, 1].map((which) => cells.filter((_, i) => i % 2 === which));
   const drawn = words.some(Boolean) ? words.map((it) => element('dd', it, { className: 'words' })) : [];
-  return element('div', '', { className: cells.length > 2 ? 'pair' : '' }, element('dt', name), ...ends.map(cellPart), ...drawn);
+  return element('div', '', { className: cells.length > 2 ? 'pair' : '' }, element('dt', name), ...ends.map(cellPart),
+    ...drawn);
 }
 
 /** The answer draws the state. */

@@ -73,8 +73,9 @@ export const region = (className, words, ...children) =>
   element('div', '', { className, tabIndex: 0, role: 'region', 'aria-label': textOf(words) }, ...children);
 
 /** A table with its caption, a line of heads and lines of a body. */
-export const tableOf = (properties, caption, heads, lines) => element('table', '', properties, element('caption', caption),
-  element('thead', '', {}, element('tr', '', {}, ...heads)), element('tbody', '', {}, ...lines));
+export const tableOf = (className, caption, heads, lines) =>
+  element('table', '', className ? { className } : {}, element('caption', caption),
+    element('thead', '', {}, element('tr', '', {}, ...heads)), element('tbody', '', {}, ...lines));
 
 /** A new element with a text of the user's own. */
 export const textElement = (name, text, properties = {}) => element(name, { own: text }, properties);
@@ -108,16 +109,19 @@ function bodyRow({ fields, reason, span, id = '', isBelow = false }) {
   for (const field of fields) line.append(textElement('td', field, { title: field }));
   if (!reason) return [line];
   line.className = 'refused';
-  const own = { className: 'reason', colSpan: span };
-  if (isBelow) return [line, element('tr', '', { className: 'refused below' }, element('td', '', own, element('div', reason)))];
-  line.append(element('td', reason, own));
+  const cell = element('td', isBelow ? '' : reason, { className: 'reason', colSpan: span });
+  if (isBelow) {
+    cell.append(element('div', reason));
+    return [line, element('tr', '', { className: 'refused below' }, cell)];
+  }
+  line.append(cell);
   return [line];
 }
 
 /** A table in a box of its own, which can be moved sideways. Its name is its caption, behind the title of its owner. */
 export function tableBox({ caption, heading, rows }, title = '') {
   const heads = heading.map((name) => textElement('th', name, { scope: 'col', title: name }));
-  const table = tableOf({}, caption, heads, rows.flatMap(bodyRow));
+  const table = tableOf('', caption, heads, rows.flatMap(bodyRow));
   table.style.setProperty('--columns', String(heading.length));
   return region('rows', title === '' ? caption : WORDS.captionOf(title, caption), table);
 }
@@ -125,7 +129,7 @@ export function tableBox({ caption, heading, rows }, title = '') {
 /** How many records or dates were refused, by the reason, with what to do. */
 function countsTable(rows, { caption, count: counted, reason: why, advice: what }) {
   const heads = [counted, why, what].map((name) => element('th', name, { scope: 'col' }));
-  return tableOf({ className: 'counts' }, caption, heads, rows.map(([count, reason, advice]) => element('tr', '', {},
+  return tableOf('counts', caption, heads, rows.map(([count, reason, advice]) => element('tr', '', {},
     element('td', count, { className: 'number' }), element('th', reason, { scope: 'row' }), element('td', advice))));
 }
 
@@ -181,10 +185,11 @@ export function drawReport(article, id, report, saved, make = (_) => {}) {
 export function columnTicks(box, names, none, choose) {
   let order = [];
   const boxes = names.map((name) => element('input', '', { type: 'checkbox', value: name, autocomplete: 'off' }));
-  const ticks = element('div', '', { className: 'ticks' }, ...boxes.map((it) => element('label', '', {}, it, it.value)));
+  const labels = boxes.map((tick) => element('label', '', {}, tick, tick.value));
   const buttons = [[WORDS.all, names], [WORDS.none, []]].map(([words, wanted]) =>
     button(words, 'second small', {}, () => choose(wanted)));
   const inOrder = element('p', '', { className: 'hint' });
+  const ticks = element('div', '', { className: 'ticks' }, ...labels);
   box.append(ticks, element('p', '', { className: 'buttons' }, ...buttons), inOrder);
   ticks.addEventListener('change', ({ target }) => {
     choose(target.checked ? [...order, target.value] : order.filter((name) => name !== target.value));

@@ -37,7 +37,8 @@ function saveLink(link, number, { saved }) {
 
 /** A row of the list, and what draws it. A table that was saved is not drawn anew, or its link would end. */
 function newRow(number, steps) {
-  const open = button('', 'plain', { id: `open-${number}`, 'aria-controls': 'register-opened' }, () => steps.opened(number));
+  const open = button('', 'plain', { id: `open-${number}`, 'aria-controls': 'register-opened' },
+    () => steps.opened(number));
   const [form, rows, refused, state] =
     ['form', 'number', 'number', 'state'].map((className) => element('td', '', { className }));
   const table = element('div', '', { className: 'buttons' });
@@ -80,7 +81,7 @@ function newRow(number, steps) {
  */
 export function registersTable(box, numbers, left, steps) {
   const caption = WORDS.listCaption(numbers.length, numbers.length + left.length);
-  const table = tableOf({ className: 'list' }, caption, HEADS.map(headOf), []), body = table.querySelector('tbody');
+  const table = tableOf('list', caption, HEADS.map(headOf), []), body = table.querySelector('tbody');
   box.append(region('rows scroll', caption, table));
   const rows = new Map(numbers.map((number) => [number, newRow(number, steps)])), others = left.map(leftRow);
   let order = '';

@@ -23,8 +23,8 @@ function attributesOf(text) {
 }
 
 /**
- * Tells `takes` each element that begins, with its name and its attributes, each that ends, and each text between them, as
- * far as it takes them.
+ * Tells `takes` each element that begins, with its name and its attributes, each that ends, and each text between
+ * them, as far as it takes them.
  * @param {string} text
  * @param {{ begins(name: string, attributes: Record<string, string>): void, ends?(name: string): void,
  *   text?(text: string): void }} takes

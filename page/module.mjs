@@ -334,8 +334,8 @@ export class Module {
     return { ...part, items: numbers.length };
   }
 
-  // Calls the export `name`, whose report begins with an ending and the length of a text, and then has so many numbers, with
-  // `words` before the room for that text; `guess` is how long it may be. What was `lent` to the call is freed.
+  // Calls the export `name`, whose report begins with an ending and the length of a text, and then has so many numbers,
+  // with `words` before the room for that text; `guess` is how long it may be. What was `lent` to the call is freed.
   makeFrom(name, numbers, words, lent, guess) {
     let buffer = this.malloc(guess);
     for (;;) {
@@ -472,8 +472,8 @@ export class Module {
 
   /** A CSV text of the fields, of which each `width` are a record. */
   write(fields, width, delimiter) {
-    const { bytes, lengths } = this.putFields(fields);
-    const { ending, text } = this.makeFrom('sheet_write', 0, [bytes, lengths, BigInt(width), delimiter], [lengths, bytes], 4096);
+    const { bytes, lengths } = this.putFields(fields), words = [bytes, lengths, BigInt(width), delimiter];
+    const { ending, text } = this.makeFrom('sheet_write', 0, words, [lengths, bytes], 4096);
     checkEnding('sheet_write', ending);
     return text;
   }

@@ -118,7 +118,8 @@ function drawPicture(box, report) {
   const save = button(WORDS.savePicture, 'second', { id: `${report.id}-save` },
     () => saveBlob(savedPicture(picture), report.name));
   const lines = report.lines.map(({ id = '', words }) => element('li', words, id ? { id, tabIndex: -1 } : {}));
-  box.append(element('h4', report.title), region('rows picture', report.title, picture), element('ul', '', {}, ...lines),
+  box.append(element('h4', report.title), region('rows picture', report.title, picture),
+    element('ul', '', {}, ...lines),
     ...report.tables.map((table) => tableBox(table, report.name)),
     ...report.hints.map((words) => element('p', words, { className: 'hint' })),
     element('p', '', { className: 'buttons' }, save));

@@ -61,7 +61,8 @@ function archiveOf(box, step) {
 function listOfRun(box, run, left, step, now) {
   const drawTable = registersTable(box, run.jobs.map(({ number }) => number), leftRows(left), stepsOf(step, now));
   const drawArchive = archiveOf(box.appendChild(element('p', '', { className: 'buttons' })), step);
-  const drawOpened = articleOf(box.appendChild(element('div', '', { id: 'register-opened' })), 'register-result', step, now);
+  const openedBox = box.appendChild(element('div', '', { id: 'register-opened' }));
+  const drawOpened = articleOf(openedBox, 'register-result', step, now);
   return (it, state) => {
     const opened = it.jobs.length === 1 ? it.jobs[0].number : it.opened;
     drawTable(registersList(it, now()), opened);

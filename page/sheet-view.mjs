@@ -3,8 +3,8 @@
 import { BESIDE, CALENDARS } from './calendars.mjs';
 import { AS_EMPTY, MOST_DATES, NO_THREE, changeOf, dayOfChange, isColumn, meantByEmpty } from './choices.mjs';
 import {
-  button, byId, check, clear, columnTicks, drawPart, drawReport, drawRunning, element, onCheck, option, saveBlob, select,
-  setText, tableBox, textOf, whenChanged, withFocus, wordsIn,
+  button, byId, check, clear, columnTicks, drawPart, drawReport, drawRunning, element, onCheck, option, saveBlob,
+  select, setText, tableBox, textOf, whenChanged, withFocus, wordsIn,
 } from './elements.mjs';
 import { pictureBox } from './picture-view.mjs';
 import {

@@ -1,6 +1,6 @@
-// What the page has while it is written, and is served from this folder's repository by a local server: what the product
-// knows of itself, as the stored run of register_facts has it, the list of names, the module of register.html, and the
-// worker's file. page/build-page takes built.mjs in its place.
+// What the page has while it is written, and is served from this folder's repository by a local server: what the
+// product knows of itself, as the stored run of register_facts has it, the list of names, the module of register.html,
+// and the worker's file. page/build-page takes built.mjs in its place.
 
 // A worker would lose what is sent to it while it waits, so this does not.
 function requested(name) {

@@ -65,8 +65,8 @@ async function blobOf(module, part, ...first) {
   return new Blob(pieces, { type: 'text/csv' });
 }
 
-// Takes the bytes of a file into the module's memory, and looks at each piece of them. The answer has them, and how they are
-// read.
+// Takes the bytes of a file into the module's memory, and looks at each piece of them. The answer has them, and how
+// they are read.
 async function taken(module, file, look = (_) => {}) {
   const part = module.malloc(file.size), bytesAt = (at, length) => module.bytes({ pointer: part.pointer + at, length });
   await readFile(file, bytesAt, look);

@@ -402,8 +402,8 @@ export class Module {
   registerDays(text, delimiter, sealed, guess = expectedRecords(text.length)) {
     const days = { ...this.malloc(4 * guess), items: guess }, calendars = this.malloc(guess);
     const [ending, length] = this.call('register_days', 2, [text, delimiter, sealed ? 1 : 0, days, calendars]);
-    const isWhole = length <= guess, own = isWhole ? this.numbersOf(days, length) : null;
-    const found = isWhole ? { ending, days: own, calendars: this.bytes({ ...calendars, length }).slice() } : null;
+    const found = length > guess ? null : { ending, days: this.numbersOf(days, length),
+      calendars: this.bytes({ ...calendars, length }).slice() };
     this.free(calendars, days);
     return found || this.registerDays(text, delimiter, sealed, length);
   }

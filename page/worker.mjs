@@ -36,19 +36,13 @@ const FIELDS_AT_ONCE = 2 ** 22;
 // Events of a family tree that tell of its file alone: when a record was changed, or made.
 const OF_FILE = ['CHAN', '_CHAN', 'CREA', '_CREA'], LONGEST = 5;
 
-class NotEncoded extends Error {}
-
-// The file is no text, or none in UTF-8 where it has to be; the message is its kind.
-class OtherKind extends Error {}
+// What is given does not fit; the message says how. The file is no text, or none in UTF-8 where it has to be; it is
+// written in no encoding that is likely; the sheet has other columns than those that were chosen from; or the file has
+// no choices of a sheet.
+class Unfit extends Error {}
 
 // Spreadsheets open a text of UTF-8 by this mark.
 const MARK = '\ufeff', MARK_LENGTH = 3;
-
-// The sheet has other columns than those that were chosen from.
-class OtherColumns extends Error {}
-
-// The file has no choices of a sheet.
-class NoChoices extends Error {}
 
 /**
  * Copies a part of the memory out. The browser takes each piece over before the next one is made, which keeps memory
@@ -164,8 +158,8 @@ async function register({ compiled, file, columns, isTold }, tell) {
   const { part: text, bytesAt } = await taken(module, file, (piece) => seen.look(piece));
   const bytes = bytesAt(0, text.length), kind = kindOf(bytes) || (markedEncoding(bytes) && 'utf16');
   const form = formOf(module, bytes);
-  if (kind !== null && form === null) throw new OtherKind(kind === 'workbook' ? 'book' : kind);
-  if (isTree(frontOf(module, text))) throw new OtherKind('tree');
+  if (kind !== null && form === null) throw new Unfit(kind === 'workbook' ? 'book' : kind);
+  if (isTree(frontOf(module, text))) throw new Unfit('tree');
   const { delimiter, sealed } = form || FORMS[0];
   const setup = { columns: numbersOf(columns), delimiter, sealed };
   const told = isTold ? await blobOf(module, text) : null;
@@ -295,7 +289,7 @@ function textOf(module, { raw, bytesAt, isUtf8, isAscii }, chosen, kept) {
     const text = encoding === 'utf-8' ? withoutMark(module, raw) : decodedBy(module, raw, encoding);
     if (text !== null) return { encoding, text };
   }
-  throw new NotEncoded();
+  throw new Unfit('notEncoded');
 }
 
 // How the text begins, for what is proposed.
@@ -326,11 +320,11 @@ async function readOwn(source) {
   const module = await instantiate(compiled), read = await rawOf(module, file);
   const kind = kindOf(read.bytesAt(0, read.raw.length));
   if (kind === 'workbook') return readBook(module, read, { number, file, page: source.page });
-  if (kind !== null) throw new OtherKind(kind);
+  if (kind !== null) throw new Unfit(kind);
   const { encoding, text: own } = textOf(module, read, chosen, source.kept), beginning = frontOf(module, own);
   const isOfTree = source.isTree ?? isTree(beginning);
-  if (isOfTree && !read.isAscii && isAnsel(beginning)) throw new OtherKind('ansel');
-  if (isOfTree && !read.isAscii && chosen === null && isIbmPc(beginning)) throw new OtherKind('ibmpc');
+  if (isOfTree && !read.isAscii && isAnsel(beginning)) throw new Unfit('ansel');
+  if (isOfTree && !read.isAscii && chosen === null && isIbmPc(beginning)) throw new Unfit('ibmpc');
   const text = isOfTree ? datesOfTree(module, own, source.hasFileDates) : own;
   const front = isOfTree ? frontOf(module, text) : beginning;
   const delimiter = isOfTree ? COMMA : delimiterOf(front, source);
@@ -428,7 +422,7 @@ async function beginning(source) {
 /** The choices that were kept in a file. */
 async function choices({ file }) {
   const kept = file.size > MOST_CHOICES ? null : choicesOf(await file.text().catch(() => ''));
-  if (kept === null) throw new NoChoices();
+  if (kept === null) throw new Unfit('noChoices');
   return kept;
 }
 
@@ -563,7 +557,7 @@ function hasOtherColumns({ module, text, delimiter }, above, heading) {
  */
 async function convertSheet({ choice, places, columns, names, heading, records, isTold, ...source }, tell) {
   const read = await readSheet(/** @type {Source} */ (source)), { module, text, delimiter } = read, { above } = source;
-  if (hasOtherColumns(read, above, heading)) throw new OtherColumns();
+  if (hasOtherColumns(read, above, heading)) throw new Unfit('otherColumns');
   const told = isTold ? await blobOf(module, text) : null;
   if (told) tell({ text: told });
   const dates = places.length, width = widthOf(choice, columns.length), behind = dates * width;
@@ -693,12 +687,9 @@ const TASKS = {
 };
 
 function faultOf(fault) {
-  if (fault instanceof OtherKind || fault instanceof NoWorkbook) return fault.message;
+  if (fault instanceof Unfit || fault instanceof NoWorkbook) return fault.message;
   if (fault instanceof NoReading) return 'noReading';
   if (fault instanceof ChangedFile) return 'changedFile';
-  if (fault instanceof NotEncoded) return 'notEncoded';
-  if (fault instanceof OtherColumns) return 'otherColumns';
-  if (fault instanceof NoChoices) return 'noChoices';
   if (fault instanceof TooLarge) return 'archiveTooLarge';
   return fault instanceof NoMemory || fault instanceof RangeError ? 'noMemory' : 'fault';
 }

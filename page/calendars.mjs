@@ -1,7 +1,7 @@
 // The calendars in which a record's date can be, and the columns that a table can have, as the module numbers them. All
 // are those of the product's own list.
 
-import { FACTS } from './unbuilt-facts.mjs';
+import { FACTS } from './unbuilt.mjs';
 
 export const CALENDARS = FACTS.calendars.map(({ name }) => name);
 export const TARGETS = FACTS.targets.all;

@@ -112,10 +112,8 @@ function columnCalled(heading, column) {
   return { column: name, ...(number > 1 ? { number } : {}) };
 }
 
-function calendarCalled(heading, calendar) {
-  if (calendar === '') return {};
-  return { calendar: isColumn(calendar) ? columnCalled(heading, calendar) : calendar };
-}
+const calendarCalled = (heading, calendar) =>
+  (calendar === '' ? {} : { calendar: isColumn(calendar) ? columnCalled(heading, calendar) : calendar });
 
 /** The choices as a text that can be read and kept. */
 export function choicesText({ encoding, delimiter, above, three }, heading, picks, columns) {

@@ -19,11 +19,10 @@ function cellPart(cell, end) {
 // The cells of a calendar, and below them their words: of what is no single day, those of its last day beside those of its
 // first.
 function drawnCells([name, ...cells]) {
-  const part = element('div', '', { className: cells.length > 2 ? 'pair' : '' }), ends = cells.filter((_, i) => i % 2 === 0);
-  const words = cells.filter((_, i) => i % 2 === 1);
-  part.append(element('dt', name), ...ends.map(cellPart));
-  if (words.some(Boolean)) part.append(...words.map((it) => element('dd', it, { className: 'words' })));
-  return part;
+  const [ends, words] = [0, 1].map((which) => cells.filter((_, i) => i % 2 === which));
+  const drawn = words.some(Boolean) ? words.map((it) => element('dd', it, { className: 'words' })) : [];
+  return element('div', '', { className: cells.length > 2 ? 'pair' : '' }, element('dt', name), ...ends.map(cellPart),
+    ...drawn);
 }
 
 /** The answer draws the state. */

@@ -95,16 +95,15 @@ export function shown(state) {
   if (isEmpty(state)) return { line: WORDS.waits, kind: 'empty', cells: [] };
   if (!hasResult(state)) return { line: '', kind: 'empty', cells: [] };
   const { answer, fault, why } = state.result.reply, { text } = state.choice;
-  if (fault) return { line: WORDS.fault(why), kind: 'wrong', cells: [] };
-  if (answer.ending !== 0) {
-    return { line: WORDS.isNoDay(WORDS.sheetFaults[answer.ending] || WORDS.noMemory), kind: 'wrong', cells: [] };
-  }
+  const wrong = (line) => ({ line, kind: 'wrong', cells: [] });
+  if (fault) return wrong(WORDS.fault(why));
+  if (answer.ending !== 0) return wrong(WORDS.isNoDay(WORDS.sheetFaults[answer.ending] || WORDS.noMemory));
   const read = readOf(answer, text), refusal = Number(answer.refusal);
   if (refusal) {
-    if (marksOf(answer).includes('undated')) return { line: WORDS.isNoDay(WORDS.spanMarks.undated), kind: 'wrong', cells: [] };
+    if (marksOf(answer).includes('undated')) return wrong(WORDS.isNoDay(WORDS.spanMarks.undated));
     const why = answer.stop ? stopWords(answer.stop, text) : WORDS.refusals[refusal - 1];
     const reason = refusal === TOO_LONG ? WORDS.isTooLong : why;
-    return { line: WORDS.isNoDay(reason, read), kind: 'wrong', cells: [] };
+    return wrong(WORDS.isNoDay(reason, read));
   }
   return cellOf(answer, 0, 'rd') === cellOf(answer, 1, 'rd') ? shownDay(answer, read) : shownSpan(answer, read);
 }

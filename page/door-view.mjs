@@ -1,7 +1,9 @@
 // Draws what is given to the page, and takes it: files and pasted cells, and what each is taken for.
 
 import { chosen, opened, pasted, removed, sheetsTaken, taken } from './door.mjs';
-import { byId, element, option, setText, takeFiles, takePaste, textOf, whenChanged, withFocus, wordsIn } from './elements.mjs';
+import {
+  byId, button, element, option, select, setText, takeFiles, takePaste, textOf, whenChanged, withFocus, wordsIn,
+} from './elements.mjs';
 import { WORDS } from './language.mjs';
 import { doorQuestion, doorRows, doorStatus, sheetsBeside } from './reports.mjs';
 
@@ -13,22 +15,17 @@ function entryRow({ number, name, is, as, choices, canOpen, isOpen }) {
   const line = element('li'), what = line.appendChild(element('span', name, { className: 'entry-name' }));
   if (choices.length === 0) {
     what.append(': ', ...element('span', is).childNodes);
-    const own = { type: 'button', className: 'second small', id: `remove-entry-${number}` };
-    const remove = element('button', WORDS.takeOff, own);
-    remove.setAttribute('aria-label', textOf([WORDS.takeOff, ': ', name]));
-    line.append(remove);
+    line.append(button(WORDS.takeOff, 'second small',
+      { id: `remove-entry-${number}`, 'aria-label': textOf([WORDS.takeOff, ': ', name]) }));
   } else {
-    const select = element('select', '', { id: `entry-${number}`, autocomplete: 'off' });
-    select.append(...choices.map(([value, words]) => option(words, value)));
-    select.value = as;
-    select.setAttribute('aria-label', textOf(WORDS.takenFor(name)));
-    line.append(select);
+    const taken = select(`entry-${number}`, choices.map(([value, words]) => option(words, value)));
+    taken.value = as;
+    taken.setAttribute('aria-label', textOf(WORDS.takenFor(name)));
+    line.append(taken);
   }
   if (canOpen) {
-    const open = element('button', WORDS.workAt, { type: 'button', className: 'second small', id: `open-entry-${number}` });
-    open.setAttribute('aria-pressed', String(isOpen));
-    open.setAttribute('aria-label', textOf([WORDS.workAt, ': ', name]));
-    line.append(open);
+    line.append(button(WORDS.workAt, 'second small', { id: `open-entry-${number}`, 'aria-pressed': isOpen,
+      'aria-label': textOf([WORDS.workAt, ': ', name]) }));
   }
   return line;
 }

@@ -149,23 +149,20 @@ export const hasArrived = ({ coming }) => coming !== null && coming.looks !== nu
  */
 export const noticed = (state, notice) => ({ ...state, folders: [], notice, question: null });
 
+const takenBy = (state, isIt, as) =>
+  withOpen({ ...noticed(state, ''), entries: state.entries.map((it) => (isIt(it) ? { ...it, as } : it)) });
+
 /**
  * A file is taken for something else than it looks like, or for nothing.
  * @param {DoorState} state
  */
-export function taken(state, number, as) {
-  const entries = state.entries.map((it) => (it.number === number ? { ...it, as } : it));
-  return withOpen({ ...noticed(state, ''), entries });
-}
+export const taken = (state, number, as) => takenBy(state, (it) => it.number === number, as);
 
 /**
  * All sheets are taken for registers, as where one of many lacks its header.
  * @param {DoorState} state
  */
-export function sheetsTaken(state) {
-  const entries = state.entries.map((it) => (isTextSheet(it) ? { ...it, as: 'register' } : it));
-  return withOpen({ ...noticed(state, ''), entries });
-}
+export const sheetsTaken = (state) => takenBy(state, isTextSheet, 'register');
 
 /**
  * Another sheet is worked at.

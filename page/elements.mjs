@@ -43,13 +43,39 @@ export function putWords() {
 }
 
 /**
- * A new element with words in it.
+ * A new element with words in it, and other elements behind them. What is for those who hear the page are attributes.
  * @param {Words} words
+ * @param {Record<string, any>} properties
  * @returns {any}
  */
-export function element(name, words = '', properties = {}) {
-  return Object.assign(setText(document.createElement(name), words), properties);
+export function element(name, words = '', properties = {}, ...children) {
+  const made = setText(document.createElement(name), words);
+  for (const [key, value] of Object.entries(properties)) {
+    if (/^(role$|aria-)/.test(key)) made.setAttribute(key, String(value));
+    else made[key] = value;
+  }
+  made.append(...children);
+  return made;
 }
+
+/** A button; that it was pressed is told to `take`. */
+export function button(words, className, properties, take = () => {}) {
+  const made = element('button', words, { type: 'button', className, ...properties });
+  made.addEventListener('click', take);
+  return made;
+}
+
+/** A list of options. */
+export const select = (id, options) => element('select', '', { id, autocomplete: 'off' }, ...options);
+
+/** A box that can be moved sideways, called by these words. */
+export const region = (className, words, ...children) =>
+  element('div', '', { className, tabIndex: 0, role: 'region', 'aria-label': textOf(words) }, ...children);
+
+/** A table with its caption, a line of heads and lines of a body. */
+export const tableOf = (className, caption, heads, lines) =>
+  element('table', '', className ? { className } : {}, element('caption', caption),
+    element('thead', '', {}, element('tr', '', {}, ...heads)), element('tbody', '', {}, ...lines));
 
 /** A new element with a text of the user's own. */
 export const textElement = (name, text, properties = {}) => element(name, { own: text }, properties);
@@ -57,12 +83,12 @@ export const textElement = (name, text, properties = {}) => element(name, { own:
 /** An option of a list. */
 export const option = (words, value) => textElement('option', textOf(words), { value });
 
-/** Draws a value by `draw`, if it is another than the one before. */
-export function whenChanged(draw) {
+/** Draws a value by `draw`, if it is another than the one before; where `keyOf` is given, if that is another. */
+export function whenChanged(draw, keyOf = (value) => value) {
   let before;
   return (value) => {
-    if (value === before) return;
-    before = value;
+    if (keyOf(value) === before) return;
+    before = keyOf(value);
     draw(value);
   };
 }
@@ -84,45 +110,27 @@ function bodyRow({ fields, reason, span, id = '', isBelow = false }) {
   if (!reason) return [line];
   line.className = 'refused';
   const cell = element('td', isBelow ? '' : reason, { className: 'reason', colSpan: span });
-  if (!isBelow) {
-    line.append(cell);
-    return [line];
+  if (isBelow) {
+    cell.append(element('div', reason));
+    return [line, element('tr', '', { className: 'refused below' }, cell)];
   }
-  cell.append(element('div', reason));
-  const below = element('tr', '', { className: 'refused below' });
-  below.append(cell);
-  return [line, below];
+  line.append(cell);
+  return [line];
 }
 
 /** A table in a box of its own, which can be moved sideways. Its name is its caption, behind the title of its owner. */
 export function tableBox({ caption, heading, rows }, title = '') {
-  const box = element('div', '', { className: 'rows', tabIndex: 0 });
-  box.setAttribute('role', 'region');
-  box.setAttribute('aria-label', textOf(title === '' ? caption : WORDS.captionOf(title, caption)));
-  const table = box.appendChild(element('table'));
+  const heads = heading.map((name) => textElement('th', name, { scope: 'col', title: name }));
+  const table = tableOf('', caption, heads, rows.flatMap(bodyRow));
   table.style.setProperty('--columns', String(heading.length));
-  table.append(element('caption', caption));
-  const head = table.appendChild(element('thead')).appendChild(element('tr'));
-  for (const name of heading) head.append(textElement('th', name, { scope: 'col', title: name }));
-  table.appendChild(element('tbody')).append(...rows.flatMap(bodyRow));
-  return box;
+  return region('rows', title === '' ? caption : WORDS.captionOf(title, caption), table);
 }
 
 /** How many records or dates were refused, by the reason, with what to do. */
 function countsTable(rows, { caption, count: counted, reason: why, advice: what }) {
-  const table = element('table', '', { className: 'counts' });
-  table.append(element('caption', caption));
-  const head = table.appendChild(element('thead')).appendChild(element('tr'));
-  for (const name of [counted, why, what]) {
-    head.append(element('th', name, { scope: 'col' }));
-  }
-  const body = table.appendChild(element('tbody'));
-  for (const [count, reason, advice] of rows) {
-    const line = body.appendChild(element('tr'));
-    line.append(element('td', count, { className: 'number' }), element('th', reason, { scope: 'row' }),
-      element('td', advice));
-  }
-  return table;
+  const heads = [counted, why, what].map((name) => element('th', name, { scope: 'col' }));
+  return tableOf('counts', caption, heads, rows.map(([count, reason, advice]) => element('tr', '', {},
+    element('td', count, { className: 'number' }), element('th', reason, { scope: 'row' }), element('td', advice))));
 }
 
 /** Saves what was made just now. */
@@ -135,11 +143,7 @@ export function saveBlob(blob, name) {
 // A link that saves, which looks like a button; the second and further ones are grey. What is not made yet is a button.
 export function downloadLink({ words, blob, name, isTable, place, isMade = true }, isSecond, saved, make) {
   const className = isSecond ? 'save second' : 'save', own = place === undefined ? {} : { id: `make-${place}` };
-  if (!isMade) {
-    const button = element('button', words, { type: 'button', className: 'second', ...own });
-    button.addEventListener('click', () => make(place));
-    return button;
-  }
+  if (!isMade) return button(words, 'second', own, () => make(place));
   const link = element('a', words, { href: URL.createObjectURL(blob), download: name, className, ...own });
   if (isTable) link.addEventListener('click', saved);
   return link;
@@ -171,29 +175,22 @@ export function drawReport(article, id, report, saved, make = (_) => {}) {
   article.append(textElement('h3', report.title, { id }), line, ...report.advice.map((words) => element('p', words)));
   if (report.counts.length) article.append(countsTable(report.counts, WORDS.counts[report.countsOf || 'records']));
   article.append(...report.tables.map((table) => tableBox(table, report.title)));
-  if (report.links.length) {
-    const links = report.links.map((link, i) => downloadLink(link, i > 0, saved, make));
-    article.appendChild(element('p', '', { className: 'buttons' })).append(...links);
-  }
+  const links = report.links.map((link, i) => downloadLink(link, i > 0, saved, make));
+  if (links.length) article.append(element('p', '', { className: 'buttons' }, ...links));
   if (report.caution) article.append(element('p', report.caution, { className: 'caution' }));
   if (report.hint) article.append(element('p', report.hint, { className: 'hint' }));
 }
 
 /** Ticks for columns, which are chosen in the order in which they are ticked; the answer draws such an order. */
 export function columnTicks(box, names, none, choose) {
-  const ticks = box.appendChild(element('div', '', { className: 'ticks' }));
   let order = [];
-  const boxes = names.map((name) => {
-    const tick = element('input', '', { type: 'checkbox', value: name, autocomplete: 'off' });
-    ticks.appendChild(element('label')).append(tick, name);
-    return tick;
-  });
-  const line = box.appendChild(element('p', '', { className: 'buttons' }));
-  const inOrder = box.appendChild(element('p', '', { className: 'hint' }));
-  for (const [words, wanted] of [[WORDS.all, names], [WORDS.none, []]]) {
-    const button = line.appendChild(element('button', words, { type: 'button', className: 'second small' }));
-    button.addEventListener('click', () => choose(wanted));
-  }
+  const boxes = names.map((name) => element('input', '', { type: 'checkbox', value: name, autocomplete: 'off' }));
+  const labels = boxes.map((tick) => element('label', '', {}, tick, tick.value));
+  const buttons = [[WORDS.all, names], [WORDS.none, []]].map(([words, wanted]) =>
+    button(words, 'second small', {}, () => choose(wanted)));
+  const inOrder = element('p', '', { className: 'hint' });
+  const ticks = element('div', '', { className: 'ticks' }, ...labels);
+  box.append(ticks, element('p', '', { className: 'buttons' }, ...buttons), inOrder);
   ticks.addEventListener('change', ({ target }) => {
     choose(target.checked ? [...order, target.value] : order.filter((name) => name !== target.value));
   });
@@ -204,19 +201,17 @@ export function columnTicks(box, names, none, choose) {
   };
 }
 
+const choicesCalled = (name) =>
+  /** @type {NodeListOf<HTMLInputElement>} */ (document.querySelectorAll(`input[name=${name}]`));
+
 /** Draws which of the choices of this name is made. */
 export function check(name, value) {
-  for (const choice of document.querySelectorAll(`input[name=${name}]`)) {
-    const input = /** @type {HTMLInputElement} */ (choice);
-    input.checked = input.value === String(value);
-  }
+  for (const choice of choicesCalled(name)) choice.checked = choice.value === String(value);
 }
 
 /** Tells `choose` the value that is chosen among those of this name. */
 export function onCheck(name, choose) {
-  for (const choice of document.querySelectorAll(`input[name=${name}]`)) {
-    choice.addEventListener('change', () => choose(/** @type {HTMLInputElement} */ (choice).value));
-  }
+  for (const choice of choicesCalled(name)) choice.addEventListener('change', () => choose(choice.value));
 }
 
 // The names of folders among what is dropped, and the files.

@@ -1,41 +1,31 @@
 // Draws registers as a list: each with its state, and its table or what can be done.
 
-import { clear, downloadLink, element, setText, textElement, textOf, withFocus } from './elements.mjs';
+import {
+  button, clear, downloadLink, element, region, setText, tableOf, textElement, textOf, withFocus,
+} from './elements.mjs';
 import { WORDS } from './language.mjs';
 
 const HEADS = ['name', 'form', 'rows', 'refused', 'state', 'table'];
 
-function newTable(caption) {
-  const table = element('table', '', { className: 'list' });
-  table.append(element('caption', caption));
-  const head = table.appendChild(element('thead')).appendChild(element('tr'));
-  for (const name of HEADS) {
-    head.append(element('th', WORDS.listHeads[name], { scope: 'col', className: `of-${name}` }));
-  }
-  return table;
-}
+const headOf = (name) => element('th', WORDS.listHeads[name], { scope: 'col', className: `of-${name}` });
 
 // Two ways to convert a register again: as its file is now, or another file.
 function againButtons({ number, name }, { repeated }) {
-  const again = element('button', WORDS.repeat, { type: 'button', className: 'second small', id: `repeat-${number}` });
-  again.setAttribute('aria-label', textOf(WORDS.repeatLabel(name)));
-  again.addEventListener('click', () => repeated(number, null));
-  const label = element('label', '', { className: 'second small' });
-  const file = element('input', '', { type: 'file', className: 'unseen', id: `choose-${number}` });
-  file.setAttribute('aria-label', textOf(WORDS.chooseAgainLabel(name)));
+  const again = button(WORDS.repeat, 'second small',
+    { id: `repeat-${number}`, 'aria-label': textOf(WORDS.repeatLabel(name)) }, () => repeated(number, null));
+  const file = element('input', '', { type: 'file', className: 'unseen', id: `choose-${number}`,
+    'aria-label': textOf(WORDS.chooseAgainLabel(name)) });
   file.addEventListener('click', () => { file.value = ''; });
   file.addEventListener('change', () => file.files.length && repeated(number, file.files[0]));
-  label.append(file, WORDS.chooseAgain);
-  return [again, label];
+  return [again, element('label', '', { className: 'second small' }, file, WORDS.chooseAgain)];
 }
 
 const canRepeat = ({ kind }) => kind === 'broken' || kind === 'stopped';
 
 // A file that was given, and is no register: why stands where others have their state.
 function leftRow({ name, why }) {
-  const line = element('tr', '', { className: 'left' });
-  line.append(textElement('th', name, { scope: 'row' }), element('td', why, { className: 'state', colSpan: HEADS.length - 1 }));
-  return line;
+  return element('tr', '', { className: 'left' }, textElement('th', name, { scope: 'row' }),
+    element('td', why, { className: 'state', colSpan: HEADS.length - 1 }));
 }
 
 function saveLink(link, number, { saved }) {
@@ -47,18 +37,15 @@ function saveLink(link, number, { saved }) {
 
 /** A row of the list, and what draws it. A table that was saved is not drawn anew, or its link would end. */
 function newRow(number, steps) {
-  const line = element('tr'), open = element('button', '', { type: 'button', className: 'plain', id: `open-${number}` });
-  const form = element('td', '', { className: 'form' });
-  const [rows, refused] = [0, 1].map(() => element('td', '', { className: 'number' }));
-  const state = element('td', '', { className: 'state' }), cell = element('td');
-  const table = cell.appendChild(element('div', '', { className: 'buttons' }));
+  const open = button('', 'plain', { id: `open-${number}`, 'aria-controls': 'register-opened' },
+    () => steps.opened(number));
+  const [form, rows, refused, state] =
+    ['form', 'number', 'number', 'state'].map((className) => element('td', '', { className }));
+  const table = element('div', '', { className: 'buttons' });
   const saved = element('span', WORDS.isSaved, { className: 'is-saved', hidden: true });
-  const name = element('th', '', { scope: 'row' });
-  name.append(open);
   for (const [it, head] of [[form, 'form'], [rows, 'rows'], [refused, 'refused']]) it.dataset.name = WORDS.listHeads[head];
-  line.append(name, form, rows, refused, state, cell);
-  open.setAttribute('aria-controls', 'register-opened');
-  open.addEventListener('click', () => steps.opened(number));
+  const line = element('tr', '', {}, element('th', '', { scope: 'row' }, open), form, rows, refused, state,
+    element('td', '', {}, table));
   let drawn = { text: '', kind: '', blob: null };
   const drawTexts = (report, isOpen) => {
     setText(open, { own: report.name }).setAttribute('aria-expanded', String(isOpen));
@@ -93,11 +80,9 @@ function newRow(number, steps) {
  * rows, in this order. `steps` are told what is to be done with the register of a number.
  */
 export function registersTable(box, numbers, left, steps) {
-  const region = box.appendChild(element('div', '', { className: 'rows scroll', tabIndex: 0 }));
   const caption = WORDS.listCaption(numbers.length, numbers.length + left.length);
-  region.setAttribute('role', 'region');
-  region.setAttribute('aria-label', textOf(caption));
-  const body = region.appendChild(newTable(caption)).appendChild(element('tbody'));
+  const table = tableOf('list', caption, HEADS.map(headOf), []), body = table.querySelector('tbody');
+  box.append(region('rows scroll', caption, table));
   const rows = new Map(numbers.map((number) => [number, newRow(number, steps)])), others = left.map(leftRow);
   let order = '';
   return (reports, opened) => {

@@ -23,12 +23,14 @@ function attributesOf(text) {
 }
 
 /**
- * Tells `take` each element that begins, with its name and its attributes, each that ends, and each text between them.
+ * Tells `takes` each element that begins, with its name and its attributes, each that ends, and each text between
+ * them, as far as it takes them.
  * @param {string} text
- * @param {{ begins(name: string, attributes: Record<string, string>): void, ends(name: string): void,
- *   text(text: string): void }} take
+ * @param {{ begins(name: string, attributes: Record<string, string>): void, ends?(name: string): void,
+ *   text?(text: string): void }} takes
  */
-export function readMarkup(text, take) {
+export function readMarkup(text, takes) {
+  const take = { ends(_) {}, text(_) {}, ...takes };
   for (const [, data, isEnd, name, attributes, isEmpty, between] of text.matchAll(PIECE)) {
     if (data !== undefined) take.text(data);
     else if (between !== undefined) take.text(plain(between));

@@ -1,6 +1,6 @@
 // What stands between the page, or Node, and the WebAssembly module: a heap, and the module's calls.
 
-import { FACTS } from './unbuilt-facts.mjs';
+import { FACTS } from './unbuilt.mjs';
 
 const PAGE = 65536;
 // What the module's memory can have: pointers of 32 bits, without the last page.
@@ -33,6 +33,12 @@ function dateCountsOf(/** @type {number[]} */ [refused, ...counts]) {
 
 /** Memory ran out: what the module answers by an ending 1, and what the heap of this script throws. */
 export class NoMemory extends Error {}
+
+/** Throws where a call of the module was not ended as it should. */
+export function checkEnding(name, ending) {
+  if (ending === 1) throw new NoMemory();
+  if (ending !== 0) throw new Error(`${name}: ${ending}`);
+}
 
 /**
  * A heap above the module's stack and data. Each block has 16 bytes before it, with its size. A block that is freed
@@ -252,17 +258,9 @@ export class Module {
    */
   convert(text, setup, guess) {
     const columns = this.put(Uint8Array.from(setup.columns));
-    let buffer = this.malloc(guess);
-    for (;;) {
-      const [ending, length, rows, refused, ...counts] = this.call('register_convert', 11,
-        [text, columns, setup.delimiter, setup.sealed ? 1 : 0, buffer]);
-      if (length <= buffer.length) {
-        this.free(columns);
-        return { ending, rows, refused, counts, table: { pointer: buffer.pointer, length } };
-      }
-      this.free(buffer);
-      buffer = this.malloc(length);
-    }
+    const { ending, others: [rows, refused, ...counts], text: table } = this.makeFrom('register_convert', 9,
+      [text, columns, setup.delimiter, setup.sealed ? 1 : 0], [columns], guess);
+    return { ending, rows, refused, counts, table };
   }
 
   /**
@@ -280,8 +278,7 @@ export class Module {
       lengths.items = lengths.length / 4;
       const [ending, length, count, records, widest] = this.call('sheet_pick', 5,
         [text, delimiter, numbers, BigInt(most), bytes, lengths]);
-      if (ending === 1) throw new NoMemory();
-      if (ending !== 0) throw new Error(`sheet_pick: ${ending}`);
+      checkEnding('sheet_pick', ending);
       if (length <= bytes.length && count <= lengths.items) {
         const used = use({ ...bytes, length }, lengths, count);
         this.free(lengths, bytes, numbers);
@@ -322,19 +319,12 @@ export class Module {
    */
   dateStop(text, calendar, names) {
     const [typed, list] = [text, names].map((it) => this.put(new TextEncoder().encode(it)));
-    let buffer = this.malloc(typed.length + 64);
-    for (;;) {
-      const [ending, length, stop] = this.call('date_stop', 3, [typed, calendar, DAY_FIRST, list, buffer]);
-      if (ending === 1) throw new NoMemory();
-      if (ending !== 0) throw new Error(`date_stop: ${ending}`);
-      if (length <= buffer.length) {
-        const blamed = new TextDecoder().decode(this.bytes({ ...buffer, length }));
-        this.free(buffer, list, typed);
-        return { stop, blamed };
-      }
-      this.free(buffer);
-      buffer = this.malloc(length);
-    }
+    const { ending, others: [stop], text: blamed } = this.makeFrom('date_stop', 1,
+      [typed, calendar, DAY_FIRST, list], [list, typed], typed.length + 64);
+    checkEnding('date_stop', ending);
+    const words = new TextDecoder().decode(this.bytes(blamed));
+    this.free(blamed);
+    return { stop, blamed: words };
   }
 
   // Numbers of 32 bits, as a part.
@@ -344,8 +334,8 @@ export class Module {
     return { ...part, items: numbers.length };
   }
 
-  // Calls the export `name` of a sheet, whose report begins with an ending and the length of a text, with `words` between
-  // the sheet and the room for that text; `guess` is how long it may be.
+  // Calls the export `name`, whose report begins with an ending and the length of a text, and then has so many numbers,
+  // with `words` before the room for that text; `guess` is how long it may be. What was `lent` to the call is freed.
   makeFrom(name, numbers, words, lent, guess) {
     let buffer = this.malloc(guess);
     for (;;) {
@@ -412,8 +402,8 @@ export class Module {
   registerDays(text, delimiter, sealed, guess = expectedRecords(text.length)) {
     const days = { ...this.malloc(4 * guess), items: guess }, calendars = this.malloc(guess);
     const [ending, length] = this.call('register_days', 2, [text, delimiter, sealed ? 1 : 0, days, calendars]);
-    const isWhole = length <= guess, own = isWhole ? this.numbersOf(days, length) : null;
-    const found = isWhole ? { ending, days: own, calendars: this.bytes({ ...calendars, length }).slice() } : null;
+    const found = length > guess ? null : { ending, days: this.numbersOf(days, length),
+      calendars: this.bytes({ ...calendars, length }).slice() };
     this.free(calendars, days);
     return found || this.registerDays(text, delimiter, sealed, length);
   }
@@ -424,13 +414,7 @@ export class Module {
    * @param {Uint32Array} last
    */
   spanDays(first, last) {
-    const lent = [first, last].map((days) => this.putNumbers(days));
-    const room = { ...this.malloc(4 * first.length), items: first.length };
-    const [ending] = this.call('span_days', 2, [...lent, room]);
-    if (ending !== 0) throw new NoMemory();
-    const days = this.numbersOf(room, first.length);
-    this.free(room, ...lent.reverse());
-    return days;
+    return this.numbersFrom('span_days', first, last);
   }
 
   /**
@@ -439,12 +423,18 @@ export class Module {
    * @param {Uint32Array} days
    */
   dayOrder(days) {
-    const lent = this.putNumbers(days), room = { ...this.malloc(4 * days.length), items: days.length };
-    const [ending] = this.call('day_order', 2, [lent, room]);
+    return this.numbersFrom('day_order', days);
+  }
+
+  // What the export `name` makes of lists of numbers: a list of as many.
+  numbersFrom(name, ...lists) {
+    const [{ length }] = lists, lent = lists.map((numbers) => this.putNumbers(numbers));
+    const room = { ...this.malloc(4 * length), items: length };
+    const [ending] = this.call(name, 2, [...lent, room]);
     if (ending !== 0) throw new NoMemory();
-    const order = this.numbersOf(room, days.length);
-    this.free(room, lent);
-    return order;
+    const made = this.numbersOf(room, length);
+    this.free(room, ...lent.reverse());
+    return made;
   }
 
   /**
@@ -454,8 +444,7 @@ export class Module {
   sheetRecords(text, delimiter, indices) {
     const numbers = this.putNumbers(indices), guess = PAGE + Math.min(text.length, FEW * indices.length);
     const { ending, text: records } = this.makeFrom('sheet_records', 0, [text, delimiter, numbers], [numbers], guess);
-    if (ending === 1) throw new NoMemory();
-    if (ending !== 0) throw new Error(`sheet_records: ${ending}`);
+    checkEnding('sheet_records', ending);
     return records;
   }
 
@@ -483,23 +472,10 @@ export class Module {
 
   /** A CSV text of the fields, of which each `width` are a record. */
   write(fields, width, delimiter) {
-    return this.makeText('sheet_write', fields, (bytes, lengths) => [bytes, lengths, BigInt(width), delimiter]);
-  }
-
-  makeText(name, fields, words) {
-    const { bytes, lengths } = this.putFields(fields);
-    let buffer = this.malloc(4096);
-    for (;;) {
-      const [ending, length] = this.call(name, 2, [...words(bytes, lengths), buffer]);
-      if (ending === 1) throw new NoMemory();
-      if (ending !== 0) throw new Error(`${name}: ${ending}`);
-      if (length <= buffer.length) {
-        this.free(lengths, bytes);
-        return { pointer: buffer.pointer, length };
-      }
-      this.free(buffer);
-      buffer = this.malloc(length);
-    }
+    const { bytes, lengths } = this.putFields(fields), words = [bytes, lengths, BigInt(width), delimiter];
+    const { ending, text } = this.makeFrom('sheet_write', 0, words, [lengths, bytes], 4096);
+    checkEnding('sheet_write', ending);
+    return text;
   }
 }
 

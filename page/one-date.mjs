@@ -4,7 +4,7 @@ import { BESIDE, CALENDARS } from './calendars.mjs';
 import { columnNumbers, noPicks, numbersOf } from './choices.mjs';
 import { REASONS, instantiate } from './module.mjs';
 import { Table, range } from './tables.mjs';
-import { NAMES } from './unbuilt-names.mjs';
+import { NAMES } from './unbuilt.mjs';
 
 const COMMA = 44, ROOM = 2 ** 16;
 // Where a register has its dates; the refusal of a date that is not written as its calendar wants it.
@@ -45,8 +45,13 @@ function writtenOf(module, sheet, choice, end) {
 function hasThirteenMonths(module, hebrew) {
   const [, year] = /^(\d+)-/.exec(hebrew) || [];
   if (year === undefined) return false;
-  const last = module.write(['id', 'calendar', 'date', '1', 'hebrew', `${year}-13-1`], 3, COMMA);
-  return module.convert(last, { columns: [], delimiter: COMMA, sealed: false }, ROOM).refused === 0;
+  return converted(module, 'hebrew', `${year}-13-1`).refused === 0;
+}
+
+// A register of one date, converted.
+function converted(module, calendar, date) {
+  const register = module.write(['id', 'calendar', 'date', '1', calendar, date], 3, COMMA);
+  return module.convert(register, { columns: [], delimiter: COMMA, sealed: false }, ROOM);
 }
 
 // Why a date is not read: a reason, or null for a name that is not known; what is to blame; and the weekday of the date
@@ -60,8 +65,7 @@ function stopOfDate(module, calendar, text) {
 
 // The weekday of a date as registers have it; empty where its calendar does not have it.
 function weekdayOf(module, calendar, date) {
-  const register = module.write(['id', 'calendar', 'date', '1', calendar, date], 3, COMMA);
-  const { table } = module.convert(register, { columns: [], delimiter: COMMA, sealed: false }, ROOM);
+  const { table } = converted(module, calendar, date);
   const { heading, rows: [row] } = new Table(module, table, COMMA).firstRows();
   return row[heading.indexOf('weekday')];
 }

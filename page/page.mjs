@@ -3,15 +3,28 @@
 import { newWorker, packedModule } from './unbuilt.mjs';
 import { dateView } from './date-view.mjs';
 import { doorView } from './door-view.mjs';
-import { byId, clear, element, putWords } from './elements.mjs';
+import { button, byId, clear, putWords } from './elements.mjs';
 import { NAMES_OF_LANGUAGES, likelyLanguage, speak } from './language.mjs';
 import { registersView } from './registers-view.mjs';
 import { sheetView } from './sheet-view.mjs';
 import { Page } from './state.mjs';
-import { sayNoModule, unpacked } from './unpack.mjs';
+
+// The module that a text in base64 has packed by gzip.
+async function unpacked(text) {
+  const packed = new Blob([Uint8Array.from(atob(text), (letter) => letter.charCodeAt(0))]);
+  // @ts-ignore: the checker of today knows no DecompressionStream.
+  const bytes = new Response(packed.stream().pipeThrough(new DecompressionStream('gzip'))).arrayBuffer();
+  return WebAssembly.compile(await bytes);
+}
+
+// Says that nothing can be converted here, and why.
+function sayNoModule(why) {
+  document.getElementById('no-module-why').textContent = why;
+  document.getElementById('no-module').hidden = false;
+}
 
 const now = () => performance.now();
-const compiled = packedModule().then(unpacked).then((it) => it.arrayBuffer()).then((bytes) => WebAssembly.compile(bytes));
+const compiled = packedModule().then(unpacked);
 compiled.catch((fault) => sayNoModule(fault.message));
 
 const views = {};
@@ -29,7 +42,7 @@ function open(language) {
   main.append(...undrawn.cloneNode(true).childNodes);
   main.querySelectorAll('details').forEach((it, i) => { it.open = isOpen[i]; });
   putWords();
-  for (const button of byId('languages').children) button.setAttribute('aria-pressed', String(button.lang === language));
+  for (const it of byId('languages').children) it.setAttribute('aria-pressed', String(it.lang === language));
   views.date = dateView(stepOf('date'));
   views.door = doorView(stepOf('door'), { anew: () => page.startAnew(), answer: (isYes) => page.answer(isYes) });
   views.registers = registersView(stepOf('registers'), now);
@@ -37,11 +50,8 @@ function open(language) {
   page.settle();
 }
 
-byId('languages').append(...NAMES_OF_LANGUAGES.map(({ language, name }) => {
-  const button = element('button', name, { type: 'button', className: 'plain', lang: language });
-  button.addEventListener('click', () => open(language));
-  return button;
-}));
+byId('languages').append(...NAMES_OF_LANGUAGES.map(({ language, name }) =>
+  button(name, 'plain', { lang: language }, () => open(language))));
 open(likelyLanguage(navigator.languages));
 
 // The link to what is proved unfolds it.

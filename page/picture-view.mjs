@@ -1,6 +1,6 @@
 // Draws a picture of a table: its entries along one line of time, a row for each calendar.
 
-import { clear, element, saveBlob, tableBox, textOf, withFocus } from './elements.mjs';
+import { button, clear, element, region, saveBlob, tableBox, textOf, withFocus } from './elements.mjs';
 import { WORDS } from './language.mjs';
 
 const SPACE = 'http://www.w3.org/2000/svg';
@@ -114,17 +114,15 @@ function savedPicture(picture) {
 }
 
 function drawPicture(box, report) {
-  const picture = pictureOf(report), region = element('div', '', { className: 'rows picture', tabIndex: 0 });
-  region.setAttribute('role', 'region');
-  region.setAttribute('aria-label', textOf(report.title));
-  region.append(picture);
-  const save = element('button', WORDS.savePicture, { type: 'button', className: 'second', id: `${report.id}-save` });
-  save.addEventListener('click', () => saveBlob(savedPicture(picture), report.name));
-  const lines = element('ul');
-  for (const { id = '', words } of report.lines) lines.append(element('li', words, id ? { id, tabIndex: -1 } : {}));
-  box.append(element('h4', report.title), region, lines, ...report.tables.map((table) => tableBox(table, report.name)));
-  box.append(...report.hints.map((words) => element('p', words, { className: 'hint' })));
-  box.appendChild(element('p', '', { className: 'buttons' })).append(save);
+  const picture = pictureOf(report);
+  const save = button(WORDS.savePicture, 'second', { id: `${report.id}-save` },
+    () => saveBlob(savedPicture(picture), report.name));
+  const lines = report.lines.map(({ id = '', words }) => element('li', words, id ? { id, tabIndex: -1 } : {}));
+  box.append(element('h4', report.title), region('rows picture', report.title, picture),
+    element('ul', '', {}, ...lines),
+    ...report.tables.map((table) => tableBox(table, report.name)),
+    ...report.hints.map((words) => element('p', words, { className: 'hint' })),
+    element('p', '', { className: 'buttons' }, save));
 }
 
 /** Draws into a box the picture of a report, or a button that tells `make`; nothing for null. */
@@ -137,13 +135,8 @@ export function pictureBox(box, make) {
     withFocus(box, () => {
       clear(box);
       if (report === null) return;
-      if (report.isMade) {
-        drawPicture(box, report);
-        return;
-      }
-      const button = element('button', report.title, { type: 'button', className: 'second', id: `${report.id}-save` });
-      button.addEventListener('click', make);
-      box.append(button);
+      if (report.isMade) drawPicture(box, report);
+      else box.append(button(report.title, 'second', { id: `${report.id}-save` }, make));
     });
   };
 }

@@ -153,15 +153,17 @@ function jobWords({ status, begun }, now) {
   return status === 'waits' ? WORDS.waiting : WORDS.running(Math.round((now - begun) / 1000));
 }
 
+// What is shown of the table of a register, or of a part of one: how it begins, what saves it, and its caution.
+const tableParts = (answer, caption, words, name) => ({
+  tables: [tableReport(caption, answer.first), ...refusedTable(answer)],
+  links: [{ words, blob: answer.table, name, isTable: true }], caution: cautionOf(answer),
+});
+
 function wholeRegister(answer, name) {
   const { rows, refused, empty, counts, first, table } = answer;
   const caption = rows === first.rows.length ? WORDS.allRows : WORDS.firstRows(first.rows.length);
-  return {
-    kind: 'done', words: WORDS.whole(rows, refused, empty), advice: [], counts: countRows(counts),
-    tables: [tableReport(caption, first), ...refusedTable(answer)],
-    links: [{ words: WORDS.save(name, WORDS.bytes(table.size)), blob: table, name, isTable: true }],
-    caution: cautionOf(answer),
-  };
+  return { kind: 'done', words: WORDS.whole(rows, refused, empty), advice: [], counts: countRows(counts),
+    ...tableParts(answer, caption, WORDS.save(name, WORDS.bytes(table.size)), name) };
 }
 
 // The first line of a register without its header says what it is.
@@ -172,11 +174,8 @@ function brokenRegister(reply, name) {
   const answer = reply.answer;
   const advice = [...firstLineWords(reply), ...broken.advice];
   if (!answer || !answer.table) return { ...broken, advice: [...advice, WORDS.hasNothing] };
-  return {
-    ...broken, tables: [tableReport(WORDS.firstRows(answer.first.rows.length), answer.first), ...refusedTable(answer)],
-    links: [{ words: WORDS.savePart(name, WORDS.bytes(answer.table.size)), blob: answer.table, name, isTable: true }],
-    caution: cautionOf(answer),
-  };
+  const { first, table } = answer, caption = WORDS.firstRows(first.rows.length);
+  return { ...broken, ...tableParts(answer, caption, WORDS.savePart(name, WORDS.bytes(table.size)), name) };
 }
 
 /**
@@ -490,8 +489,8 @@ function refusedDatesTable({ refused, refusedDates }, { dates }, names) {
 }
 
 // How the files of registers are called behind the name of the sheet.
-function registerFiles({ dates, ...picks }) {
-  const ends = endsOf(picks).map((end) => (end === null ? '' : WORDS.endSuffixes[end]));
+function registerFiles(picks) {
+  const { dates } = picks, ends = endsOf(picks).map((end) => (end === null ? '' : WORDS.endSuffixes[end]));
   return dates.flatMap((_, k) => ends.map((end) => `${dates.length === 1 ? '' : `.${k + 1}`}${end}${WORDS.registerSuffix}`));
 }
 

@@ -1,6 +1,6 @@
 // What is seen of a text in one walk over its bytes, while it is read: what needs a closer look, and what does not.
 
-const OTHER = 0, SIGN = 1, BLANK = 2, PARTS = 3, ENDS = 4;
+const SIGN = 1, BLANK = 2, PARTS = 3, ENDS = 4;
 
 const kindsOf = (/** @type {[string, number][]} */ ...pairs) => {
   const kinds = new Uint8Array(256);

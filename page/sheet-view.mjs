@@ -3,8 +3,8 @@
 import { BESIDE, CALENDARS } from './calendars.mjs';
 import { AS_EMPTY, MOST_DATES, NO_THREE, changeOf, dayOfChange, isColumn, meantByEmpty } from './choices.mjs';
 import {
-  byId, check, clear, columnTicks, drawPart, drawReport, drawRunning, element, onCheck, option, saveBlob, setText, tableBox,
-  textOf, whenChanged, withFocus, wordsIn,
+  button, byId, check, clear, columnTicks, drawPart, drawReport, drawRunning, element, onCheck, option, saveBlob,
+  select, setText, tableBox, textOf, whenChanged, withFocus, wordsIn,
 } from './elements.mjs';
 import { pictureBox } from './picture-view.mjs';
 import {
@@ -26,11 +26,7 @@ const TICKS = ['charters', 'spans', 'edtf'];
 const NO_RUN = { reply: null, registers: null, sorted: null };
 const MONTHS = [...Array(13).keys()].map((i) => i + 1);
 
-function group(words, options) {
-  const made = Object.assign(document.createElement('optgroup'), { label: words });
-  made.append(...options);
-  return made;
-}
+const group = (words, options) => element('optgroup', '', { label: words }, ...options);
 
 const calendarOptions = () => CALENDARS.map((name) => option(WORDS.calendars[name], name));
 // What a field of a calendar can mean: a calendar, both styles, or a change of calendars.
@@ -39,29 +35,20 @@ const meantOptions = () => [...calendarOptions(), option(WORDS.bothStyles, 'both
     option(WORDS.otherChange, 'change')])];
 const columnOptions = (heading) => heading.map((name, i) => option(WORDS.column(i + 1, name), String(i)));
 
-function field(label, id, ...controls) {
-  const made = element('p', '', { className: 'field' });
-  made.append(element('label', label, { htmlFor: id }), ...controls);
-  return made;
-}
+const field = (label, control) =>
+  element('p', '', { className: 'field' }, element('label', label, { htmlFor: control.id }), control);
 
 // ---- Columns of dates ----
 
 function dateRow(heading, place, all) {
-  const row = element('div', '', { className: 'fields' });
-  const date = element('select', '', { id: `sheet-date-${place}`, autocomplete: 'off' });
-  date.append(option(WORDS.choose, ''), ...columnOptions(heading));
-  const calendar = element('select', '', { id: `sheet-calendar-${place}`, autocomplete: 'off' });
-  calendar.append(option(WORDS.choose, ''), group(WORDS.ofColumn, columnOptions(heading)),
-    group(WORDS.ofAll, [...calendarOptions(), option(WORDS.asEmpty, AS_EMPTY)]));
-  row.append(field(WORDS.dateColumn(place + 1, all), date.id, date),
-    field(WORDS.calendarColumn(place + 1, all), calendar.id, calendar));
-  if (all > 1) {
-    const remove = element('button', WORDS.removeDate(place + 1), { type: 'button', className: 'second small' });
-    remove.dataset.remove = String(place);
-    row.append(remove);
-  }
-  return row;
+  const date = select(`sheet-date-${place}`, [option(WORDS.choose, ''), ...columnOptions(heading)]);
+  const calendar = select(`sheet-calendar-${place}`, [option(WORDS.choose, ''),
+    group(WORDS.ofColumn, columnOptions(heading)),
+    group(WORDS.ofAll, [...calendarOptions(), option(WORDS.asEmpty, AS_EMPTY)])]);
+  const remove = button(WORDS.removeDate(place + 1), 'second small', {});
+  remove.dataset.remove = String(place);
+  return element('div', '', { className: 'fields' }, field(WORDS.dateColumn(place + 1, all), date),
+    field(WORDS.calendarColumn(place + 1, all), calendar), ...(all > 1 ? [remove] : []));
 }
 
 function takeDates(step) {
@@ -97,15 +84,13 @@ function meaningOptions(where) {
 }
 
 function nameRow({ name, where }, i) {
-  const select = element('select', '', { id: `sheet-name-${i}`, autocomplete: 'off' });
-  select.append(option(WORDS.leave, ''), ...meaningOptions(where));
-  const typed = { id: `sheet-number-${i}`, type: 'text', inputMode: 'numeric', autocomplete: 'off', hidden: true };
-  const number = element('input', '', where === '' ? { ...typed, inputMode: 'text' } : typed);
-  number.setAttribute('aria-label', textOf(where === '' ? WORDS.changeDayOf(name) : WORDS.numberOf(name)));
-  const label = element('label', '', { htmlFor: select.id }), both = element('span');
-  for (const control of [select, number]) Object.assign(control.dataset, { name, where });
-  both.append(select, number);
-  return [label, both];
+  const meanings = select(`sheet-name-${i}`, [option(WORDS.leave, ''), ...meaningOptions(where)]), isDay = where === '';
+  const number = element('input', '', {
+    id: `sheet-number-${i}`, type: 'text', inputMode: isDay ? 'text' : 'numeric', autocomplete: 'off', hidden: true,
+    'aria-label': textOf(isDay ? WORDS.changeDayOf(name) : WORDS.numberOf(name)),
+  });
+  for (const control of [meanings, number]) Object.assign(control.dataset, { name, where });
+  return [element('label', '', { htmlFor: meanings.id }), element('span', '', {}, meanings, number)];
 }
 
 const NAME_BOXES = ['names', 'words'];
@@ -284,20 +269,12 @@ function namesView() {
 // Choices that read more, each with a button; the answer draws them, anew only where they are others.
 function proposalsView(step) {
   const box = byId('sheet-orders');
-  let drawn = '';
-  return (proposals) => {
-    const now = JSON.stringify(proposals);
-    if (now === drawn) return;
-    drawn = now;
+  return whenChanged((proposals) => {
     const had = box.contains(document.activeElement);
-    box.replaceChildren(...proposals.map(({ id, change, words, button }) => {
-      const line = element('p', words, { className: 'order' });
-      const take = line.appendChild(element('button', button, { type: 'button', className: 'second small', id }));
-      take.addEventListener('click', () => step(picked, change));
-      return line;
-    }));
+    box.replaceChildren(...proposals.map(({ id, change, words, button: called }) =>
+      element('p', words, { className: 'order' }, button(called, 'second small', { id }, () => step(picked, change)))));
     if (had) byId('sheet-start').focus();
-  };
+  }, JSON.stringify);
 }
 
 /** The answer draws what is chosen of the columns, and what is known of them. */
@@ -330,13 +307,10 @@ function choicesView(step) {
 
 // The order of the records is chosen beside the sheet that came back.
 function drawOrder(box, { choices, chosen, words }, step) {
-  const select = element('select', '', { id: 'sheet-sorted', autocomplete: 'off' });
-  select.append(...choices.map(([value, name]) => option(name, value)));
-  select.value = chosen;
-  select.addEventListener('change', () => step(sortWanted, select.value === '' ? null : Number(select.value)));
-  const said = element('p', words, { className: 'hint' });
-  said.setAttribute('role', 'status');
-  box.append(field(WORDS.orderOfRecords, select.id, select), said);
+  const order = select('sheet-sorted', choices.map(([value, name]) => option(name, value)));
+  order.value = chosen;
+  order.addEventListener('change', () => step(sortWanted, order.value === '' ? null : Number(order.value)));
+  box.append(field(WORDS.orderOfRecords, order), element('p', words, { className: 'hint', role: 'status' }));
 }
 
 /** The answer draws what came of the conversion. */

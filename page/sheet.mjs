@@ -123,11 +123,9 @@ function chosenAnew(state, source, kept) {
 }
 
 // What is chosen for the sheet that is there, and what came of it.
-function heldOf(state) {
-  const { source, proposed, kept, fit, reading, stays, begins, picks, columns, unknown, orders, listed, preview, run, given } =
-    state;
-  return { source, proposed, kept, fit, reading, stays, begins, picks, columns, unknown, orders, listed, preview, run, given };
-}
+const HELD = ['source', 'proposed', 'kept', 'fit', 'reading', 'stays', 'begins', 'picks', 'columns', 'unknown', 'orders',
+  'listed', 'preview', 'run', 'given'];
+const heldOf = (state) => Object.fromEntries(HELD.map((name) => [name, state[name]]));
 
 // Choices as they would be kept and read again, for another text of the same sheet. What was proposed alone is no choice.
 function ownChoices(held) {

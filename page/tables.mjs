@@ -20,8 +20,8 @@ export function rowsOf(fields, width) {
  * @typedef {{ heading: string[], rows: string[][], from: number, refusal: number, date: number }} ShownRows
  */
 
-// Refusals that a record without a date can have: its calendar is not known, or the date is not written as it wants.
-const OF_EMPTY = [4, 5];
+/** Refusals of a record without a date: its calendar is not known, or the date is not written as it wants. */
+export const OF_EMPTY = [4, 5];
 
 /** Whether a refusal is only that there is no date, which is then empty and not refused. */
 export const isOfEmpty = (refusal, date) => date.trim() === '' && OF_EMPTY.includes(Number(refusal));

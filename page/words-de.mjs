@@ -1,7 +1,7 @@
 // All words of the page in German, with the entries of words.mjs, which says how they are built. What a table has stays as
 // it is: the names of columns and weekdays in it.
 
-import { FACTS } from './unbuilt-facts.mjs';
+import { FACTS } from './unbuilt.mjs';
 
 // A text of a user's own.
 const own = (text) => ({ own: text });

@@ -3,7 +3,7 @@
 // of such texts and of texts of a user's own, as names of files are, in which a ` is a letter. The sentences of refusals
 // and causes are here those of the product's own list; another language has its own, by their numbers.
 
-import { FACTS } from './unbuilt-facts.mjs';
+import { FACTS } from './unbuilt.mjs';
 
 // A text of a user's own.
 const own = (text) => ({ own: text });

@@ -81,7 +81,6 @@ function stylesOf(text) {
       if (name === 'xf' && isOfCells) styles.push(codes.get(numFmtId) || formatById(Number(numFmtId)));
     },
     ends(name) { if (name === 'cellXfs') isOfCells = false; },
-    text() {},
   });
   return styles;
 }
@@ -152,16 +151,15 @@ function rowsOfXlsx(text, book) {
 
 // The sheets of a workbook, each with its file, and whether its days are counted from 1904.
 function sheetsOfXlsx(text, links) {
-  const sheets = [], targets = new Map(), none = () => {};
+  const sheets = [], targets = new Map();
   let is1904 = false;
-  readMarkup(links || '', { begins: (_, { Id, Target }) => { if (Id) targets.set(Id, Target); }, ends: none, text: none });
+  readMarkup(links || '', { begins(_, { Id, Target }) { if (Id) targets.set(Id, Target); } });
   readMarkup(text, {
     begins(name, attributes) {
       if (name === 'workbookPr') is1904 = /^(1|true)$/.test(attributes.date1904 || '');
       const target = name === 'sheet' && targets.get(attributes.id);
       if (target) sheets.push({ name: attributes.name, file: target.startsWith('/') ? target.slice(1) : `xl/${target}` });
     },
-    ends: none, text: none,
   });
   return { sheets: sheets.filter(({ file }) => /worksheets\//.test(file)), is1904 };
 }

@@ -5,17 +5,16 @@ import { TARGETS } from './calendars.mjs';
 import { DATES_AT, NO_THREE, choicesOf, columnNumbers, isThree, spansIn, threeIn, widthOf, withSpans } from './choices.mjs';
 import { ChangedFile, NoReading, checkUnchanged, readFile } from './files.mjs';
 import { formulasAmong } from './formulas.mjs';
-import { NO_DAY, NoMemory, expectedLength, instantiate } from './module.mjs';
+import { NO_DAY, NoMemory, checkEnding, expectedLength, instantiate } from './module.mjs';
 import { date } from './one-date.mjs';
 import {
   isAnsel, isDelimiterOf, isIbmPc, isJson, isObject, isTree, kindOf, likelyAbove, likelyDelimiter, likelyEncodings, markedEncoding,
 } from './proposals.mjs';
-import { EVERY, LOOKED_AT, REFUSED_SHOWN, SHOWN, Table, isOfEmpty, range, rowsOf } from './tables.mjs';
+import { EVERY, LOOKED_AT, OF_EMPTY, REFUSED_SHOWN, SHOWN, Table, isOfEmpty, range, rowsOf } from './tables.mjs';
 import { NoArchive, filesIn } from './packed.mjs';
 import { Scan, scanned } from './scans.mjs';
 import { timelineOf } from './timeline.mjs';
-import { FACTS } from './unbuilt-facts.mjs';
-import { NAMES } from './unbuilt-names.mjs';
+import { NAMES } from './unbuilt.mjs';
 import { NoWorkbook, cellsOf, kindOfBook } from './workbook.mjs';
 
 const COMMA = 44, TAB = 9;
@@ -29,8 +28,6 @@ const MOST_CUT = 1000, MOST_CHOICES = 1e6, FRONT = 2 ** 16;
 const NO_HEADER = 6, HEADER = 256, LINE_SHOWN = 100;
 // Where a register has its dates.
 const DATE_AT = 2;
-// Refusals that a record without a date can have: its calendar is not known, or the date is not written as it wants.
-const NO_SUCH_NAME = 4, NOT_WRITTEN = 5;
 // How registers can be written.
 const FORMS = [false, true].flatMap((sealed) => [44, 59, 9].map((delimiter) => ({ delimiter, sealed })));
 // Fields that are looked through at once.
@@ -39,19 +36,13 @@ const FIELDS_AT_ONCE = 2 ** 22;
 // Events of a family tree that tell of its file alone: when a record was changed, or made.
 const OF_FILE = ['CHAN', '_CHAN', 'CREA', '_CREA'], LONGEST = 5;
 
-class NotEncoded extends Error {}
-
-// The file is no text, or none in UTF-8 where it has to be; the message is its kind.
-class OtherKind extends Error {}
+// What is given does not fit; the message says how. The file is no text, or none in UTF-8 where it has to be; it is
+// written in no encoding that is likely; the sheet has other columns than those that were chosen from; or the file has
+// no choices of a sheet.
+class Unfit extends Error {}
 
 // Spreadsheets open a text of UTF-8 by this mark.
 const MARK = '\ufeff', MARK_LENGTH = 3;
-
-// The sheet has other columns than those that were chosen from.
-class OtherColumns extends Error {}
-
-// The file has no choices of a sheet.
-class NoChoices extends Error {}
 
 /**
  * Copies a part of the memory out. The browser takes each piece over before the next one is made, which keeps memory
@@ -68,12 +59,15 @@ async function blobOf(module, part, ...first) {
   return new Blob(pieces, { type: 'text/csv' });
 }
 
-// Takes the bytes of a Blob into the module's memory, and looks at each piece of them.
-async function partOf(module, blob, look = (_) => {}) {
-  const part = module.malloc(blob.size);
-  await readFile(blob, (at, length) => module.bytes({ pointer: part.pointer + at, length }), look);
-  return part;
+// Takes the bytes of a file into the module's memory, and looks at each piece of them. The answer has them, and how
+// they are read.
+async function taken(module, file, look = (_) => {}) {
+  const part = module.malloc(file.size), bytesAt = (at, length) => module.bytes({ pointer: part.pointer + at, length });
+  await readFile(file, bytesAt, look);
+  return { part, bytesAt };
 }
+
+const partOf = async (module, blob, look) => (await taken(module, blob, look)).part;
 
 const numbersOf = (targets) => targets.map((name) => TARGETS.indexOf(name));
 
@@ -160,15 +154,12 @@ async function looks({ compiled, files }) {
 
 // A register. Its text is told when it is read where `isTold`, so that its days are found at the same time.
 async function register({ compiled, file, columns, isTold }, tell) {
-  const module = await instantiate(compiled);
-  const text = module.malloc(file.size);
-  const bytesAt = (at, length) => module.bytes({ pointer: text.pointer + at, length });
-  const seen = new Scan();
-  await readFile(file, bytesAt, (piece) => seen.look(piece));
+  const module = await instantiate(compiled), seen = new Scan();
+  const { part: text, bytesAt } = await taken(module, file, (piece) => seen.look(piece));
   const bytes = bytesAt(0, text.length), kind = kindOf(bytes) || (markedEncoding(bytes) && 'utf16');
-  const form = formOf(module, bytesAt(0, text.length));
-  if (kind !== null && form === null) throw new OtherKind(kind === 'workbook' ? 'book' : kind);
-  if (isTree(frontOf(module, text))) throw new OtherKind('tree');
+  const form = formOf(module, bytes);
+  if (kind !== null && form === null) throw new Unfit(kind === 'workbook' ? 'book' : kind);
+  if (isTree(frontOf(module, text))) throw new Unfit('tree');
   const { delimiter, sealed } = form || FORMS[0];
   const setup = { columns: numbersOf(columns), delimiter, sealed };
   const told = isTold ? await blobOf(module, text) : null;
@@ -188,7 +179,7 @@ async function register({ compiled, file, columns, isTold }, tell) {
 
 // The refusals of a register without those of records that have no date.
 function withoutEmpty(module, seen, text, setup, { refused, counts }) {
-  if (counts[NO_SUCH_NAME - 1] + counts[NOT_WRITTEN - 1] === 0) return { empty: 0 };
+  if (OF_EMPTY.every((refusal) => counts[refusal - 1] === 0)) return { empty: 0 };
   const { refusals } = emptyOf(module, seen, text, setup), now = [...counts];
   for (const refusal of refusals) now[refusal - 1] -= 1;
   return { refused: refused - refusals.length, counts: now, empty: refusals.length };
@@ -204,7 +195,7 @@ function emptyOf(module, seen, text, { delimiter, sealed }) {
   const { table } = module.convert(own, { columns, delimiter, sealed }, expectedLength(own.length, blank.length, 0));
   const rows = new Table(module, table, delimiter).rows(['refusal'], EVERY).map(([refusal]) => Number(refusal));
   module.free(table, own);
-  const isEmpty = (_, i) => rows[i] === NO_SUCH_NAME || rows[i] === NOT_WRITTEN;
+  const isEmpty = (_, i) => OF_EMPTY.includes(rows[i]);
   return { records: blank.slice(1).map((record) => record - 1).filter(isEmpty), refusals: rows.filter(isEmpty) };
 }
 
@@ -248,7 +239,7 @@ let sheet = null;
 
 // Takes a file into the module's memory. The answer has its bytes, and whether these are UTF-8, or even ASCII alone.
 async function rawOf(module, file) {
-  const raw = module.malloc(file.size), decoder = new TextDecoder('utf-8', { fatal: true });
+  const decoder = new TextDecoder('utf-8', { fatal: true });
   let isUtf8 = true, isAscii = true;
   const look = (piece, isLast) => {
     try {
@@ -258,8 +249,7 @@ async function rawOf(module, file) {
       isUtf8 = false;
     }
   };
-  const bytesAt = (at, length) => module.bytes({ pointer: raw.pointer + at, length });
-  await readFile(file, bytesAt, (piece) => isUtf8 && look(piece, false));
+  const { part: raw, bytesAt } = await taken(module, file, (piece) => isUtf8 && look(piece, false));
   if (isUtf8) look(new Uint8Array(), true);
   return { raw, bytesAt, isUtf8, isAscii: isUtf8 && isAscii };
 }
@@ -299,7 +289,7 @@ function textOf(module, { raw, bytesAt, isUtf8, isAscii }, chosen, kept) {
     const text = encoding === 'utf-8' ? withoutMark(module, raw) : decodedBy(module, raw, encoding);
     if (text !== null) return { encoding, text };
   }
-  throw new NotEncoded();
+  throw new Unfit('notEncoded');
 }
 
 // How the text begins, for what is proposed.
@@ -324,15 +314,17 @@ async function readBook(module, { raw, bytesAt }, { number, file, page }) {
 }
 
 // The sheet as it is in its file.
-async function readOwn({ compiled, number, file, encoding: chosen, ...source }) {
+/** @param {Source} source */
+async function readOwn(source) {
+  const { compiled, number, file, encoding: chosen } = source;
   const module = await instantiate(compiled), read = await rawOf(module, file);
   const kind = kindOf(read.bytesAt(0, read.raw.length));
   if (kind === 'workbook') return readBook(module, read, { number, file, page: source.page });
-  if (kind !== null) throw new OtherKind(kind);
+  if (kind !== null) throw new Unfit(kind);
   const { encoding, text: own } = textOf(module, read, chosen, source.kept), beginning = frontOf(module, own);
   const isOfTree = source.isTree ?? isTree(beginning);
-  if (isOfTree && !read.isAscii && isAnsel(beginning)) throw new OtherKind('ansel');
-  if (isOfTree && !read.isAscii && chosen === null && isIbmPc(beginning)) throw new OtherKind('ibmpc');
+  if (isOfTree && !read.isAscii && isAnsel(beginning)) throw new Unfit('ansel');
+  if (isOfTree && !read.isAscii && chosen === null && isIbmPc(beginning)) throw new Unfit('ibmpc');
   const text = isOfTree ? datesOfTree(module, own, source.hasFileDates) : own;
   const front = isOfTree ? frontOf(module, text) : beginning;
   const delimiter = isOfTree ? COMMA : delimiterOf(front, source);
@@ -401,7 +393,7 @@ const widestOf = ({ module, text, delimiter }, most) => module.pick(text, delimi
 const headingOf = (read, above) => begins(read, above, 0, widestOf(read, above + 1)).heading;
 
 // The three columns with years, months and days that are chosen, or were kept, where the sheet has them.
-function threeOf(read, above, { three, kept }) {
+function threeOf(read, above, { three = null, kept }) {
   if (read.isOfTree) return NO_THREE;
   const own = three ?? (kept ? threeIn(kept, headingOf(read, above)) : NO_THREE);
   return isThree(own) && Math.max(...own.map(Number)) >= widestOf(read, EVERY) ? NO_THREE : own;
@@ -430,7 +422,7 @@ async function beginning(source) {
 /** The choices that were kept in a file. */
 async function choices({ file }) {
   const kept = file.size > MOST_CHOICES ? null : choicesOf(await file.text().catch(() => ''));
-  if (kept === null) throw new NoChoices();
+  if (kept === null) throw new Unfit('noChoices');
   return kept;
 }
 
@@ -565,7 +557,7 @@ function hasOtherColumns({ module, text, delimiter }, above, heading) {
  */
 async function convertSheet({ choice, places, columns, names, heading, records, isTold, ...source }, tell) {
   const read = await readSheet(/** @type {Source} */ (source)), { module, text, delimiter } = read, { above } = source;
-  if (hasOtherColumns(read, above, heading)) throw new OtherColumns();
+  if (hasOtherColumns(read, above, heading)) throw new Unfit('otherColumns');
   const told = isTold ? await blobOf(module, text) : null;
   if (told) tell({ text: told });
   const dates = places.length, width = widthOf(choice, columns.length), behind = dates * width;
@@ -590,12 +582,6 @@ function foundOf({ module, text, delimiter }, table, made, refused, width) {
   const formulas = formulasOf(module, seen, text, table, delimiter, made.own, made.above + made.rows);
   if (!refused.some(Boolean)) return { formulas };
   return { formulas, refusedDates: refusedDates(module, table, delimiter, made, width) };
-}
-
-// Throws where a call of the module was not ended as it should.
-function checkEnding(name, ending) {
-  if (ending === 1) throw new NoMemory();
-  if (ending !== 0) throw new Error(`${name}: ${ending}`);
 }
 
 /** The register of one column of dates of the sheet that was converted last, and of one end of these. */
@@ -701,12 +687,9 @@ const TASKS = {
 };
 
 function faultOf(fault) {
-  if (fault instanceof OtherKind || fault instanceof NoWorkbook) return fault.message;
+  if (fault instanceof Unfit || fault instanceof NoWorkbook) return fault.message;
   if (fault instanceof NoReading) return 'noReading';
   if (fault instanceof ChangedFile) return 'changedFile';
-  if (fault instanceof NotEncoded) return 'notEncoded';
-  if (fault instanceof OtherColumns) return 'otherColumns';
-  if (fault instanceof NoChoices) return 'noChoices';
   if (fault instanceof TooLarge) return 'archiveTooLarge';
   return fault instanceof NoMemory || fault instanceof RangeError ? 'noMemory' : 'fault';
 }

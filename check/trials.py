@@ -78,6 +78,25 @@ def rows_of(name):
 PROGRAMS = tuple(Program(it["name"], it["arguments"], tuple(FACTS[it["options"]]), tuple(it["made"].split()),
                          tuple(it["convert"].split())) for it in rows_of("check/programs.csv"))
 
+def said_by_help():
+    """What a page of help has to say of the refusals, the causes and the options with values, whatever its line breaks
+    are: their sentences, and the values and defaults."""
+    for it in [*FACTS["refusals"], *FACTS["causes"]]:
+        yield f"{it['number']} {it['sentence']}"
+    all_targets, calendars = FACTS["targets"]["all"], {it["name"] for it in FACTS["calendars"]}
+    without = sorted(set(all_targets) - set(FACTS["targets"]["default"]))
+    for it in FACTS["options"]:
+        name, words, default = it["name"], it["words"], it["default"]
+        if "," in (default or ""):
+            yield (f"--{name} {it['value']} the columns, in the order wanted, separated by commas: calendars, "
+                   f"{', '.join(it for it in all_targets if it not in calendars)}; or the word {words[-1]}. "
+                   f"Without it: {'all but ' if without else 'all'}{', '.join(without)}, in the order above.")
+        elif words:
+            yield f"{', '.join(words[:-1])} or {words[-1]}. Without it: {default}."
+        elif it["most"] is not None:
+            yield f"{it['least']} to {it['most']}. Without it: {default or 'what fits the machine'}."
+
+
 # ---- to start programs
 
 

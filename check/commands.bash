@@ -1,0 +1,62 @@
+# What the command lines of check/commands call, with the name of the program, what it makes of a file, and its words as
+# $name, $made, $options, $columns and $threads. Each bash that it starts reads this.
+# shellcheck shell=bash
+
+# Runs the program with the arguments that convert a.csv, and with these.
+# shellcheck disable=SC2086,SC2154  # They are words, of the environment.
+convert() {
+  "${home:-.}/$name" $options $columns "$@"
+}
+
+# Prints what files hold after a command, and keeps the status of the command.
+after() {
+  local status=$? name
+  for name in "$@"; do
+    { [ -e "$name" ] && echo "[$name]" && cat "$name"; } || echo "[no $name]"
+  done
+  return "$status"
+}
+
+# Runs over a.csv through a pipe, with one more command before the pipe ends, and prints both statuses.
+# shellcheck disable=SC2086,SC2154  # They are words, of the environment.
+meanwhile() {
+  local first second tries=100
+  mkfifo pipe.csv
+  "./$name" $options $columns pipe.csv &
+  first=$!
+  exec 7> pipe.csv
+  cat a.csv >&7
+  until [ -e "pipe.csv$made.part" ] || [ $((tries -= 1)) = 0 ]; do sleep 0.1; done
+  sleep 0.5
+  "$@" 7>&-
+  second=$?
+  exec 7>&-
+  wait "$first" 2> /dev/null
+  echo "statuses $? and $second"
+  rm pipe.csv
+}
+
+# Kills the program that runs.
+kill_run() {
+  { kill -KILL "$first" && wait "$first"; } 2> /dev/null
+  return 0
+}
+
+# Mounts two file systems for this process alone, each with a register that has the same number in both.
+two_file_systems() {
+  mkdir -p one two && mount -t tmpfs none one && mount -t tmpfs none two && cp a.csv one && cp a.csv two &&
+    [ "$(stat -c %i one/a.csv)" = "$(stat -c %i two/a.csv)" ]
+}
+
+# Prints a register of so many records.
+long() {
+  echo id,calendar,date
+  yes x,iso,1970-W01-4 | head -n "$1"
+}
+
+# Prints a register of so many records, with its seal.
+sealed() {
+  echo id,calendar,date,note
+  yes x,iso,1970-W01-4, | head -n "$1"
+  echo "END,$1"
+}

@@ -24,3 +24,5 @@ pub mod MinusLemmas
 pub mod ReadLawLemmas
 pub mod WeekdayLawLemmas
 pub mod NameLawLemmas
+pub mod PieceLemmas
+pub mod AlikeLemmas

@@ -18,7 +18,7 @@ use Rattle.written_dates.specs.declared.meanings.Name.{Name}
 use Rattle.written_dates.specs.declared.rules.Order.{Order}
 use Rattle.written_dates.specs.declared.rules.Reading.{Reading}
 use Rattle.written_dates.specs.declared.tokens.Kind.{Kind}
-use Rattle.written_dates.specs.declared.tokens.Kind.TheVariants.{Blank, Letter}
+use Rattle.written_dates.specs.declared.tokens.Kind.TheVariants.{Blank, Hyphen, Letter}
 use Rattle.written_dates.specs.declared.written.Answer.{Answer}
 use Rattle.written_dates.specs.declared.written.Answer.TheVariants.{Stays, NoSuchYear, OtherWeekday, Refused, Date, RomanDate}
 use Rattle.written_dates.specs.declared.written.Choice.{Choice}
@@ -31,7 +31,8 @@ use Rattle.written_dates.specs.Names.{names_in}
 use Rattle.written_dates.specs.Parts.{is_part, is_part_kind, parts, stands}
 use Rattle.written_dates.specs.Roman.{roman}
 use Rattle.written_dates.specs.Rules.{beside_weekday, civil_reading, or_reading, plain_reading, roman_reading, three_numbers}
-use Rattle.written_dates.specs.Signs.{bare, has_bar_between, has_mixed_signs, has_two_dashes, runs_behind_minus, three_runs}
+use Rattle.written_dates.specs.Signs.{◌>>=◌, bare, begins_with_dash, behind_hyphen, has_bar_between, has_minus, has_mixed_signs}
+use Rattle.written_dates.specs.Signs.{has_other, has_two_dashes, if_hyphen, is_dash, runs_behind_minus, runs_in_front, three_runs}
 use Rattle.written_dates.specs.Sums.{found_items, summed}
 use Rattle.written_dates.specs.TextLaws.{AlikeTextsSayTheSame, AreAlike, AreSameWord, AreSynonyms, EachAlike, SayTheSame, StandsAlone}
 use Rattle.written_dates.specs.TextLaws.{SignsOnlyPart, asks_signs, is_unread}
@@ -333,20 +334,6 @@ parts_twice : (text : List ℕ) → parts_in (parts text) ≡ parts text
 unfolding parts
 parts_twice text = filtered_twice (tokens 0 text)
 
-pub signs_only_part : SignsOnlyPart
-signs_only_part choice calendar names a b found all left right is quiet =
-    let alike : PartsAlike (names_in calendar names) (parts a) (parts b)
-    = subst (λ (y : List Piece). PartsAlike (names_in calendar names) (parts a) y) (parts_twice b)
-    (subst (λ (x : List Piece). PartsAlike (names_in calendar names) x (parts_in (parts b))) (parts_twice a)
-    (parts_alike (names_in calendar names) (parts a) (parts b) all)) in
-    answer_same choice calendar names a b (left ∙ sym right) (parts_found calendar names a b alike)
-    (λ other e. unasked (tokens 0 a) (tokens 0 b) choice.order (beside_weekday other)
-    (subst (λ (x : List Item). asks_signs (beside_weekday x) ≡ false) (let s : found ≡ other = some_one (sym is ∙ e) in s)
-    quiet))
-  where
-    some_one : {x y : List Item} → Some x ≡ Some y → x ≡ y
-    some_one e = cc
-
 -- ---- what is written
 said_text : (a b : List ℕ) (x : Answer) → is_said x ≡ true → answer_text a x ≡ answer_text b x
 said_text a b (Date y m d) h = refl
@@ -395,54 +382,64 @@ whole_text : (choice : Choice) (calendar : Calendar) (names : List Name) (text :
 unfolding dated_text before_time
 whole_text choice calendar names text h = rw h refl
 
+-- dates as registers have them stand in both, or in none
+abbrev SameRuns : List Piece → List Piece → Type 0
+SameRuns ts us = (three_runs ts ≡ three_runs us) × (runs_behind_minus ts ≡ runs_behind_minus us)
+
 written_by_form : (f : Form) (choice : Choice) (calendar : Calendar) (names : List Name) (a b : List ℕ)
-    → form calendar ≡ f → SeenAlike (tokens 0 a) (tokens 0 b)
+    → form calendar ≡ f → SameRuns (tokens 0 a) (tokens 0 b)
     → answer choice calendar names a ≡ answer choice calendar names b
     → is_read f choice calendar names a ≡ is_read f choice calendar names b
     → is_read f choice calendar names a ≡ true
     → written_form f choice calendar names (dated_text choice calendar names a)
     ≡ written_form f choice calendar names (dated_text choice calendar names b)
-written_by_form forms.Civil choice calendar names a b e seen says reads h =
+written_by_form forms.Civil choice calendar names a b e same says reads h =
     ap (civil_text choice calendar names) (dated_whole choice calendar names a h)
     ∙ written_same choice calendar names a b (runs_behind_minus (tokens 0 a))
     (unless_turned choice.order (three_runs (tokens 0 a))) says (sym (dated_said choice calendar names a) ∙ h)
-    ∙ ap₂ (written_by choice calendar names b) seen.below (ap (unless_turned choice.order) seen.runs)
+    ∙ ap₂ (written_by choice calendar names b) same.1 (ap (unless_turned choice.order) same.0)
     ∙ ap (civil_text choice calendar names) (sym (dated_whole choice calendar names b (sym reads ∙ h)))
-written_by_form forms.Roman choice calendar names a b e seen says reads h =
+written_by_form forms.Roman choice calendar names a b e same says reads h =
     let never = midnight calendar (ap is_civil e) in
     ap (λ t. answer_text t (answer choice calendar names t)) (whole_text choice calendar names a never)
     ∙ said_text a b (answer choice calendar names a) h ∙ ap (answer_text b) says
     ∙ ap (λ t. answer_text t (answer choice calendar names t)) (sym (whole_text choice calendar names b never))
-written_by_form forms.Other choice calendar names a b e seen says reads h =
+written_by_form forms.Other choice calendar names a b e same says reads h =
     let never = midnight calendar (ap is_civil e) in
     ap (λ t. answer_text t (answer choice calendar names t)) (whole_text choice calendar names a never)
     ∙ said_text a b (answer choice calendar names a) h ∙ ap (answer_text b) says
     ∙ ap (λ t. answer_text t (answer choice calendar names t)) (sym (whole_text choice calendar names b never))
 
 reads_same : (f : Form) (choice : Choice) (calendar : Calendar) (names : List Name) (a b : List ℕ)
-    → SeenAlike (tokens 0 a) (tokens 0 b) → answer choice calendar names a ≡ answer choice calendar names b
+    → SameRuns (tokens 0 a) (tokens 0 b) → answer choice calendar names a ≡ answer choice calendar names b
     → is_read f choice calendar names a ≡ is_read f choice calendar names b
-reads_same forms.Civil choice calendar names a b seen says =
+reads_same forms.Civil choice calendar names a b same says =
     dated_said choice calendar names a
-    ∙ ap₂ (λ (r : Runs) (x : Answer). is_some (unless_turned choice.order r) || is_found x) seen.runs says
+    ∙ ap₂ (λ (r : Runs) (x : Answer). is_some (unless_turned choice.order r) || is_found x) same.0 says
     ∙ sym (dated_said choice calendar names b)
-reads_same forms.Roman choice calendar names a b seen says = ap is_said says
-reads_same forms.Other choice calendar names a b seen says = ap is_said says
+reads_same forms.Roman choice calendar names a b same says = ap is_said says
+reads_same forms.Other choice calendar names a b same says = ap is_said says
 
 say_same : (choice : Choice) (calendar : Calendar) (names : List Name) (a b : List ℕ)
-    → SeenAlike (tokens 0 a) (tokens 0 b) → PartsAlike (names_in calendar names) (parts a) (parts b)
+    → SameRuns (tokens 0 a) (tokens 0 b) → answer choice calendar names a ≡ answer choice calendar names b
     → SayTheSame choice calendar names a b
-say_same choice calendar names a b seen alike =
-    let unread : is_unread a ≡ is_unread b
-    = ap₂ (λ x y. x || y) (ap₂ (λ x y. x || y) seen.other seen.minus) seen.dash in
-    let says = answer_same choice calendar names a b unread (parts_found calendar names a b alike)
-    (λ found e. plain_same (tokens 0 a) (tokens 0 b) choice.order (beside_weekday found) seen.two seen.mixed seen.bar) in
-    let reads = reads_same (form calendar) choice calendar names a b seen says in
+say_same choice calendar names a b same says =
+    let reads = reads_same (form calendar) choice calendar names a b same says in
     record {
       says = says;
       reads = reads;
-      writes = λ h. written_by_form (form calendar) choice calendar names a b refl seen says reads h;
+      writes = λ h. written_by_form (form calendar) choice calendar names a b refl same says reads h;
     }
+
+seen_same : (choice : Choice) (calendar : Calendar) (names : List Name) (a b : List ℕ)
+    → SeenAlike (tokens 0 a) (tokens 0 b) → PartsAlike (names_in calendar names) (parts a) (parts b)
+    → SayTheSame choice calendar names a b
+seen_same choice calendar names a b seen alike =
+    let unread : is_unread a ≡ is_unread b
+    = ap₂ (λ x y. x || y) (ap₂ (λ x y. x || y) seen.other seen.minus) seen.dash in
+    say_same choice calendar names a b (seen.runs, seen.below)
+    (answer_same choice calendar names a b unread (parts_found calendar names a b alike)
+    (λ found e. plain_same (tokens 0 a) (tokens 0 b) choice.order (beside_weekday found) seen.two seen.mixed seen.bar))
 
 squeezed_parts : (text : List ℕ) → parts_in (squeezed text) ≡ parts text
 unfolding parts
@@ -463,4 +460,34 @@ alike_texts_say_the_same choice calendar names a b all =
     = subst (λ (y : List Piece). PartsAlike own (parts a) y) (squeezed_parts b)
     (subst (λ (x : List Piece). PartsAlike own x (parts_in (squeezed b))) (squeezed_parts a)
     (parts_alike own (squeezed a) (squeezed b) all)) in
-    say_same choice calendar names a b seen alike
+    seen_same choice calendar names a b seen alike
+
+-- ---- signs only part
+no_hyphen_in : (k : Kind) (ts : List Piece) → is_dash k ≡ false → if_hyphen k ts ≡ None
+no_hyphen_in Hyphen ts h = absurd (true≢false h)
+no_hyphen_in _ ts h = refl
+
+no_runs_below : (ts : List Piece) → begins_with_dash ts ≡ false → (behind_hyphen ts >>= runs_in_front) ≡ None
+unfolding behind_hyphen
+no_runs_below [] h = refl
+no_runs_below (p ∷ ts) h = ap (λ o. o >>= runs_in_front) (no_hyphen_in p.kind ts h)
+
+quiet_runs : (text : List ℕ) → is_unread text ≡ false → runs_behind_minus (tokens 0 text) ≡ None
+quiet_runs text h =
+    no_runs_below (bare (tokens 0 text))
+    (or_parts (has_other (tokens 0 text) || has_minus (tokens 0 text)) (begins_with_dash (bare (tokens 0 text))) h).1
+
+pub signs_only_part : SignsOnlyPart
+signs_only_part choice calendar names a b found all left right no_date no_other_date is quiet =
+    let alike : PartsAlike (names_in calendar names) (parts a) (parts b)
+    = subst (λ (y : List Piece). PartsAlike (names_in calendar names) (parts a) y) (parts_twice b)
+    (subst (λ (x : List Piece). PartsAlike (names_in calendar names) x (parts_in (parts b))) (parts_twice a)
+    (parts_alike (names_in calendar names) (parts a) (parts b) all)) in
+    say_same choice calendar names a b (no_date ∙ sym no_other_date, quiet_runs a left ∙ sym (quiet_runs b right))
+    (answer_same choice calendar names a b (left ∙ sym right) (parts_found calendar names a b alike)
+    (λ other e. unasked (tokens 0 a) (tokens 0 b) choice.order (beside_weekday other)
+    (subst (λ (x : List Item). asks_signs (beside_weekday x) ≡ false) (let s : found ≡ other = some_one (sym is ∙ e) in s)
+    quiet)))
+  where
+    some_one : {x y : List Item} → Some x ≡ Some y → x ≡ y
+    some_one e = cc

@@ -26,3 +26,4 @@ pub mod WeekdayLawLemmas
 pub mod NameLawLemmas
 pub mod PieceLemmas
 pub mod AlikeLemmas
+pub mod TextLawLemmas

@@ -143,11 +143,11 @@ signs_found = record {
 }
 
 -- ---- fewer blanks
-blank_is : (k : Kind) → is_blank k ≡ true → k ≡ Blank
+pub blank_is : (k : Kind) → is_blank k ≡ true → k ≡ Blank
 blank_is Blank h = refl
 blank_is _ h = absurd (true≢false (sym h))
 
-letter_is : (k : Kind) → is_letter k ≡ true → k ≡ Letter
+pub letter_is : (k : Kind) → is_letter k ≡ true → k ≡ Letter
 letter_is Letter h = refl
 letter_is _ h = absurd (true≢false (sym h))
 
@@ -330,7 +330,7 @@ minus_bare (p ∷ ts) = by_blank (minus_bare ts) p.kind
     by_blank rest Blank = rest
     by_blank rest _ = refl
 
-same_kind : (names : List Name) (p q : Piece) → AreAlike names p q → p.kind ≡ q.kind
+pub same_kind : (names : List Name) (p q : Piece) → AreAlike names p q → p.kind ≡ q.kind
 same_kind names p q h = elim h [
   | inl e ↦ ap (λ (x : Piece). x.kind) e
   | inr (inl (a, b)) ↦ blank_is p.kind a ∙ sym (blank_is q.kind b)
@@ -356,7 +356,7 @@ minus_alike k names (p ∷ ts) (q ∷ us) all =
     ∙ ap (λ j. (is_between k && is_dash j && begins_with_digit us) || has_minus_behind j us) same
 
 -- ---- blanks in front
-bare_put : (p : Piece) (us : List Piece) → is_blank p.kind ≡ true → bare (before_spaced p us) ≡ bare us
+pub bare_put : (p : Piece) (us : List Piece) → is_blank p.kind ≡ true → bare (before_spaced p us) ≡ bare us
 bare_put p us h = by_kind us (blank_is p.kind h)
   where
     by_kind : (us : List Piece) → p.kind ≡ Blank → bare (before_spaced p us) ≡ bare us
@@ -367,7 +367,7 @@ bare_put p us h = by_kind us (blank_is p.kind h)
         by_second true = rw e refl
         by_second false = rw e refl
 
-kept_put : (p : Piece) (us : List Piece) → is_blank p.kind ≡ false → before_spaced p us ≡ p ∷ us
+pub kept_put : (p : Piece) (us : List Piece) → is_blank p.kind ≡ false → before_spaced p us ≡ p ∷ us
 kept_put p [] h = rw h refl
 kept_put p (q ∷ us) h = rw h refl
 
@@ -394,7 +394,7 @@ bare_twice (p ∷ ts) = by_blank (bare_twice ts) p.kind
     by_blank rest Blank = rest
     by_blank rest _ = refl
 
-bare_alike : (names : List Name) (ts us : List Piece) → EachAlike names ts us → EachAlike names (bare ts) (bare us)
+pub bare_alike : (names : List Name) (ts us : List Piece) → EachAlike names ts us → EachAlike names (bare ts) (bare us)
 bare_alike names [] [] all = tt
 bare_alike names [] (q ∷ us) all = absurd all
 bare_alike names (p ∷ ts) [] all = absurd all

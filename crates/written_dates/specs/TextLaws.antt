@@ -25,7 +25,7 @@ use Rattle.written_dates.specs.Names.{names_in}
 use Rattle.written_dates.specs.Parts.{parts}
 use Rattle.written_dates.specs.Roman.{roman}
 use Rattle.written_dates.specs.Rules.{beside_weekday}
-use Rattle.written_dates.specs.Signs.{bare, begins_with_dash, has_minus, has_other}
+use Rattle.written_dates.specs.Signs.{bare, begins_with_dash, has_minus, has_other, three_runs}
 use Rattle.written_dates.specs.Sums.{found_items}
 use Rattle.written_dates.specs.Tokens.{Piece, kind_of, tokens}
 use Rattle.written_dates.specs.WholeNames.{is_letter}
@@ -133,7 +133,7 @@ pub record AreBlanks (blanks : List ℕ) : Type 0 where
 abbrev pub BlanksSayTheSame : Type 0
 BlanksSayTheSame =
     (choice : Choice) (calendar : Calendar) (names : List Name) (before blanks others after : List ℕ) → AreBlanks blanks
-    → AreBlanks others → SayTheSame choice calendar names (before ++ blanks ++ after) (before ++ others ++ after)
+    → AreBlanks others → SayTheSame choice calendar names (before ++ (blanks ++ after)) (before ++ (others ++ after))
 
 -- blanks in front of a text, or behind it, say nothing
 abbrev pub OuterBlanksSayNothing : Type 0
@@ -160,13 +160,13 @@ asks_signs (Number a ∷ Number b ∷ Number c ∷ []) = true
 asks_signs (Month m ∷ Number a ∷ Number c ∷ []) = true
 asks_signs found = false
 
--- in other texts signs and blanks part numbers and words, and say nothing more
+-- in other texts, which are no dates as registers have them, signs and blanks part numbers and words, and say nothing more
 abbrev pub SignsOnlyPart : Type 0
 SignsOnlyPart =
     (choice : Choice) (calendar : Calendar) (names : List Name) (a b : List ℕ) (found : List Item)
     → EachAlike (names_in calendar names) (parts a) (parts b) → is_unread a ≡ false → is_unread b ≡ false
-    → found_items calendar names a ≡ Some found → asks_signs (beside_weekday found) ≡ false
-    → answer choice calendar names a ≡ answer choice calendar names b
+    → three_runs (tokens 0 a) ≡ None → three_runs (tokens 0 b) ≡ None → found_items calendar names a ≡ Some found
+    → asks_signs (beside_weekday found) ≡ false → SayTheSame choice calendar names a b
 
 -- ---- what is written
 -- a date as registers have it has a year that is kept

@@ -100,7 +100,7 @@ parts_alike names (p ∷ ts) (q ∷ us) all = by_all all.0 (parts_alike names ts
         by_part (is_part p) (is_part q) (letter_part p.kind a ∙ sym (letter_part q.kind b)) (inr (a, b, c)) rest
 
 -- ---- names stand in front of both
-same_too : (n p q : List ℕ) → same_word p q ≡ true → same_word n p ≡ same_word n q
+pub same_too : (n p q : List ℕ) → same_word p q ≡ true → same_word n p ≡ same_word n q
 same_too n p q h =
     let both = (same_word-Decides p q).0 h in
     by_cases (same_word n p) (same_word n q)

@@ -27,3 +27,4 @@ pub mod NameLawLemmas
 pub mod PieceLemmas
 pub mod AlikeLemmas
 pub mod TextLawLemmas
+pub mod CaseLemmas

@@ -1,4 +1,5 @@
 use Rattle.written_dates.proofs.AlikeLemmas.{alike_texts_say_the_same}
+use Rattle.written_dates.proofs.CaseLemmas.{letters_of_either_case_say_the_same}
 use Rattle.written_dates.proofs.TextLawLemmas.{blanks_say_the_same, outer_blanks_say_nothing, synonyms_say_the_same}
 use Rattle.written_dates.proofs.laws.alike_texts_say_the_same.Goals as goal
 
@@ -13,3 +14,6 @@ returns-clause-outer c = outer_blanks_say_nothing
 
 pub returns-clause-synonyms : goal.returns-clause-synonyms
 returns-clause-synonyms c = synonyms_say_the_same
+
+pub returns-clause-letters : goal.returns-clause-letters
+returns-clause-letters c = letters_of_either_case_say_the_same

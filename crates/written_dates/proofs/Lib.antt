@@ -28,3 +28,4 @@ pub mod PieceLemmas
 pub mod AlikeLemmas
 pub mod TextLawLemmas
 pub mod CaseLemmas
+pub mod StayLemmas

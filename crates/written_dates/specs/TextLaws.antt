@@ -30,7 +30,7 @@ use Rattle.written_dates.specs.Sums.{found_items}
 use Rattle.written_dates.specs.Tokens.{Piece, kind_of, tokens}
 use Rattle.written_dates.specs.WholeNames.{is_letter}
 use Rattle.written_dates.specs.Words.{same_word}
-use Rattle.written_dates.specs.Written.{answer, is_dated, joined, short_rule, written}
+use Rattle.written_dates.specs.Written.{answer, is_dated, is_turned, joined, short_rule, written}
 
 -- a date is found, if it be one whose short year is refused
 abbrev pub is_said : Answer → Bool
@@ -169,13 +169,14 @@ SignsOnlyPart =
     → asks_signs (beside_weekday found) ≡ false → SayTheSame choice calendar names a b
 
 -- ---- what is written
--- a date as registers have it has a year that is kept
+-- where the text is a date as registers have it, its year is not last, and is kept
 abbrev pub HasKeptYear : Choice → Calendar → List ℕ → Type 0
 HasKeptYear choice calendar text =
     (year month day : List ℕ) → text ≡ joined year month day → AreDigits year → AreDigits month → AreDigits day
-    → (n : Numeral) → number_of_digits year ≡ Some n → short_rule choice calendar n ≡ Keep
+    → (is_turned choice.order year day ≡ false)
+    × ((n : Numeral) → number_of_digits year ≡ Some n → short_rule choice calendar n ≡ Keep)
 
--- what is written for a text is written for itself, unless it is a date with a short year that is not kept
+-- what is written for a text is written for itself, unless it is a date with such a year
 abbrev pub WrittenTextsStay : Type 0
 WrittenTextsStay =
     (choice : Choice) (calendar : Calendar) (names : List Name) (text : List ℕ) → form calendar ≡ Civil

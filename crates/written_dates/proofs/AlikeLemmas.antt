@@ -1,7 +1,8 @@
 -- Texts of which the tokens are alike say the same.
-use Rattle.std.proofs.Common.{◌≡◌, ◌⊎◌, inl, inr, ℕ, zero, suc, ◌+◌, ◌-◌, ◌<◌, ◌≤◌, Bool, true, false, not, ◌&&◌, ◌||◌, ◌==◌, cond, refl, sym}
-use Rattle.std.proofs.Common.{List, [], ◌∷◌, ◌++◌, length, Option, Some, None, is_some, ◌∙◌, subst, nat_lt, arith, ap, ap₂}
-use Rattle.std.specs.Prelude.{⊤, option_map, slice_get}
+use Rattle.std.proofs.Common.{◌≡◌, ◌⊎◌, inl, inr, ℕ, zero, suc, ◌-◌, ◌<◌, Bool, true, false, not, ◌&&◌, ◌||◌, ◌==◌}
+use Rattle.std.proofs.Common.{cond, refl, sym}
+use Rattle.std.proofs.Common.{List, [], ◌∷◌, length, Option, Some, None, is_some, ◌∙◌, subst, nat_lt, arith, ap, ap₂}
+use Rattle.std.specs.Prelude.{⊤, option_map}
 use Rattle.std.specs.List.{filter, list_all, list_any}
 use Rattle.std.proofs.lemmas.Bool.{and_parts, or_parts, true≢false}
 use Rattle.std.proofs.lemmas.Bool.Decides.{nat_tests}
@@ -11,7 +12,6 @@ use Rattle.written_dates.specs.declared.calendars.Form.{Form}
 use Rattle.written_dates.specs.declared.calendars.Form.TheVariants as forms
 use Rattle.written_dates.specs.declared.items.Item.{Item}
 use Rattle.written_dates.specs.declared.items.Item.TheVariants.{Number, Month}
-use Rattle.written_dates.specs.declared.items.Number.{Number as Numeral}
 use Rattle.written_dates.specs.declared.meanings.Meaning.{Meaning}
 use Rattle.written_dates.specs.declared.meanings.Meaning.TheVariants.{Nothing}
 use Rattle.written_dates.specs.declared.meanings.Name.{Name}
@@ -20,32 +20,37 @@ use Rattle.written_dates.specs.declared.rules.Reading.{Reading}
 use Rattle.written_dates.specs.declared.tokens.Kind.{Kind}
 use Rattle.written_dates.specs.declared.tokens.Kind.TheVariants.{Blank, Hyphen, Letter}
 use Rattle.written_dates.specs.declared.written.Answer.{Answer}
-use Rattle.written_dates.specs.declared.written.Answer.TheVariants.{Stays, NoSuchYear, OtherWeekday, Refused, Date, RomanDate}
+use Rattle.written_dates.specs.declared.written.Answer.TheVariants.{Stays, Refused, Date, RomanDate}
 use Rattle.written_dates.specs.declared.written.Choice.{Choice}
 use Rattle.written_dates.specs.Calendars.{form}
 use Rattle.written_dates.specs.Fields.{is_blank}
-use Rattle.written_dates.specs.Items.{alone, bare_number, item_by, item_in_front, items, items_behind, longest, meant, number_of}
+use Rattle.written_dates.specs.Items.{alone, bare_number, item_by, item_in_front, items, items_behind, longest, meant}
 use Rattle.written_dates.specs.Items.{before, number_of_kind}
-use Rattle.written_dates.specs.Laws.{StandsAt}
 use Rattle.written_dates.specs.Names.{names_in}
 use Rattle.written_dates.specs.Parts.{is_part, is_part_kind, parts, stands}
 use Rattle.written_dates.specs.Roman.{roman}
-use Rattle.written_dates.specs.Rules.{beside_weekday, civil_reading, or_reading, plain_reading, roman_reading, three_numbers}
-use Rattle.written_dates.specs.Signs.{◌>>=◌, bare, begins_with_dash, behind_hyphen, has_bar_between, has_minus, has_mixed_signs}
-use Rattle.written_dates.specs.Signs.{has_other, has_two_dashes, if_hyphen, is_dash, runs_behind_minus, runs_in_front, three_runs}
+use Rattle.written_dates.specs.Rules.{beside_weekday, or_reading, plain_reading}
+use Rattle.written_dates.specs.Signs.{◌>>=◌, bare, begins_with_dash, behind_hyphen, has_bar_between, has_minus}
+use Rattle.written_dates.specs.Signs.{has_mixed_signs}
+use Rattle.written_dates.specs.Signs.{has_other, has_two_dashes, if_hyphen, is_dash, runs_behind_minus, runs_in_front}
+use Rattle.written_dates.specs.Signs.{three_runs}
 use Rattle.written_dates.specs.Sums.{found_items, summed}
-use Rattle.written_dates.specs.TextLaws.{AlikeTextsSayTheSame, AreAlike, AreSameWord, AreSynonyms, EachAlike, SayTheSame, StandsAlone}
+use Rattle.written_dates.specs.TextLaws.{AlikeTextsSayTheSame, AreAlike, AreSameWord, AreSynonyms, EachAlike}
+use Rattle.written_dates.specs.TextLaws.{SayTheSame, StandsAlone}
 use Rattle.written_dates.specs.TextLaws.{SignsOnlyPart, asks_signs, is_unread}
-use Rattle.written_dates.specs.TextLaws.{is_alone, is_named, is_read, is_said, spaced, squeezed}
+use Rattle.written_dates.specs.TextLaws.{is_alone, is_named, is_read, is_said, squeezed}
 use Rattle.written_dates.specs.Tokens.{Piece, tokens}
 use Rattle.written_dates.specs.WholeNames.{is_letter}
-use Rattle.written_dates.specs.Words.{folded, is_folded, same_word}
-use Rattle.written_dates.specs.Written.{answer, answer_by, answer_text, begins_at_midnight, dated_text, if_dated, is_dated, is_found}
+use Rattle.written_dates.specs.Words.{same_word}
+use Rattle.written_dates.specs.Written.{answer, answer_by, answer_text, begins_at_midnight, dated_text, is_dated}
+use Rattle.written_dates.specs.Written.{is_found}
 use Rattle.written_dates.specs.Written.{civil_text, date_of, if_agreed}
-use Rattle.written_dates.specs.Written.{items_answer, reading_by, unless_turned, written, written_by, written_form, before_time}
+use Rattle.written_dates.specs.Written.{items_answer, reading_by, unless_turned, written, written_by, written_form}
+use Rattle.written_dates.specs.Written.{before_time}
 use Rattle.written_dates.proofs.NameLawLemmas.{found_is_longest, found_stands}
-use Rattle.written_dates.proofs.PieceLemmas.{IgnoresBlanks, SeenAlike, alike_seen, are_honest, honest, no_blanks, seen_through}
-use Rattle.written_dates.proofs.PieceLemmas.{spaced_same, squeezed_same, squeezed_seen, tokens_honest, bare_same}
+use Rattle.written_dates.proofs.PieceLemmas.{IgnoresBlanks, SeenAlike, alike_seen, are_honest, honest, no_blanks}
+use Rattle.written_dates.proofs.PieceLemmas.{seen_through}
+use Rattle.written_dates.proofs.PieceLemmas.{squeezed_same, squeezed_seen, tokens_honest}
 use Rattle.written_dates.proofs.TimeLemmas.{dated_whole}
 use Rattle.written_dates.proofs.WordLemmas.{by_cases, same_word-Decides}
 
@@ -211,7 +216,8 @@ named_longer : (names : List Name) (p : Piece) (xs : List Piece) → is_named na
 named_longer names p xs h =
     let some : 0 < (longest (p ∷ []) (0, Nothing) names).0 = grind (arith, nat_tests) in
     let (place, name, at, e) = found_stands (p ∷ []) names some in
-    let size : (longest (p ∷ []) (0, Nothing) names).0 ≡ length (parts name.text.now) = ap (λ (x : ℕ × Meaning). x.0) e in
+    let size : (longest (p ∷ []) (0, Nothing) names).0
+    ≡ length (parts name.text.now) = ap (λ (x : ℕ × Meaning). x.0) e in
     let least = found_is_longest (p ∷ xs) names place name
     (record { there = at.there; stands = longer_stands (parts name.text.now) p xs at.stands }) in
     omega (arith, some, size, least)
@@ -285,7 +291,8 @@ reading_same forms.Civil choice ts us found plain = or_same _ _ _ plain
 reading_same forms.Roman choice ts us found plain = refl
 reading_same forms.Other choice ts us found plain = refl
 
-says_by : (o : Option (List Item)) (f g : List Item → Answer) → ((found : List Item) → o ≡ Some found → f found ≡ g found)
+says_by : (o : Option (List Item)) (f g : List Item → Answer) → ((found : List Item) → o ≡ Some found
+    → f found ≡ g found)
     → answer_by o f ≡ answer_by o g
 says_by None f g h = refl
 says_by (Some found) f g h = h found refl
@@ -361,7 +368,8 @@ written_same choice calendar names a b None None says h =
 
 pub dated_said : (choice : Choice) (calendar : Calendar) (names : List Name) (text : List ℕ)
     → is_dated choice calendar names text
-    ≡ (is_some (unless_turned choice.order (three_runs (tokens 0 text))) || is_found (answer choice calendar names text))
+    ≡ (is_some (unless_turned choice.order (three_runs (tokens 0 text))) || is_found
+    (answer choice calendar names text))
 unfolding is_dated
 dated_said choice calendar names text = refl
 
@@ -486,7 +494,8 @@ signs_only_part choice calendar names a b found all left right no_date no_other_
     say_same choice calendar names a b (no_date ∙ sym no_other_date, quiet_runs a left ∙ sym (quiet_runs b right))
     (answer_same choice calendar names a b (left ∙ sym right) (parts_found calendar names a b alike)
     (λ other e. unasked (tokens 0 a) (tokens 0 b) choice.order (beside_weekday other)
-    (subst (λ (x : List Item). asks_signs (beside_weekday x) ≡ false) (let s : found ≡ other = some_one (sym is ∙ e) in s)
+    (subst (λ (x : List Item). asks_signs (beside_weekday x) ≡ false) (let s : found ≡ other = some_one (sym is
+    ∙ e) in s)
     quiet)))
   where
     some_one : {x y : List Item} → Some x ≡ Some y → x ≡ y

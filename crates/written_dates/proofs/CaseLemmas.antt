@@ -1,30 +1,31 @@
 -- Texts that differ in the case of A to Z alone have tokens that are alike.
-use Rattle.std.proofs.Common.{◌≡◌, ◌⊎◌, inl, inr, ℕ, zero, suc, ◌+◌, ◌<◌, ◌≤◌, Bool, true, false, ◌&&◌, ◌||◌, ◌==◌, cond, refl, sym}
-use Rattle.std.proofs.Common.{List, [], ◌∷◌, ◌++◌, Option, None, Some, ◌∙◌, nat_le, arith, ap, ap₂, take, get_or, map, subst}
+use Rattle.std.proofs.Common.{◌≡◌, ◌⊎◌, inl, inr, ℕ, zero, suc, ◌+◌, ◌≤◌, Bool, true, false, ◌&&◌, ◌||◌, ◌==◌, cond}
+use Rattle.std.proofs.Common.{refl, sym}
+use Rattle.std.proofs.Common.{List, [], ◌∷◌, ◌++◌, Option, None, Some, ◌∙◌, nat_le, arith, ap, ap₂, take, get_or, subst}
 use Rattle.std.specs.Prelude.{⊤, is_none, nat_lt}
 use Rattle.std.specs.Char.{is_ascii_alphabetic, is_ascii_digit, to_ascii_lowercase}
 use Rattle.std.specs.List.{list_all}
 use Rattle.std.specs.Str.{str_to_ascii_lowercase}
-use Rattle.std.proofs.lemmas.Bool.{and_parts, cases_Bool, or_parts, true≢false}
+use Rattle.std.proofs.lemmas.Bool.{and_parts, cases_Bool, true≢false}
 use Rattle.std.proofs.lemmas.Bool.Decides.{nat_tests}
 use Rattle.std.proofs.lemmas.List.{map-append, take-map}
 use Rattle.written_dates.specs.declared.meanings.Meaning.{Meaning}
 use Rattle.written_dates.specs.declared.meanings.Meaning.TheVariants.{Nothing}
 use Rattle.written_dates.specs.declared.meanings.Name.{Name}
 use Rattle.written_dates.specs.declared.tokens.Kind.{Kind}
-use Rattle.written_dates.specs.declared.tokens.Kind.TheVariants.{Blank, Hyphen, Dash, Sign, Digit, Letter, Other}
+use Rattle.written_dates.specs.declared.tokens.Kind.TheVariants.{Blank, Letter}
 use Rattle.written_dates.specs.Fields.{is_blank}
 use Rattle.written_dates.specs.Names.{names_in}
 use Rattle.written_dates.specs.Parts.{is_part, parts}
 use Rattle.written_dates.specs.Roman.{roman}
-use Rattle.written_dates.specs.TextLaws.{AreAlike, AreSameWord, EachAlike, LettersOfEitherCaseSayTheSame, has_no_roman, is_named}
+use Rattle.written_dates.specs.TextLaws.{AreAlike, AreSameWord, EachAlike, LettersOfEitherCaseSayTheSame}
+use Rattle.written_dates.specs.TextLaws.{has_no_roman, is_named}
 use Rattle.written_dates.specs.Tokens.{Piece, first, in_front, joins, kind_of, tokens}
 use Rattle.written_dates.specs.WholeNames.{is_letter}
 use Rattle.written_dates.specs.Words.{same_word}
-use Rattle.written_dates.specs.Items.{longest}
 use Rattle.written_dates.proofs.AlikeLemmas.{longest_same, parts_in, same_too}
 use Rattle.written_dates.proofs.KindLemmas.{picked}
-use Rattle.written_dates.proofs.LetterLemmas.{letters_alike, lower_large, lower_small}
+use Rattle.written_dates.proofs.LetterLemmas.{letters_alike, lower_large}
 use Rattle.written_dates.proofs.MinusLemmas.{plain_first}
 use Rattle.written_dates.proofs.TextLawLemmas.{tokens_alike}
 use Rattle.written_dates.proofs.TokenLemmas.{same_kind}
@@ -120,7 +121,8 @@ by_tests l a b d e f g h i j = picked l (a && b) (d && e && f) (d && e && g && h
 tests_same : (l l' : Kind) (a b d e f g h i j a' b' d' e' f' g' h' i' j' : Bool) → l ≡ l' → a ≡ a' → b ≡ b' → d ≡ d'
     → e ≡ e' → f ≡ f' → g ≡ g' → h ≡ h' → i ≡ i' → j ≡ j'
     → by_tests l a b d e f g h i j ≡ by_tests l' a' b' d' e' f' g' h' i' j'
-tests_same l l' a b d e f g h i j a' b' d' e' f' g' h' i' j' p q r s t u v w x y = rw (p, q, r, s, t, u, v, w, x, y) refl
+tests_same l l' a b d e f g h i j a' b' d' e' f' g' h' i' j' p q r s t u v w x y = rw
+    (p, q, r, s, t, u, v, w, x, y) refl
 
 -- the kind of a character by its first three bytes
 abbrev of_three : ℕ → ℕ → ℕ → Kind × ℕ
@@ -157,7 +159,8 @@ EachOtherCase (p ∷ ps) (q ∷ qs) = IsOtherCase p q × EachOtherCase ps qs
 EachOtherCase ps qs = ⊥
 
 joined_case : (p q r s : Piece) → IsOtherCase p q → IsOtherCase r s → joins p.kind r.kind ≡ true
-    → IsOtherCase (record { kind = p.kind; text = p.text ++ r.text }) (record { kind = q.kind; text = q.text ++ s.text })
+    → IsOtherCase (record { kind = p.kind; text = p.text ++ r.text })
+    (record { kind = q.kind; text = q.text ++ s.text })
 joined_case p q r s a b j = record {
   kind = a.kind;
   text = map-append to_ascii_lowercase p.text r.text ∙ ap₂ ◌++◌ a.text b.text
@@ -173,7 +176,8 @@ unfolding in_front
 front_case p q [] [] a all = (a, tt)
 front_case p q [] (s ∷ us) a all = absurd all
 front_case p q (r ∷ ts) [] a all = absurd all
-front_case p q (r ∷ ts) (s ∷ us) a all = by_join (joins p.kind r.kind) (joins q.kind s.kind) (ap₂ joins a.kind all.0.kind) refl
+front_case p q (r ∷ ts) (s ∷ us) a all = by_join (joins p.kind r.kind) (joins q.kind s.kind)
+    (ap₂ joins a.kind all.0.kind) refl
   where
     by_join : (j k : Bool) → j ≡ k → joins p.kind r.kind ≡ j
         → EachOtherCase (cond j (record { kind = p.kind; text = p.text ++ r.text } ∷ ts) (p ∷ r ∷ ts))
@@ -306,8 +310,11 @@ case_alike : (names : List Name) (k : Kind) (p q : Piece) → p.kind ≡ k → I
     → AreAlike names p q
 case_alike names Blank p q e o a b = inr (inl (ap is_blank e, ap is_blank (sym o.kind ∙ e)))
 case_alike names Letter p q e o a b =
-    inr (inr (ap is_letter e, ap is_letter (sym o.kind ∙ e),
-    inl (no_roman_same names p q (letters_alike p.text q.text o.text) (a refl) (b refl))))
+    inr (inr (
+      ap is_letter e,
+      ap is_letter (sym o.kind ∙ e),
+      inl (no_roman_same names p q (letters_alike p.text q.text o.text) (a refl) (b refl)),
+    ))
 case_alike names _ p q e o a b =
     inl (ap₂ (λ (k : Kind) (t : List ℕ). (let x : Piece = record { kind = k; text = t } in x)) o.kind
     (o.same (ap is_letter e) (ap is_blank e)))

@@ -1,21 +1,24 @@
 -- Tokens that are alike: what signs say of them.
-use Rattle.std.proofs.Common.{◌≡◌, ◌⊎◌, inl, inr, ℕ, zero, suc, ◌+◌, ◌<◌, Bool, true, false, not, ◌&&◌, ◌||◌, ◌==◌, cond, refl, sym, ap, ap₂}
-use Rattle.std.proofs.Common.{List, [], ◌∷◌, ◌++◌, Option, Some, None, ◌∙◌, subst, nat_le, arith, take}
-use Rattle.std.specs.List.{count_by, filter, list_all, list_any}
-use Rattle.std.specs.Str.{bytes_eq}
+use Rattle.std.proofs.Common.{◌≡◌, inl, inr, ℕ, zero, suc, ◌+◌, Bool, true, false, not, ◌&&◌, ◌||◌, ◌==◌, cond, refl}
+use Rattle.std.proofs.Common.{sym, ap, ap₂}
+use Rattle.std.proofs.Common.{List, [], ◌∷◌, ◌++◌, Option, Some, None, ◌∙◌, arith, take}
+use Rattle.std.specs.List.{count_by, list_all, list_any}
 use Rattle.std.proofs.lemmas.Bool.{and_from, and_parts, true≢false}
 use Rattle.std.proofs.lemmas.Bool.Decides.{nat_tests}
 use Rattle.std.proofs.lemmas.List.Sums.{sum_by-cons}
 use Rattle.written_dates.specs.declared.meanings.Name.{Name}
 use Rattle.written_dates.specs.declared.tokens.Kind.{Kind}
-use Rattle.written_dates.specs.declared.tokens.Kind.TheVariants.{Blank, Hyphen, Dash, Sign, Digit, Letter, Other}
+use Rattle.written_dates.specs.declared.tokens.Kind.TheVariants.{Blank, Hyphen, Digit, Letter}
 use Rattle.written_dates.specs.Fields.{is_blank}
-use Rattle.written_dates.specs.Signs.{◌>>=◌, at_end, bare, begins_with_dash, begins_with_digit, behind_blank, behind_hyphen, differ}
-use Rattle.written_dates.specs.Signs.{digits_first, has_bar_between, has_digits, has_minus, has_minus_behind, has_mixed_signs, has_other}
-use Rattle.written_dates.specs.Signs.{has_two_dashes, if_digits, if_hyphen, is_bar, is_between, is_dash, is_digit, is_other, is_sign, odd_bars}
+use Rattle.written_dates.specs.Signs.{◌>>=◌, at_end, bare, begins_with_dash, begins_with_digit, behind_blank}
+use Rattle.written_dates.specs.Signs.{behind_hyphen, differ}
+use Rattle.written_dates.specs.Signs.{digits_first, has_bar_between, has_digits, has_minus, has_minus_behind}
+use Rattle.written_dates.specs.Signs.{has_mixed_signs, has_other}
+use Rattle.written_dates.specs.Signs.{has_two_dashes, if_digits, if_hyphen, is_bar, is_between, is_dash, is_digit}
+use Rattle.written_dates.specs.Signs.{is_other, is_sign}
 use Rattle.written_dates.specs.Signs.{runs_behind_minus, runs_in_front, signs_before_digits, signs_between, three_runs}
 use Rattle.written_dates.specs.TextLaws.{AreAlike, EachAlike, before_spaced, spaced}
-use Rattle.written_dates.specs.Tokens.{Piece, first, in_front, joins, kind_of, tokens}
+use Rattle.written_dates.specs.Tokens.{Piece, first, in_front, joins, tokens}
 use Rattle.written_dates.specs.WholeNames.{is_letter}
 use Rattle.written_dates.proofs.FrontLemmas.{not_behind}
 
@@ -139,7 +142,8 @@ not_between digit sign p x e f = rw (e, f) refl
 signs_found : Ignores between
 signs_found = record {
   more = λ p us vs e. ap (one_between p) e;
-  skips = λ p us h k. not_between (is_digit p.kind) (is_sign p.kind) p (between us) (no_digit p.kind k) (no_sign p.kind k);
+  skips = λ p us h k. not_between (is_digit p.kind) (is_sign p.kind) p (between us) (no_digit p.kind k)
+      (no_sign p.kind k);
 }
 
 -- ---- fewer blanks
@@ -155,12 +159,14 @@ plain_letter : (k : Kind) → is_letter k ≡ true → is_plain k ≡ true
 plain_letter Letter h = refl
 plain_letter _ h = absurd (true≢false (sym h))
 
-put_by : {A : Type 0} (g : List Piece → A) (b : Bool) (p : Piece) → IgnoresBlanks g → is_honest p ≡ true → is_blank p.kind ≡ b
+put_by : {A : Type 0} (g : List Piece → A) (b : Bool) (p : Piece) → IgnoresBlanks g → is_honest p ≡ true
+    → is_blank p.kind ≡ b
     → g (cond b [] (p ∷ [])) ≡ g (p ∷ [])
 put_by g true p i h e = sym (i.skips p [] h e)
 put_by g false p i h e = refl
 
-put_before : {A : Type 0} (g : List Piece → A) (b d : Bool) (p q : Piece) (us : List Piece) → IgnoresBlanks g → is_honest p ≡ true
+put_before : {A : Type 0} (g : List Piece → A) (b d : Bool) (p q : Piece) (us : List Piece) → IgnoresBlanks g
+    → is_honest p ≡ true
     → is_blank p.kind ≡ b → g (cond (b && d) (q ∷ us) (p ∷ q ∷ us)) ≡ g (p ∷ q ∷ us)
 put_before g true true p q us i h e = sym (i.skips p (q ∷ us) h e)
 put_before g true false p q us i h e = refl
@@ -253,7 +259,8 @@ by_ignored ts us other signs all dashes bars =
 
 squeezed_ignored : (ts : List Piece) → are_honest ts ≡ true → SameWhereIgnored (bare (spaced ts)) ts
 squeezed_ignored ts h =
-    by_ignored (bare (spaced ts)) ts (squeezed_same has_other ts (no_blanks _ others) h) (squeezed_same between ts (no_blanks _ signs_found) h)
+    by_ignored (bare (spaced ts)) ts (squeezed_same has_other ts (no_blanks _ others) h) (squeezed_same between ts
+    (no_blanks _ signs_found) h)
     (squeezed_same (λ us. count_by (λ p. is_sign p.kind) us) ts (no_blanks _ signs_counted) h)
     (squeezed_same (λ us. count_by (λ p. is_dash p.kind) us) ts (no_blanks _ dashes_counted) h)
     (squeezed_same (λ us. count_by is_bar us) ts (no_blanks _ bars_counted) h)
@@ -261,7 +268,8 @@ squeezed_ignored ts h =
 alike_ignored : (names : List Name) (ts us : List Piece) → are_honest ts ≡ true → are_honest us ≡ true
     → EachAlike names ts us → SameWhereIgnored ts us
 alike_ignored names ts us h k all =
-    by_ignored ts us (alike_same has_other names ts us others h k all) (alike_same between names ts us signs_found h k all)
+    by_ignored ts us (alike_same has_other names ts us others h k all)
+    (alike_same between names ts us signs_found h k all)
     (alike_same (λ us. count_by (λ p. is_sign p.kind) us) names ts us signs_counted h k all)
     (alike_same (λ us. count_by (λ p. is_dash p.kind) us) names ts us dashes_counted h k all)
     (alike_same (λ us. count_by is_bar us) names ts us bars_counted h k all)
@@ -305,7 +313,8 @@ minus_put k p [] = by_blank p.kind
     by_blank _ = refl
 minus_put k p (q ∷ us) = by_blank p.kind q.kind
   where
-    by_blank : (j l : Kind) → has_minus_behind k (cond (is_blank j && is_blank l) (record { kind = l; text = q.text } ∷ us)
+    by_blank : (j l : Kind)
+        → has_minus_behind k (cond (is_blank j && is_blank l) (record { kind = l; text = q.text } ∷ us)
         (record { kind = j; text = p.text } ∷ record { kind = l; text = q.text } ∷ us))
         ≡ has_minus_behind k (record { kind = j; text = p.text } ∷ record { kind = l; text = q.text } ∷ us)
     by_blank Blank Blank =
@@ -325,7 +334,8 @@ minus_bare : (ts : List Piece) → has_minus_behind Blank (bare ts) ≡ has_minu
 minus_bare [] = refl
 minus_bare (p ∷ ts) = by_blank (minus_bare ts) p.kind
   where
-    by_blank : has_minus_behind Blank (bare ts) ≡ has_minus_behind Blank ts → (j : Kind) → has_minus_behind Blank (behind_blank j (bare ts) (record { kind = j; text = p.text } ∷ ts))
+    by_blank : has_minus_behind Blank (bare ts) ≡ has_minus_behind Blank ts → (j : Kind)
+        → has_minus_behind Blank (behind_blank j (bare ts) (record { kind = j; text = p.text } ∷ ts))
         ≡ has_minus_behind Blank (record { kind = j; text = p.text } ∷ ts)
     by_blank rest Blank = rest
     by_blank rest _ = refl
@@ -389,7 +399,8 @@ bare_twice : (ts : List Piece) → bare (bare ts) ≡ bare ts
 bare_twice [] = refl
 bare_twice (p ∷ ts) = by_blank (bare_twice ts) p.kind
   where
-    by_blank : bare (bare ts) ≡ bare ts → (j : Kind) → bare (behind_blank j (bare ts) (record { kind = j; text = p.text } ∷ ts))
+    by_blank : bare (bare ts) ≡ bare ts → (j : Kind)
+        → bare (behind_blank j (bare ts) (record { kind = j; text = p.text } ∷ ts))
         ≡ behind_blank j (bare ts) (record { kind = j; text = p.text } ∷ ts)
     by_blank rest Blank = rest
     by_blank rest _ = refl
@@ -433,7 +444,8 @@ unfolding digits_first
 no_digits_blank p [] h = rw (blank_is p.kind h) refl
 no_digits_blank p (q ∷ us) h = by_second (is_blank q.kind) refl
   where
-    by_second : (d : Bool) → is_blank q.kind ≡ d → digits_first (cond (is_blank p.kind && d) (q ∷ us) (p ∷ q ∷ us)) ≡ None
+    by_second : (d : Bool) → is_blank q.kind ≡ d
+        → digits_first (cond (is_blank p.kind && d) (q ∷ us) (p ∷ q ∷ us)) ≡ None
     by_second true e = rw (h, blank_is q.kind e) refl
     by_second false e = rw (blank_is p.kind h) refl
 
@@ -442,7 +454,8 @@ unfolding behind_hyphen
 no_hyphen_blank p [] h = rw (blank_is p.kind h) refl
 no_hyphen_blank p (q ∷ us) h = by_second (is_blank q.kind) refl
   where
-    by_second : (d : Bool) → is_blank q.kind ≡ d → behind_hyphen (cond (is_blank p.kind && d) (q ∷ us) (p ∷ q ∷ us)) ≡ None
+    by_second : (d : Bool) → is_blank q.kind ≡ d
+        → behind_hyphen (cond (is_blank p.kind && d) (q ∷ us) (p ∷ q ∷ us)) ≡ None
     by_second true e = rw (h, blank_is q.kind e) refl
     by_second false e = rw (blank_is p.kind h) refl
 

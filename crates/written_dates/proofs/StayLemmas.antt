@@ -1,11 +1,13 @@
 -- What is written for a text is written for itself.
-use Rattle.std.proofs.Common.{◌≡◌, ◌⊎◌, inl, inr, ℕ, zero, suc, ◌+◌, ◌<◌, ◌≤◌, ◌/◌, ◌%◌, Bool, true, false, not, ◌&&◌, ◌||◌, ◌==◌, cond, refl, sym}
-use Rattle.std.proofs.Common.{List, [], ◌∷◌, ◌++◌, length, Option, None, Some, is_some, ◌∙◌, arith, ap, ap₂, subst, take, length-append}
+use Rattle.std.proofs.Common.{◌≡◌, ◌⊎◌, inl, inr, ℕ, zero, suc, ◌+◌, ◌<◌, ◌≤◌, ◌/◌, ◌%◌, Bool, true, false, not, ◌&&◌}
+use Rattle.std.proofs.Common.{◌||◌, ◌==◌, cond, refl, sym}
+use Rattle.std.proofs.Common.{List, [], ◌∷◌, ◌++◌, length, Option, None, Some, ◌∙◌, arith, ap, subst, take}
+use Rattle.std.proofs.Common.{length-append}
 use Rattle.std.specs.Prelude.{nat_lt}
 use Rattle.std.specs.Char.{is_ascii_digit}
 use Rattle.std.specs.Fmt.{decimal, digit_glyph, digits, digits_onto}
 use Rattle.std.specs.List.{list_all}
-use Rattle.std.proofs.lemmas.Bool.{and_from, and_parts, cases_Bool, true≢false}
+use Rattle.std.proofs.lemmas.Bool.{and_from, and_parts, true≢false}
 use Rattle.std.proofs.lemmas.Bool.Decides.{nat_tests}
 use Rattle.std.proofs.lemmas.List.Folds.{list_all-append}
 use Rattle.date_texts.specs.declared.calendar.Calendar.{Calendar}
@@ -21,26 +23,30 @@ use Rattle.written_dates.specs.declared.rules.Reading.TheVariants.{Civil, Roman}
 use Rattle.written_dates.specs.declared.tokens.Kind.{Kind}
 use Rattle.written_dates.specs.declared.tokens.Kind.TheVariants.{Blank, Digit, Hyphen}
 use Rattle.written_dates.specs.declared.written.Answer.{Answer}
-use Rattle.written_dates.specs.declared.written.Answer.TheVariants.{Stays, NoSuchYear, OtherWeekday, Refused, Date, RomanDate}
+use Rattle.written_dates.specs.declared.written.Answer.TheVariants.{Stays, NoSuchYear, OtherWeekday, Refused, Date}
+use Rattle.written_dates.specs.declared.written.Answer.TheVariants.{RomanDate}
 use Rattle.written_dates.specs.declared.written.Choice.{Choice}
 use Rattle.written_dates.specs.declared.written.Short.{Short}
 use Rattle.written_dates.specs.declared.written.Short.TheVariants.{Refuse, Keep, Add}
 use Rattle.written_dates.specs.Calendars.{form}
-use Rattle.written_dates.specs.Items.{items, number_of_digits}
+use Rattle.written_dates.specs.Items.{items}
 use Rattle.written_dates.specs.Laws.{AreDigits}
 use Rattle.written_dates.specs.Parts.{parts}
-use Rattle.written_dates.specs.Signs.{◌>>=◌, at_end, bare, behind_blank, behind_hyphen, digits_first, if_digits, if_hyphen, is_digit}
+use Rattle.written_dates.specs.Signs.{◌>>=◌, at_end, bare, behind_blank, behind_hyphen, digits_first, if_digits}
+use Rattle.written_dates.specs.Signs.{if_hyphen, is_digit}
 use Rattle.written_dates.specs.Signs.{has_minus, runs_behind_minus, runs_in_front, three_runs}
 use Rattle.written_dates.specs.TextLaws.{HasKeptYear, WrittenTextsStay}
 use Rattle.written_dates.specs.Tokens.{Piece, first, in_front, joins, tokens}
 use Rattle.written_dates.specs.Rules.{civil_reading}
 use Rattle.written_dates.specs.Sums.{found_items}
 use Rattle.written_dates.specs.Times.{timeless}
-use Rattle.written_dates.specs.Written.{agrees, answer_by, counted, date_by_rule, date_of, date_or_stays, has_year, if_agreed, is_turned}
-use Rattle.written_dates.specs.Written.{begins_at_midnight, items_answer, month_and_day, reading_by, unless, written_form}
-use Rattle.written_dates.specs.Written.{answer, answer_text, before_time, by_rule, civil_text, dated, dated_text, if_dated, is_dated, is_found}
+use Rattle.written_dates.specs.Written.{agrees, answer_by, counted, date_by_rule, date_of, date_or_stays, has_year}
+use Rattle.written_dates.specs.Written.{if_agreed, is_turned}
+use Rattle.written_dates.specs.Written.{begins_at_midnight, items_answer, month_and_day, reading_by, unless}
+use Rattle.written_dates.specs.Written.{written_form}
+use Rattle.written_dates.specs.Written.{answer, answer_text, before_time, by_rule, civil_text, dated, dated_text}
+use Rattle.written_dates.specs.Written.{if_dated, is_dated}
 use Rattle.written_dates.specs.Written.{joined, numbers, short_rule, stood, unless_turned, written, written_by}
-use Rattle.written_dates.proofs.AlikeLemmas.{dated_said}
 use Rattle.written_dates.proofs.FrontLemmas.{first_digit}
 use Rattle.written_dates.proofs.LawLemmas.{minus_stays, they_stay}
 use Rattle.written_dates.proofs.TimeLemmas.{dated_whole}
@@ -66,7 +72,8 @@ onto_digits zero n acc h = h
 onto_digits (suc k) n acc h =
     by_last (n / 10 == 0) (onto_digits k (n / 10) (digit_glyph false (n % 10) ∷ acc) (and_from _ _ (glyph_digit n) h))
   where
-    by_last : (b : Bool) → list_all is_ascii_digit (digits_onto k 10 false (n / 10) (digit_glyph false (n % 10) ∷ acc)) ≡ true
+    by_last : (b : Bool)
+        → list_all is_ascii_digit (digits_onto k 10 false (n / 10) (digit_glyph false (n % 10) ∷ acc)) ≡ true
         → list_all is_ascii_digit (cond b (digit_glyph false (n % 10) ∷ acc)
         (digits_onto k 10 false (n / 10) (digit_glyph false (n % 10) ∷ acc))) ≡ true
     by_last true rest = and_from _ _ (glyph_digit n) h
@@ -263,7 +270,8 @@ plain_date_in true v None = refl
 plain_date_in true v (Some x) = refl
 plain_date_in false v o = refl
 
-plain_date : (short : Short) (calendar : Calendar) (v : ℕ) (day : InYear) → is_roman (date_by_rule short calendar v day) ≡ false
+plain_date : (short : Short) (calendar : Calendar) (v : ℕ) (day : InYear)
+    → is_roman (date_by_rule short calendar v day) ≡ false
 plain_date Refuse calendar v day = refl
 plain_date Keep calendar v day = plain_date_in (has_year calendar v) v (month_and_day calendar v day)
 plain_date (Add more) calendar v day =
@@ -355,7 +363,8 @@ text_or_dated choice calendar names text = by_before (before_time choice calenda
     by_before (Some before) = by_dated (is_dated choice calendar names before) before refl
 
 read_alone : (choice : Choice) (calendar : Calendar) (names : List Name) (text : List ℕ)
-    → written choice (Some calendar) names (dated_text choice calendar names text) ≡ written choice (Some calendar) names text
+    → written choice (Some calendar) names (dated_text choice calendar names text)
+    ≡ written choice (Some calendar) names text
 read_alone choice calendar names text = elim (text_or_dated choice calendar names text) [
   | inl e ↦ ap (written choice (Some calendar) names) e
   | inr e ↦ ap (written_form (form calendar) choice calendar names)
@@ -388,7 +397,8 @@ again choice calendar names out civil kept (inl (y, m, d, hy, hm, hd, e)) =
     subst (λ (x : List ℕ). written choice (Some calendar) names x ≡ x) (sym e)
     (they_stay choice calendar names y m d civil hy hm hd own.0 own.1)
 again choice calendar names out civil kept (inr e) =
-    subst (λ (x : List ℕ). written choice (Some calendar) names x ≡ x) (sym e) (none_written choice calendar names civil)
+    subst (λ (x : List ℕ). written choice (Some calendar) names x
+    ≡ x) (sym e) (none_written choice calendar names civil)
 
 abbrev Stay : Choice → Calendar → List Name → List ℕ → Type 0
 Stay choice calendar names out =

@@ -1,7 +1,7 @@
 -- Blanks, synonyms and letters of another case in the bytes of a text.
-use Rattle.std.proofs.Common.{◌≡◌, ◌⊎◌, inl, inr, ℕ, zero, suc, ◌+◌, ◌<◌, ◌≤◌, Bool, true, false, ◌&&◌, ◌||◌, ◌==◌, cond, refl, sym}
-use Rattle.std.proofs.Common.{List, [], ◌∷◌, ◌++◌, length, ◌∙◌, subst, nat_le, arith, ap, ap₂, take, get_or, append-nil, append_assoc}
-use Rattle.std.specs.Prelude.{⊤}
+use Rattle.std.proofs.Common.{◌≡◌, inl, inr, ℕ, zero, suc, ◌+◌, ◌<◌, ◌≤◌, Bool, true, false, ◌&&◌, ◌==◌, cond, refl}
+use Rattle.std.proofs.Common.{sym}
+use Rattle.std.proofs.Common.{List, [], ◌∷◌, ◌++◌, length, ◌∙◌, subst, nat_le, arith, ap, ap₂, take, get_or, append-nil}
 use Rattle.std.specs.List.{list_all}
 use Rattle.std.proofs.lemmas.Bool.{and_parts, true≢false}
 use Rattle.std.proofs.lemmas.Bool.Decides.{nat_tests}
@@ -12,7 +12,7 @@ use Rattle.written_dates.specs.declared.tokens.Kind.TheVariants.{Blank, Digit, L
 use Rattle.written_dates.specs.Fields.{is_blank}
 use Rattle.written_dates.specs.Names.{names_in}
 use Rattle.written_dates.specs.Signs.{bare, is_between}
-use Rattle.written_dates.specs.TextLaws.{AlikeTextsSayTheSame, AreAlike, AreBlanks, BlanksSayTheSame, EachAlike, OuterBlanksSayNothing}
+use Rattle.written_dates.specs.TextLaws.{AreAlike, AreBlanks, BlanksSayTheSame, EachAlike, OuterBlanksSayNothing}
 use Rattle.written_dates.specs.TextLaws.{SayTheSame, SynonymsSayTheSame, before_spaced, spaced, squeezed}
 use Rattle.written_dates.specs.declared.written.Choice.{Choice}
 use Rattle.date_texts.specs.declared.calendar.Calendar.{Calendar}
@@ -50,7 +50,8 @@ put_alike names p q (r ∷ us) (s ∷ vs) a all =
     by_blank true false e = absurd (true≢false e)
     by_blank false true e = absurd (true≢false (sym e))
 
-spaced_alike : (names : List Name) (ts us : List Piece) → EachAlike names ts us → EachAlike names (spaced ts) (spaced us)
+spaced_alike : (names : List Name) (ts us : List Piece) → EachAlike names ts us
+    → EachAlike names (spaced ts) (spaced us)
 unfolding spaced
 spaced_alike names [] [] all = tt
 spaced_alike names [] (q ∷ us) all = absurd all
@@ -196,7 +197,8 @@ put_twice b c (r ∷ us) = by_blank (is_blank r.kind) refl
 -- the last of several blanks is left
 abbrev LastIsLeft : List ℕ → List ℕ → Type 0
 LastIsLeft blanks after =
-    (last : List ℕ) × (spaced (tokens 0 (blanks ++ after)) ≡ before_spaced (piece_of Blank last) (spaced (tokens 0 after)))
+    (last : List ℕ) × (spaced (tokens 0 (blanks ++ after))
+    ≡ before_spaced (piece_of Blank last) (spaced (tokens 0 after)))
 
 abbrev all_blank : List ℕ → Bool
 all_blank blanks = list_all (λ c. is_blank (kind_of c)) blanks
@@ -237,17 +239,20 @@ blanks_say_the_same choice calendar names before blanks others after h k =
     let (second, f) = left_of others after k in
     let behind : EachAlike own (spaced (tokens 0 (blanks ++ after))) (spaced (tokens 0 (others ++ after)))
     = subst (λ (x : List Piece). EachAlike own x (spaced (tokens 0 (others ++ after)))) (sym e)
-    (subst (λ (y : List Piece). EachAlike own (before_spaced (piece_of Blank first) (spaced (tokens 0 after))) y) (sym f)
+    (subst (λ (y : List Piece). EachAlike own (before_spaced (piece_of Blank first) (spaced (tokens 0 after))) y)
+    (sym f)
     (put_alike own (piece_of Blank first) (piece_of Blank second) (spaced (tokens 0 after)) (spaced (tokens 0 after))
     (inr (inl (refl, refl))) (each_same own (spaced (tokens 0 after))))) in
-    let whole : EachAlike own (spaced (tokens 0 (before ++ (blanks ++ after)))) (spaced (tokens 0 (before ++ (others ++ after))))
+    let whole : EachAlike own (spaced (tokens 0 (before ++ (blanks ++ after)))) (spaced (tokens 0 (before ++
+    (others ++ after))))
     = subst (λ (x : List Piece). EachAlike own (spaced x) (spaced (tokens 0 (before ++ (others ++ after)))))
     (sym (split_before before blanks after h))
     (subst (λ (y : List Piece). EachAlike own (spaced (tokens 0 before ++ tokens 0 (blanks ++ after))) (spaced y))
     (sym (split_before before others after k))
     (behind_alike own (tokens 0 before) (tokens 0 (blanks ++ after)) (tokens 0 (others ++ after)) behind)) in
     alike_texts_say_the_same choice calendar names (before ++ (blanks ++ after)) (before ++ (others ++ after))
-    (bare_alike own (spaced (tokens 0 (before ++ (blanks ++ after)))) (spaced (tokens 0 (before ++ (others ++ after)))) whole)
+    (bare_alike own (spaced (tokens 0 (before ++ (blanks ++ after)))) (spaced (tokens 0 (before ++
+    (others ++ after)))) whole)
 
 -- ---- blanks at the ends
 squeezed_say : (choice : Choice) (calendar : Calendar) (names : List Name) (a b : List ℕ) → squeezed a ≡ squeezed b

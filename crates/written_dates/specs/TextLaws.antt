@@ -12,7 +12,6 @@ use Rattle.written_dates.specs.declared.items.Number.{Number as Numeral}
 use Rattle.written_dates.specs.declared.meanings.Meaning.{Meaning}
 use Rattle.written_dates.specs.declared.meanings.Meaning.TheVariants.{Nothing}
 use Rattle.written_dates.specs.declared.meanings.Name.{Name}
-use Rattle.written_dates.specs.declared.tokens.Kind.{Kind}
 use Rattle.written_dates.specs.declared.written.Answer.{Answer}
 use Rattle.written_dates.specs.declared.written.Answer.TheVariants.{Date, Refused, RomanDate}
 use Rattle.written_dates.specs.declared.written.Choice.{Choice}
@@ -39,14 +38,14 @@ is_said (RomanDate year month mark count) = true
 is_said Refused = true
 is_said answer = false
 
--- not the text as it is is written, but a date: where dates are years, months and days, one as registers have it, or as it
--- is said, and else as it is said
+-- the text is read: a date is written for it, or nothing, but not the text as it is. Where dates are years, months and
+-- days, so is a date as registers have it
 abbrev pub is_read : Form → Choice → Calendar → List Name → List ℕ → Bool
 is_read Civil choice calendar names text = is_dated choice calendar names text
 is_read form choice calendar names text = is_said (answer choice calendar names text)
 
--- two texts say the same: the same is found in both, a date or the reason why there is none; and where one is read, so is
--- the other, and the same is written for both
+-- two texts say the same: the same is found in both, a date or the reason why there is none; and where one is read, so
+-- is the other, and the same is written for both
 pub record SayTheSame (choice : Choice) (calendar : Calendar) (names : List Name) (a b : List ℕ) : Type 0 where
   pub says : answer choice calendar names a ≡ answer choice calendar names b
   pub reads : is_read (form calendar) choice calendar names a ≡ is_read (form calendar) choice calendar names b
@@ -160,7 +159,8 @@ asks_signs (Number a ∷ Number b ∷ Number c ∷ []) = true
 asks_signs (Month m ∷ Number a ∷ Number c ∷ []) = true
 asks_signs found = false
 
--- in other texts, which are no dates as registers have them, signs and blanks part numbers and words, and say nothing more
+-- in other texts, which are no dates as registers have them, signs and blanks part numbers and words, and say nothing
+-- more: a comma, a full stop, a slash or a dash may stand there or not
 abbrev pub SignsOnlyPart : Type 0
 SignsOnlyPart =
     (choice : Choice) (calendar : Calendar) (names : List Name) (a b : List ℕ) (found : List Item)

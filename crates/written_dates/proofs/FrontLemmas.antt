@@ -76,7 +76,7 @@ not_digit false false false true e h = absurd (true≢false h)
 not_digit false false false false true h = refl
 not_digit false false false false false h = refl
 
-first_digit : (c : ℕ) (cs : List ℕ) → is_ascii_digit c ≡ false → is_digit (first c cs).0 ≡ false
+pub first_digit : (c : ℕ) (cs : List ℕ) → is_ascii_digit c ≡ false → is_digit (first c cs).0 ≡ false
 first_digit c cs h =
     none_picked is_digit refl refl (kind_of c) _ _ _ _ (not_digit _ _ _ (is_ascii_digit c) _ h)
 

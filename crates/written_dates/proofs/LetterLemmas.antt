@@ -30,10 +30,10 @@ use Rattle.written_dates.proofs.WordLemmas.{by_cases, folded-plain, folded-read,
 lower_twice : (c : ℕ) → to_ascii_lowercase (to_ascii_lowercase c) ≡ to_ascii_lowercase c
 lower_twice c = grind (arith, nat_tests)
 
-lower_small : (c : ℕ) → c < 128 → to_ascii_lowercase c < 128
+pub lower_small : (c : ℕ) → c < 128 → to_ascii_lowercase c < 128
 lower_small c h = grind (arith, nat_tests)
 
-lower_large : (c : ℕ) → 128 ≤ c → to_ascii_lowercase c ≡ c
+pub lower_large : (c : ℕ) → 128 ≤ c → to_ascii_lowercase c ≡ c
 lower_large c h = grind (arith, nat_tests)
 
 class_lower : (c : ℕ) → ccc (to_ascii_lowercase c) ≡ ccc c

@@ -24,3 +24,8 @@ pub mod MinusLemmas
 pub mod ReadLawLemmas
 pub mod WeekdayLawLemmas
 pub mod NameLawLemmas
+pub mod PieceLemmas
+pub mod AlikeLemmas
+pub mod TextLawLemmas
+pub mod CaseLemmas
+pub mod StayLemmas

@@ -68,7 +68,7 @@ low_if true c e h =
     let k : (c == 47) ≡ false = grind (arith, nat_tests) in
     absurd (true≢false (sym h ∙ not_between c a b d f g i j k))
 
-low : (c : ℕ) → is_between (kind_of c) ≡ true → c < 128
+pub low : (c : ℕ) → is_between (kind_of c) ≡ true → c < 128
 low c h = low_if (nat_le 128 c) c refl h
 
 digits_begin : (d : ℕ) (rest : List ℕ) → is_ascii_digit d ≡ true → begins_with_digit (tokens 0 (d ∷ rest)) ≡ true
@@ -77,7 +77,7 @@ digits_begin d rest h =
     let kind : (first d rest).0 ≡ Digit = ap (λ (x : Kind × ℕ). x.0) (digit_first d rest h) in
     ap begins_with_digit e ∙ ap is_digit kind
 
-plain_first : (c : ℕ) (cs : List ℕ) → c < 128 → first c cs ≡ (kind_of c, 0)
+pub plain_first : (c : ℕ) (cs : List ℕ) → c < 128 → first c cs ≡ (kind_of c, 0)
 plain_first c cs small =
     let a : (c == 194) ≡ false = grind (arith, nat_tests) in
     let b : (c == 226) ≡ false = grind (arith, nat_tests) in
@@ -144,7 +144,7 @@ third_false a b c d h = grind arith
 fourth_false : (a b c d : Bool) → c ≡ false → (a && b && c && d) ≡ false
 fourth_false a b c d h = grind arith
 
-reach : (a : ℕ) (bs : List ℕ) (c : ℕ) (cs : List ℕ) → c < 128 → (first a (bs ++ c ∷ cs)).1 ≤ length bs
+pub reach : (a : ℕ) (bs : List ℕ) (c : ℕ) (cs : List ℕ) → c < 128 → (first a (bs ++ c ∷ cs)).1 ≤ length bs
 reach a [] c cs small =
     let p : (c == 160) ≡ false = grind (arith, nat_tests) in
     let q : (c == 128) ≡ false = grind (arith, nat_tests) in

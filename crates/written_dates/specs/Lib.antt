@@ -21,4 +21,5 @@ pub mod WholeNames
 pub mod Unknown
 pub mod Laws
 pub mod ReadLaws
+pub mod TextLaws
 pub mod Stops

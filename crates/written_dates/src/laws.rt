@@ -11,6 +11,8 @@ ghost use Rattle.written_dates.specs.ReadLaws.{MonthsAreMonths, HyphensAreMinuse
 ghost use Rattle.written_dates.specs.ReadLaws.{YearsOfTheRepublic};
 ghost use Rattle.written_dates.specs.ReadLaws.{DaysStandBehindMonths, RomanNumbersAreMonths, DecadeDaysAgree};
 ghost use Rattle.written_dates.specs.ReadLaws.{MixedSignsStay, DaysToDaysStay, YearWordsNameYears};
+ghost use Rattle.written_dates.specs.TextLaws.{AlikeTextsSayTheSame, LettersOfEitherCaseSayTheSame, SynonymsSayTheSame};
+ghost use Rattle.written_dates.specs.TextLaws.{BlanksSayTheSame, OuterBlanksSayNothing, SignsOnlyPart, WrittenTextsStay};
 
 /// Year, month and day as registers have them stay, whatever the names, where the year is not last and is kept, or has a
 /// minus.
@@ -85,4 +87,25 @@ pub fn sums_stay()
 pub fn same_words()
     ensures letters { LettersAreAlike }
     ensures matching { FoldedWordsMatch }
+{}
+
+/// Texts say the same whose words are the same to a reader, or synonyms, and whose blanks may be more or fewer: letters of
+/// either case but in Roman numbers; blanks for blanks, and none in front or behind; and a word for another that means the
+/// same, where neither is a part of a longer name.
+pub fn alike_texts_say_the_same()
+    ensures alike { AlikeTextsSayTheSame }
+    ensures letters { LettersOfEitherCaseSayTheSame }
+    ensures blanks { BlanksSayTheSame }
+    ensures outer { OuterBlanksSayNothing }
+    ensures synonyms { SynonymsSayTheSame }
+{}
+
+/// But for a minus, and in a date of three numbers, or of two behind a month by name, signs part words and say nothing more.
+pub fn signs_only_part()
+    ensures { SignsOnlyPart }
+{}
+
+/// What is written for a text is written for itself, but where it is a date with a short year that is not kept.
+pub fn written_texts_stay()
+    ensures { WrittenTextsStay }
 {}

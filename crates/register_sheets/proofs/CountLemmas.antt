@@ -1,8 +1,7 @@
 -- Dates that were refused or are empty are counted record by record.
 use Rattle.std.proofs.Common.{◌≡◌, ◌≤◌, ◌<◌, ◌∙◌, ◌+◌, ◌++◌, ℕ, zero, suc, List, [], ◌∷◌, Option, None, Some, Bool}
-use Rattle.std.proofs.Common.{true, false}
-use Rattle.std.proofs.Common.{ap, append-nil, arith, cond, count_by, get_or, get_or-set_other, get_or-set_same, inl}
-use Rattle.std.proofs.Common.{inr, length, length-append, map, refl, replicate, set, sym}
+use Rattle.std.proofs.Common.{true, false, ap, append-nil, arith, cond, count_by, get_or, get_or-set_other}
+use Rattle.std.proofs.Common.{get_or-set_same, inl, inr, length, length-append, map, refl, replicate, set, sym}
 use Rattle.std.specs.Prelude.{if◌then◌else◌, slice_get}
 use Rattle.std.specs.List.{flat_map, zip}
 use Rattle.std.proofs.lemmas.Bool.Decides.{eqb_tells}

@@ -1,5 +1,5 @@
 -- What is read for a date.
-use Rattle.std.proofs.Common.{◌≡◌, ◌∙◌, [], ℕ, ℤ, Bool, List, Option, Vec, ap, cond, false, get_or, is_ok, refl, subst}
+use Rattle.std.proofs.Common.{◌≡◌, ◌∙◌, [], ℕ, ℤ, Bool, List, Option, Vec, ap, cond, false, is_ok, refl, subst}
 use Rattle.std.proofs.Common.{Err, Ok, Result, option_map, sym, true}
 use Rattle.std.specs.declared.alloc.Global.{Global}
 use Rattle.std.specs.Result.{result_ok}
@@ -23,7 +23,6 @@ use Rattle.register_sheets.specs.SheetRecords.{IsDateRead, date_seen, dated_seen
 use Rattle.register_sheets.specs.declared.choices.DateColumn.{DateColumn}
 use Rattle.register_sheets.specs.declared.choices.SheetChoice.{SheetChoice}
 use Rattle.register_sheets.specs.declared.sheet_records.ColumnDates.{ColumnDates}
-use Rattle.register_sheets.specs.declared.sheet_records.ReadStop.{ReadStop}
 
 pub edtf_there : (b : Bool) (dated : Dated) (sense : Sense) (n k : Option ℤ) → b ≡ true → sense ≡ sense_of dated.marks
     → n ≡ result_ok dated.first.row.outcome → k ≡ result_ok dated.last.row.outcome → IsEdtf sense n k dated.edtf

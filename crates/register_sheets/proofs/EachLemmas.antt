@@ -1,7 +1,6 @@
 -- Writers beside one another, each for the output at its place.
-use Rattle.std.proofs.Common.{◌≡◌, ◌≢◌, ◌≤◌, ◌<◌, ◌∙◌, ◌++◌, ◌+◌, ℕ, zero, suc, List, [], ◌∷◌, Option, Some, ap}
-use Rattle.std.proofs.Common.{arith, inl, inr, length, refl}
-use Rattle.std.proofs.Common.{set, subst, sym}
+use Rattle.std.proofs.Common.{◌≡◌, ◌≢◌, ◌≤◌, ◌<◌, ◌∙◌, ◌++◌, ◌+◌, ℕ, zero, suc, List, [], ◌∷◌, Some, ap, arith, inl}
+use Rattle.std.proofs.Common.{inr, length, refl, set, subst, sym}
 use Rattle.std.specs.Prelude.{Err, Ok, Result, slice_get}
 use Rattle.std.proofs.lemmas.Bool.Decides.{eqb_tells}
 use Rattle.std.proofs.lemmas.Option.{slice_get_within}

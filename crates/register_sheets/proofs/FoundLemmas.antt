@@ -1,7 +1,6 @@
 -- What is not known is counted date by date.
-use Rattle.std.proofs.Common.{◌≡◌, ◌≤◌, ◌<◌, ◌+◌, ◌*◌, ◌^◌, ◌∙◌, ◌++◌, ℕ, zero, suc, List, [], ◌∷◌, Option, None}
-use Rattle.std.proofs.Common.{Some, inl, inr}
-use Rattle.std.proofs.Common.{ap, append-nil, append_assoc, arith, get_or, length, map, refl, sym, take}
+use Rattle.std.proofs.Common.{◌≡◌, ◌≤◌, ◌<◌, ◌+◌, ◌*◌, ◌^◌, ◌∙◌, ◌++◌, ℕ, zero, suc, List, [], ◌∷◌, Option, None, Some}
+use Rattle.std.proofs.Common.{inl, inr, ap, append-nil, append_assoc, arith, get_or, length, map, refl, sym, take}
 use Rattle.std.specs.Prelude.{option_to_list}
 use Rattle.std.specs.List.{AllZip}
 use Rattle.std.proofs.lemmas.List.{flat_map_more, length-append, length-map, map-append, take_more}
@@ -12,8 +11,7 @@ use Rattle.register_records.specs.Lines.{line_text}
 use Rattle.register_sheets.specs.DateStops.{DateStop, NameStop, SheetDate, name_in}
 use Rattle.register_sheets.specs.Sheets.{records_text}
 use Rattle.register_sheets.specs.UnknownNames.{NameCount, all_dates, counted, dates_of, firsts, is_alike, is_other}
-use Rattle.register_sheets.specs.UnknownNames.{list_head}
-use Rattle.register_sheets.specs.UnknownNames.{name_record, name_seen, names_in}
+use Rattle.register_sheets.specs.UnknownNames.{list_head, name_record, name_seen, names_in}
 use Rattle.register_sheets.specs.UnknownViews.{HasNames, HasRoom}
 use Rattle.register_sheets.specs.declared.choices.DateColumn.{DateColumn}
 use Rattle.register_sheets.specs.declared.choices.SheetChoice.{SheetChoice}

@@ -11,8 +11,7 @@ use Rattle.csv.specs.Records.{fields_of}
 use Rattle.register_records.specs.Entries.{Fields}
 use Rattle.register_sheets.specs.HeadingViews.{NamesMore, taken_by, wanted_all}
 use Rattle.register_sheets.specs.declared.choices.DateColumn.{DateColumn}
-use Rattle.register_sheets.specs.Headings.{AreHeadings, IsHeading, is_taken, items_of, numbered}
-use Rattle.register_sheets.specs.Headings.{wanted_heading}
+use Rattle.register_sheets.specs.Headings.{AreHeadings, IsHeading, is_taken, items_of, numbered, wanted_heading}
 use Rattle.register_sheets.specs.declared.choices.AskedColumn.{AskedColumn}
 use Rattle.register_sheets.specs.declared.new_headings.NewNames.{NewNames}
 

@@ -1,14 +1,12 @@
 -- What a writer of lines holds, one line after the other.
-use Rattle.std.proofs.Common.{◌≡◌, ◌∙◌, ◌++◌, ℕ, List, [], ◌∷◌, None, Option, Some, ap, inl, inr, is_some, refl}
-use Rattle.std.proofs.Common.{subst, sym, true}
+use Rattle.std.proofs.Common.{◌≡◌, ◌∙◌, ◌++◌, ℕ, List, [], ◌∷◌, None, Option, Some, ap, inl, inr, is_some, refl, subst}
+use Rattle.std.proofs.Common.{sym, true, IsErrAnd, append-nil, append_assoc, map}
 use Rattle.std.specs.Prelude.{◌⊎◌, Err, IfErr, Ok, Result, false}
 use Rattle.std.specs.Io.KnownBytes.{Appends}
-use Rattle.std.proofs.Common.{IsErrAnd}
 use Rattle.register_sheets.specs.Produced.{Agrees, AreLines, Produced, ending_of, lacks_memory}
 use Rattle.register_sheets.specs.Sheets.{records_text}
 use Rattle.register_records.specs.Entries.{Fields}
 use Rattle.register_records.specs.declared.outputs.Output as outputs
-use Rattle.std.proofs.Common.{append-nil, append_assoc, map}
 use Rattle.std.proofs.KnownBytes.{Appends-nil}
 use Rattle.std.proofs.lemmas.List.{map-append}
 use Rattle.register_sheets.specs.LineWriters.{Gathers, Holds, Makes, Stands, Waits, WaitsBy}

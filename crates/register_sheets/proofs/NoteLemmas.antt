@@ -1,7 +1,6 @@
 -- What is noted of a sheet, record by record.
 use Rattle.std.proofs.Common.{◌≡◌, ◌≤◌, ◌<◌, ◌+◌, ◌^◌, ◌∙◌, ◌++◌, ℕ, zero, suc, List, [], ◌∷◌, Option, Some, Bool}
-use Rattle.std.proofs.Common.{false, true}
-use Rattle.std.proofs.Common.{ap, arith, cond, get_or, length, map, refl, subst, sym}
+use Rattle.std.proofs.Common.{false, true, ap, arith, cond, get_or, length, map, refl, subst, sym}
 use Rattle.std.specs.Prelude.{IfErr, IfOk, Result, if◌then◌else◌, option_to_list, slice_get}
 use Rattle.std.specs.List.{AllZip}
 use Rattle.std.proofs.Math.Seq.{take-nil}
@@ -14,21 +13,18 @@ use Rattle.register_sheets.specs.DateCounts.{AreSheetCounts}
 use Rattle.register_sheets.specs.DateStops.{DateStop, IsStopOf, NameStop, SheetDate, is_for, name_in}
 use Rattle.register_sheets.specs.Converted.{below}
 use Rattle.register_sheets.specs.SheetNotes.{HasFound, HasNotes, HasSpace, HasSpaceFor, unknown_of, unless_lost}
-use Rattle.register_sheets.specs.SheetRecords.{IsDateRead, RecordRead, date_seen}
-use Rattle.register_sheets.specs.SheetRecords.{fields_read, rows_read}
+use Rattle.register_sheets.specs.SheetRecords.{IsDateRead, RecordRead, date_seen, fields_read, rows_read}
 use Rattle.register_sheets.specs.UnknownNames.{IsFound, IsShort, IsUnknown, all_dates, counted, dates_of, name_seen}
 use Rattle.register_sheets.specs.UnknownNames.{names_in}
-use Rattle.register_sheets.specs.UnknownViews.{CountsDate, HasNames, HasPlace, HasRoom}
+use Rattle.register_sheets.specs.UnknownViews.{CountsDate, HasNames, HasPlace, HasRoom, NoneUnread}
 use Rattle.register_sheets.specs.declared.choices.DateColumn.{DateColumn}
 use Rattle.register_sheets.specs.declared.choices.SheetChoice.{SheetChoice}
-use Rattle.register_sheets.specs.declared.date_counts.SheetCounts.{SheetCounts}
 use Rattle.register_sheets.specs.declared.sheet_notes.Found.{Found}
 use Rattle.register_sheets.specs.declared.sheet_notes.SheetNotes.{SheetNotes}
 use Rattle.register_sheets.specs.declared.sheet_records.ColumnDates.{ColumnDates}
 use Rattle.register_sheets.specs.declared.sheet_ends.SheetCause.{SheetCause}
 use Rattle.register_sheets.specs.declared.sheet_ends.SheetCause.TheVariants.{NoMemory}
 use Rattle.register_sheets.specs.declared.stopped_dates.Unknown.{Unknown}
-use Rattle.register_sheets.specs.UnknownViews.{NoneUnread}
 use Rattle.std.proofs.lemmas.Option.{slice_get-get_or}
 use Rattle.register_sheets.proofs.CountLemmas.{counts_more, one_found, seen_slot, up_to}
 use Rattle.register_sheets.proofs.FoundLemmas.{dates_few, dates_more, has_room, names_both, names_few, names_one}

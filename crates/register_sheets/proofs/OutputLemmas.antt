@@ -10,7 +10,7 @@ use Rattle.std.proofs.lemmas.Option.{slice_get_within}
 use Rattle.std.proofs.KnownBytes.{Appends-nil}
 use Rattle.register_records.specs.Entries.{Fields, record_limit}
 use Rattle.register_records.specs.declared.outputs.Output as outputs
-use Rattle.register_sheets.specs.Choices.{id_text, register_record}
+use Rattle.register_sheets.specs.Choices.{register_record}
 use Rattle.register_sheets.specs.DateEnds.{Dated, IsDated, as_text, one_end}
 use Rattle.register_sheets.specs.Converted.{AreFirstRows, AreRowsFrom, below, body_records, sheet_records}
 use Rattle.register_sheets.specs.SheetOutputs.{AreMadeRegisters, IsMadeRegister, IsMadeSheet, OfColumn, registers_by}
@@ -25,8 +25,7 @@ use Rattle.register_sheets.specs.SheetReadings.{AreRegisterWriters, HasReadSheet
 use Rattle.register_sheets.specs.DateCounts.{AreSheetCounts}
 use Rattle.register_sheets.specs.UnknownNames.{AreUnread, all_dates}
 use Rattle.register_sheets.specs.LineWriters.{Finishes, FinishesEach, Gathers, GathersEach, Waits}
-use Rattle.register_sheets.specs.SheetRecords.{AreRecordsRead, DateRead, IsDateRead, RecordRead}
-use Rattle.register_sheets.specs.SheetRecords.{fields_read, rows_read}
+use Rattle.register_sheets.specs.SheetRecords.{AreRecordsRead, DateRead, IsDateRead, RecordRead, fields_read, rows_read}
 use Rattle.register_sheets.specs.Sheets.{records_text, widest}
 use Rattle.register_sheets.specs.declared.choices.DateColumn.{DateColumn}
 use Rattle.register_sheets.specs.declared.choices.End.{End}

@@ -8,11 +8,10 @@ use Rattle.register_sheets.specs.SheetRecords.{AreRecordsRead, IsRecordRead, Dat
 use Rattle.register_sheets.specs.SheetRecords.{dated_seen, fields_read}
 use Rattle.register_sheets.specs.declared.sheet_records.ColumnDates.{ColumnDates}
 use Rattle.register_sheets.proofs.ListLemmas.{one_taken}
-use Rattle.std.proofs.lemmas.List.{take_all}
+use Rattle.std.proofs.lemmas.List.{take_all, map-append, take-map, take_more_set}
 use Rattle.csv.specs.Reading.{took_first}
 use Rattle.csv.specs.declared.reader.Reader.{Reader}
 use Rattle.register_sheets.specs.Reading.{IsBegun, IsReading}
-use Rattle.std.proofs.lemmas.List.{map-append, take-map, take_more_set}
 
 -- one more is set
 pub set_more : {X Y : Type 0} (f : X → Y) (xs : List X) (i : ℕ) (x : X) → i < length xs

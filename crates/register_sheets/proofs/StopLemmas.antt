@@ -16,8 +16,7 @@ use Rattle.std.proofs.lemmas.List.Sums.{sum_by-cons, sum_by_push}
 use Rattle.written_dates.specs.Calendars.{place}
 use Rattle.written_dates.proofs.WordLemmas.{same_word_equiv}
 use Rattle.register_sheets.specs.DateStops.{NameStop}
-use Rattle.register_sheets.specs.UnknownNames.{AreNames, NameCount, counted, firsts, is_alike, is_other}
-use Rattle.register_sheets.specs.UnknownNames.{name_seen}
+use Rattle.register_sheets.specs.UnknownNames.{AreNames, NameCount, counted, firsts, is_alike, is_other, name_seen}
 use Rattle.register_sheets.specs.UnknownViews.{named}
 use Rattle.register_sheets.specs.declared.stopped_names.UnknownName.{UnknownName}
 

@@ -1,7 +1,6 @@
 -- Records that are noted, and whose lines are made, one after the other.
 use Rattle.std.proofs.Common.{◌≡◌, ◌∙◌, ◌++◌, ◌+◌, ℕ, zero, suc, List, [], ◌∷◌, Some, ap, append-nil, append_assoc}
-use Rattle.std.proofs.Common.{arith}
-use Rattle.std.proofs.Common.{inl, inr, length, length-append, refl, subst, sym}
+use Rattle.std.proofs.Common.{arith, inl, inr, length, length-append, refl, subst, sym}
 use Rattle.std.specs.Prelude.{◌⊎◌, slice_get}
 use Rattle.register_records.specs.Entries.{Fields}
 use Rattle.register_records.specs.declared.outputs.Output as outputs

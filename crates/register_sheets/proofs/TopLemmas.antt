@@ -1,7 +1,6 @@
 -- What stands in a sheet down to its names.
 use Rattle.std.proofs.Common.{◌≡◌, ◌≤◌, ◌<◌, ◌∙◌, ◌++◌, ◌+◌, ℕ, List, [], ◌∷◌, ap, append-nil, append_assoc, drop}
-use Rattle.std.proofs.Common.{get_or}
-use Rattle.std.proofs.Common.{length, map, refl, sym, take}
+use Rattle.std.proofs.Common.{get_or, length, map, refl, sym, take}
 use Rattle.std.proofs.lemmas.List.{take-append-drop, take_more}
 use Rattle.register_records.specs.Entries.{Fields}
 use Rattle.register_sheets.specs.Sending.{top_records}

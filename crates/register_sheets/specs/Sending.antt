@@ -1,12 +1,10 @@
 -- How far records are written to an output. No public contract cites this file.
-use Rattle.std.specs.Prelude.{◌≡◌, ◌⊎◌, ◌≤◌, ◌<◌, ◌++◌, ℕ, Bool, true, false, List, [], Option, Result, Ok, Err}
-use Rattle.std.specs.Prelude.{IfErr, IfOk, OnOk}
-use Rattle.std.specs.Prelude.{◌∷◌, None, Some, drop, get_or, length, map, take}
+use Rattle.std.specs.Prelude.{◌≡◌, ◌⊎◌, ◌++◌, ℕ, Bool, true, List, [], Option, Result, IfErr, OnOk, ◌∷◌, drop, get_or}
+use Rattle.std.specs.Prelude.{map, take}
 use Rattle.std.specs.Io.KnownBytes.{Appends}
-use Rattle.register_records.specs.Entries.{Fields, record_limit}
+use Rattle.register_records.specs.Entries.{Fields}
 use Rattle.register_sheets.specs.LineViews.{Begins}
 use Rattle.register_sheets.specs.Sheets.{filled, records_text}
-use Rattle.register_sheets.specs.declared.choices.DateColumn.{DateColumn}
 use Rattle.register_sheets.specs.declared.choices.SheetChoice.{SheetChoice}
 use Rattle.register_sheets.specs.declared.lines.SheetLines.{SheetLines}
 use Rattle.register_sheets.specs.declared.sheet_ends.SheetCause.{SheetCause}

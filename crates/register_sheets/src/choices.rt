@@ -1,13 +1,12 @@
 //! What is chosen of a sheet.
 
-ghost use Rattle.std.specs.Prelude.{◌≡◌, ◌≢◌, ◌≤◌, ◌<◌, ◌↔◌, ◌+◌, ◌++◌, ◌∷◌, [], true, false, count_by, length, nat_lt};
-ghost use Rattle.std.specs.Prelude.{option_to_list, take};
-ghost use Rattle.std.specs.Prelude.{Err, IfErr, IfOk};
-ghost use Rattle.register_records.specs.SetupRules.{NamesTwice, is_delimiter};
+ghost use Rattle.std.specs.Prelude.{◌≡◌, ◌≢◌, ◌≤◌, ◌<◌, ◌↔◌, ◌+◌, [], true, false, count_by, length, nat_lt};
+ghost use Rattle.std.specs.Prelude.{option_to_list, take, Err, IfErr, IfOk};
+ghost use Rattle.register_records.specs.SetupRules.{is_delimiter};
 ghost use Rattle.register_records.specs.Views.{targets_of};
 ghost use Rattle.register_sheets.specs.Choices.{AsksOnce, HasDates, added, added_each as added_spec, asked_targets};
 ghost use Rattle.register_sheets.specs.Choices.{asks_twice, column_limit};
-ghost use Rattle.register_sheets.specs.Choices.{date_limit, is_church, is_day_number, is_weekday, target_in};
+ghost use Rattle.register_sheets.specs.Choices.{is_church, is_day_number, is_weekday, target_in};
 ghost use Rattle.register_sheets.specs.ChoiceViews.{HasFault};
 
 use date_texts::{MAX_TARGETS, Target};

@@ -1,6 +1,5 @@
-use Rattle.std.proofs.Common.{◌≡◌, ◌≤◌, ◌<◌, ◌+◌, ◌∙◌, ◌++◌, [], ◌∷◌, List, Some, ap, arith, get_or, length}
-use Rattle.std.proofs.Common.{length-append}
-use Rattle.std.proofs.Common.{length-set, refl, sym, ℕ}
+use Rattle.std.proofs.Common.{◌≡◌, ◌<◌, ◌+◌, ◌++◌, [], ◌∷◌, List, Some, arith, get_or, length, length-append}
+use Rattle.std.proofs.Common.{length-set, refl, ℕ}
 use Rattle.std.specs.Prelude.{Result, slice_get}
 use Rattle.std.proofs.lemmas.Option.{slice_get-get_or}
 use Rattle.register_sheets.specs.LineWriters.{Finishes}

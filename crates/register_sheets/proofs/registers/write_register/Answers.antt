@@ -1,4 +1,4 @@
-use Rattle.std.proofs.Common.{◌≡◌, ◌∙◌, List, Some, ap, subst, sym}
+use Rattle.std.proofs.Common.{◌∙◌, List, ap, subst}
 use Rattle.std.specs.Prelude.{slice_get}
 use Rattle.register_records.specs.Entries.{Fields, text_records}
 use Rattle.register_sheets.specs.SheetReadings.{HasReadSheet}

@@ -1,4 +1,4 @@
-use Rattle.std.proofs.Common.{◌≡◌, [], List, refl, subst}
+use Rattle.std.proofs.Common.{[], List, refl, subst}
 use Rattle.register_records.specs.Entries.{Fields}
 use Rattle.register_sheets.specs.Reading.{left_of}
 use Rattle.register_sheets.specs.SheetReaders.{given_of}

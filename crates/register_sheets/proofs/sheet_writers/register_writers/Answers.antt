@@ -1,5 +1,4 @@
 use Rattle.std.proofs.Common.{◌∙◌}
-use Rattle.register_sheets.specs.SheetReadings.{AreRegisterWriters}
 use Rattle.register_sheets.proofs.TakeLemmas.{no_writers, one_writer_more}
 use Rattle.register_sheets.proofs.sheet_writers.register_writers.Goals as goal
 

@@ -5,9 +5,8 @@ use Rattle.register_sheets.specs.LineWriters.{Stands}
 use Rattle.register_sheets.specs.Produced.{AreLines, Produced, ending_of}
 use Rattle.register_sheets.specs.declared.sheet_ends.SheetCause.{SheetCause}
 use Rattle.register_sheets.specs.declared.sheet_ends.SheetCause.TheVariants as cause
-use Rattle.register_sheets.proofs.LineWriterLemmas.{agrees_fault, agrees_read, agrees_stopped}
-use Rattle.register_sheets.proofs.LineWriterLemmas.{memory_is, no_other, produced_fault, produced_passed, produced_sent}
-use Rattle.register_sheets.proofs.LineWriterLemmas.{stands_stopped}
+use Rattle.register_sheets.proofs.LineWriterLemmas.{agrees_fault, agrees_read, agrees_stopped, memory_is, no_other}
+use Rattle.register_sheets.proofs.LineWriterLemmas.{produced_fault, produced_passed, produced_sent, stands_stopped}
 use Rattle.register_sheets.proofs.SendingLemmas.{front_made}
 use Rattle.register_sheets.proofs.line_writers.LineWriter.finish.Goals as goal
 

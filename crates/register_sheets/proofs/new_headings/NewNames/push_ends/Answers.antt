@@ -1,4 +1,4 @@
-use Rattle.std.proofs.Common.{◌++◌, codes, map, refl}
+use Rattle.std.proofs.Common.{codes, map, refl}
 use Rattle.std.proofs.lemmas.Result.{on_ok_weaker}
 use Rattle.register_sheets.specs.Headings.{asked_behind}
 use Rattle.register_sheets.proofs.HeadingLemmas.{then_all}

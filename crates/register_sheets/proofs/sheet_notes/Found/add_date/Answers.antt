@@ -1,6 +1,5 @@
-use Rattle.std.proofs.Common.{◌≡◌, Bool, refl, rules, subst}
+use Rattle.std.proofs.Common.{rules}
 use Rattle.csv.specs.Records.{fields_of}
-use Rattle.register_sheets.specs.Choices.{called_for}
 use Rattle.register_sheets.specs.DateEnds.{as_text}
 use Rattle.register_sheets.specs.DateStops.{IsStopOf}
 use Rattle.register_sheets.specs.SheetRecords.{date_seen}

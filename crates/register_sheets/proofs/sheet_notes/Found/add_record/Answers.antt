@@ -1,12 +1,8 @@
-use Rattle.std.proofs.Common.{None, ◌≡◌, ◌<◌, ◌∙◌, ◌++◌, ℕ, Some, append-nil, arith, get_or, length, length-append}
-use Rattle.std.proofs.Common.{length-take, List, map, refl}
-use Rattle.std.proofs.Common.{subst, sym, take, take_all}
-use Rattle.std.specs.Prelude.{slice_get}
+use Rattle.std.proofs.Common.{None, ◌≡◌, ◌++◌, append-nil, arith, length-append, length-take, List, map, subst, sym}
+use Rattle.std.proofs.Common.{take, take_all}
 use Rattle.std.proofs.lemmas.List.{length-map}
-use Rattle.std.proofs.lemmas.Option.{slice_get-get_or}
 use Rattle.csv.specs.Records.{fields_of}
 use Rattle.register_sheets.specs.SheetNotes.{HasFound}
-use Rattle.register_sheets.specs.SheetRecords.{IsDateRead, date_seen}
 use Rattle.register_sheets.specs.DateStops.{SheetDate}
 use Rattle.register_sheets.specs.declared.choices.CalendarField.TheVariants as calendar
 use Rattle.register_sheets.specs.declared.choices.DateColumn.{DateColumn}

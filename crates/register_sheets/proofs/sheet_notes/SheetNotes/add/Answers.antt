@@ -1,7 +1,5 @@
-use Rattle.std.proofs.Common.{◌∙◌, List, ap, length, map, refl, subst, sym}
+use Rattle.std.proofs.Common.{◌∙◌, ap, length, refl}
 use Rattle.csv.specs.Records.{fields_of}
-use Rattle.register_records.specs.Outcomes.{TableRow}
-use Rattle.register_sheets.specs.CountViews.{CountsRecord}
 use Rattle.register_sheets.specs.SheetRecords.{record_read}
 use Rattle.register_sheets.proofs.NoteLemmas.{columns_count, notes_more, notes_space, notes_up_to}
 use Rattle.register_sheets.proofs.ReadingLemmas.{rows_in}

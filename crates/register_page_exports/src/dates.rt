@@ -7,8 +7,9 @@ ghost use Rattle.register_records.specs.Entries.{text_records};
 ghost use Rattle.register_sheets.specs.NameLists.{IsListOf};
 ghost use Rattle.register_sheets.specs.UnknownViews.{if_stop};
 ghost use Rattle.register_sheets.specs.declared.name_lists.NameLine.{NameLine};
-ghost use Rattle.register_page_exports.specs.DateReports.{IsEnding, IsStopped, choice_by, blamed as blamed_spec};
-ghost use Rattle.register_page_exports.specs.DateReports.{plain_date as plain_spec, stop_number as number_spec};
+ghost use Rattle.register_page_exports.specs.DateReports.{IsEnding, IsStopped, choice_by};
+ghost use Rattle.register_page_exports.specs.DateReports.{blamed as blamed_spec, plain_date as plain_spec};
+ghost use Rattle.register_page_exports.specs.DateReports.{stop_number as number_spec};
 ghost use Rattle.register_page_exports.specs.SheetReports.{PutsText};
 
 use date_texts::Calendar;

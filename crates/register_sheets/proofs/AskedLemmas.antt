@@ -1,20 +1,18 @@
 -- The columns asked, one after the other.
 use Rattle.std.proofs.Common.{◌≡◌, ◌≤◌, ◌<◌, ◌∙◌, ◌++◌, ◌+◌, ℕ, List, [], ◌∷◌, Option, Some, None, add-one, ap}
 use Rattle.std.proofs.Common.{append-nil, append_assoc, arith, drop, drop-cons, get_or, length, refl, set, sym, take}
-use Rattle.std.proofs.Common.{codes, map, suc, true, zero}
-use Rattle.std.specs.List.{flat_map, list_all}
-use Rattle.std.specs.Prelude.{option_to_list}
+use Rattle.std.proofs.Common.{codes, map, suc, true, zero, option_to_list}
+use Rattle.register_sheets.proofs.Common.{flat_map, Fields, asked_targets, AskedColumn, DayNumber}
+use Rattle.std.specs.List.{list_all}
 use Rattle.std.proofs.lemmas.List.{take_more, take_more_set}
 use Rattle.std.proofs.lemmas.List.Concat.{flat_map-append}
 use Rattle.register_records.specs.Columns.{Column, cell_columns, kind_columns, tail_order}
-use Rattle.register_records.specs.Entries.{Fields}
 use Rattle.register_records.specs.Outcomes.{TableRow}
 use Rattle.date_texts.specs.declared.target.Target.{Target}
 use Rattle.register_sheets.specs.AskedViews.{day_columns, has_cells}
-use Rattle.register_sheets.specs.Choices.{asked_targets, target_in}
+use Rattle.register_sheets.specs.Choices.{target_in}
 use Rattle.register_sheets.specs.Converted.{asked_fields, asked_text, asked_texts, cells_taken, shown_in}
-use Rattle.register_sheets.specs.declared.choices.AskedColumn.{AskedColumn}
-use Rattle.register_sheets.specs.declared.choices.AskedColumn.TheVariants.{Cells, Church, DayNumber, Weekday}
+use Rattle.register_sheets.specs.declared.choices.AskedColumn.TheVariants.{Cells, Church, Weekday}
 use Rattle.register_sheets.proofs.RowLemmas.{drop_both, same_head}
 
 pub asked_step : (columns : List AskedColumn) (i : ℕ) (d : AskedColumn) (row : TableRow) (cells : List (List ℕ))

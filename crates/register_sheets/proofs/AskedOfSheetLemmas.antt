@@ -1,12 +1,10 @@
 -- When what is asked of a sheet is a choice, and which.
-use Rattle.std.proofs.Common.{◌≡◌, ◌≢◌, ◌↔◌, List, ℕ, false, length, map, refl, subst, sym, true}
-use Rattle.std.specs.Prelude.{Err, IfErr, IfOk, Ok, Result, nat_lt}
-use Rattle.register_records.specs.Entries.{Fields}
+use Rattle.std.proofs.Common.{◌≡◌, ◌≢◌, ◌↔◌, List, ℕ, false, length, map, refl, subst, sym, true, Err, IfErr, IfOk, Ok}
+use Rattle.std.proofs.Common.{Result, nat_lt}
+use Rattle.register_sheets.proofs.Common.{Fields, CalendarMeaning, Name, SheetChoice}
 use Rattle.register_records.specs.SetupRules.{is_delimiter}
 use Rattle.written_dates.specs.Fields.{bare_name, entries}
-use Rattle.written_dates.specs.declared.fields.CalendarMeaning.{CalendarMeaning}
 use Rattle.written_dates.specs.declared.fields.CalendarName.{CalendarName}
-use Rattle.written_dates.specs.declared.meanings.Name.{Name}
 use Rattle.register_sheets.specs.AskedOfSheets.{HasHeadings, IsChoice, IsChoiceBy, IsChoiceOf, IsListedChoice}
 use Rattle.register_sheets.specs.AskedOfSheets.{SheetAsked, asked_in}
 use Rattle.register_sheets.specs.Choices.{AsksOnce, HasDates, added, column_limit}
@@ -14,7 +12,6 @@ use Rattle.register_sheets.specs.NameLists.{calendar_names_in, calendar_seen, na
 use Rattle.register_sheets.specs.declared.asked_of_sheets.AskedByNames.{AskedByNames}
 use Rattle.register_sheets.specs.declared.choices.ChoiceFault.{ChoiceFault}
 use Rattle.register_sheets.specs.declared.choices.ChoiceFault.TheVariants as fault
-use Rattle.register_sheets.specs.declared.choices.SheetChoice.{SheetChoice}
 use Rattle.register_sheets.specs.declared.choices.SheetSetup.{SheetSetup}
 use Rattle.register_sheets.specs.declared.name_lists.NameLine.{NameLine}
 

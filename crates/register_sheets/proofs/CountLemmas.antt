@@ -2,20 +2,18 @@
 use Rattle.std.proofs.Common.{◌≡◌, ◌≤◌, ◌<◌, ◌∙◌, ◌+◌, ◌++◌, ℕ, zero, suc, List, [], ◌∷◌, Option, None, Some, Bool}
 use Rattle.std.proofs.Common.{true, false, ap, append-nil, arith, cond, count_by, get_or, get_or-set_other}
 use Rattle.std.proofs.Common.{get_or-set_same, inl, inr, length, length-append, map, refl, replicate, set, sym}
-use Rattle.std.specs.Prelude.{if◌then◌else◌, slice_get}
-use Rattle.std.specs.List.{flat_map, zip}
+use Rattle.std.proofs.Common.{if◌then◌else◌, slice_get}
+use Rattle.register_sheets.proofs.Common.{flat_map, Refusal, Fields, Dated, CountsDates, AreSheetCounts, no_counts}
+use Rattle.register_sheets.proofs.Common.{DateColumn}
+use Rattle.std.specs.List.{zip}
 use Rattle.std.proofs.lemmas.Bool.Decides.{eqb_tells}
 use Rattle.std.proofs.lemmas.List.Concat.{flat_map-append}
 use Rattle.std.proofs.lemmas.List.Sums.{count_by-le-length, sum_by-append}
-use Rattle.date_texts.specs.declared.refusal.Refusal.{Refusal}
 use Rattle.date_texts.specs.declared.refusal.Refusal.TheVariants as refusals
-use Rattle.register_records.specs.Entries.{Fields}
-use Rattle.register_sheets.specs.DateEnds.{Dated}
 use Rattle.register_records.specs.RefusalCounts.{count_of}
-use Rattle.register_sheets.specs.CountViews.{AreUpTo, CountsDates, CountsRecord}
-use Rattle.register_sheets.specs.DateCounts.{AreDateCounts, AreSheetCounts, DateRow, date_at, date_of, dates_at}
-use Rattle.register_sheets.specs.DateCounts.{is_blank_record, is_empty, is_refused, is_refused_with, is_span, no_counts}
-use Rattle.register_sheets.specs.declared.choices.DateColumn.{DateColumn}
+use Rattle.register_sheets.specs.CountViews.{AreUpTo, CountsRecord}
+use Rattle.register_sheets.specs.DateCounts.{AreDateCounts, DateRow, date_at, date_of, dates_at, is_blank_record}
+use Rattle.register_sheets.specs.DateCounts.{is_empty, is_refused, is_refused_with, is_span}
 use Rattle.register_sheets.specs.declared.date_counts.DateCounts.{DateCounts}
 use Rattle.register_sheets.specs.declared.date_counts.SheetCounts.{SheetCounts}
 

@@ -1,37 +1,19 @@
 -- What is read for a date.
-use Rattle.std.proofs.Common.{◌≡◌, ◌∙◌, [], ℕ, ℤ, Bool, List, Option, Vec, ap, cond, false, is_ok, refl, subst}
-use Rattle.std.proofs.Common.{Err, Ok, Result, option_map, sym, true}
+use Rattle.std.proofs.Common.{◌≡◌, ◌∙◌, [], ℕ, ℤ, Bool, List, Option, Vec, ap, cond, false, is_ok, refl, subst, Err, Ok}
+use Rattle.std.proofs.Common.{Result, option_map, sym, true}
+use Rattle.register_sheets.proofs.Common.{Refusal, Fields, calendar_of, CalendarMeaning, asked_targets, calendar_for}
+use Rattle.register_sheets.proofs.Common.{id_text, meaning_for, AreEndsIn, DatedEnd, as_text, DateStop, IsStopBy}
+use Rattle.register_sheets.proofs.Common.{IsDateRead, date_seen, dated_seen, DateColumn, SheetChoice, ColumnDates}
 use Rattle.std.specs.declared.alloc.Global.{Global}
-use Rattle.std.specs.Result.{result_ok}
 use Rattle.std.proofs.lemmas.Bool.Decides.{Decides-int_eq}
-use Rattle.edtf_texts.specs.Edtf.{IsEdtf}
-use Rattle.edtf_texts.specs.declared.edtf.Sense.{Sense}
 use Rattle.date_spans.specs.declared.spans.Marks.{Marks}
-use Rattle.date_texts.specs.declared.refusal.Refusal.{Refusal}
-use Rattle.register_records.specs.Entries.{Fields}
 use Rattle.register_records.specs.Outcomes.{IsRowOf}
-use Rattle.written_dates.specs.Fields.{calendar_of}
-use Rattle.written_dates.specs.declared.fields.CalendarMeaning.{CalendarMeaning}
 use Rattle.register_sheets.specs.CalendarChanges.{EndText}
-use Rattle.register_sheets.specs.Choices.{asked_targets, calendar_for, called_for, date_text, id_text, meaning_for}
-use Rattle.register_sheets.specs.DateEnds.{AreEndsIn, Dated, DatedEnd, IsEdtfIf, IsEdtfOf, as_text}
-use Rattle.register_sheets.specs.DateEnds.{is_failed, is_open, sense_of, telling}
+use Rattle.register_sheets.specs.Choices.{called_for, date_text}
+use Rattle.register_sheets.specs.DateEnds.{IsEdtfOf, is_failed, is_open, telling}
 use Rattle.register_sheets.specs.DateCounts.{is_one_day}
-use Rattle.register_sheets.specs.DateStops.{DateStop, IsStopBy}
 use Rattle.register_sheets.specs.DateViews.{HasRows, end_entry}
-use Rattle.register_sheets.specs.SheetRecords.{IsDateRead, date_seen, dated_seen, stop_read}
-use Rattle.register_sheets.specs.declared.choices.DateColumn.{DateColumn}
-use Rattle.register_sheets.specs.declared.choices.SheetChoice.{SheetChoice}
-use Rattle.register_sheets.specs.declared.sheet_records.ColumnDates.{ColumnDates}
-
-pub edtf_there : (b : Bool) (dated : Dated) (sense : Sense) (n k : Option ℤ) → b ≡ true → sense ≡ sense_of dated.marks
-    → n ≡ result_ok dated.first.row.outcome → k ≡ result_ok dated.last.row.outcome → IsEdtf sense n k dated.edtf
-    → IsEdtfIf b dated
-edtf_there b dated sense n k is same first last h =
-    subst (λ (there : Bool). IsEdtfIf there dated) (sym is)
-    (subst (λ (m : Option ℤ). IsEdtf (sense_of dated.marks) (result_ok dated.first.row.outcome) m dated.edtf) last
-    (subst (λ (m : Option ℤ). IsEdtf (sense_of dated.marks) m k dated.edtf) first
-    (subst (λ (s : Sense). IsEdtf s n k dated.edtf) same h)))
+use Rattle.register_sheets.specs.SheetRecords.{stop_read}
 
 -- one end that is both tells for itself, and is one day where it has one
 told_by : (failed open_end : Bool) (end : DatedEnd)

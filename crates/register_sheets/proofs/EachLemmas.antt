@@ -1,17 +1,11 @@
 -- Writers beside one another, each for the output at its place.
 use Rattle.std.proofs.Common.{◌≡◌, ◌≢◌, ◌≤◌, ◌<◌, ◌∙◌, ◌++◌, ◌+◌, ℕ, zero, suc, List, [], ◌∷◌, Some, ap, arith, inl}
-use Rattle.std.proofs.Common.{inr, length, refl, set, subst, sym}
-use Rattle.std.specs.Prelude.{Err, Ok, Result, slice_get}
+use Rattle.std.proofs.Common.{inr, length, refl, set, subst, sym, Err, Ok, Result, slice_get}
+use Rattle.register_sheets.proofs.Common.{Fields, Gathers, first_fault, RecordRead, SheetCause, SheetChoice, LineWriter}
 use Rattle.std.proofs.lemmas.Bool.Decides.{eqb_tells}
 use Rattle.std.proofs.lemmas.Option.{slice_get_within}
-use Rattle.register_records.specs.Entries.{Fields}
 use Rattle.register_records.specs.declared.outputs.Output as outputs
-use Rattle.register_sheets.specs.LineWriters.{Each, Gathers, GathersEach}
-use Rattle.register_sheets.specs.Produced.{first_fault}
-use Rattle.register_sheets.specs.SheetRecords.{RecordRead}
-use Rattle.register_sheets.specs.declared.sheet_ends.SheetCause.{SheetCause}
-use Rattle.register_sheets.specs.declared.choices.SheetChoice.{SheetChoice}
-use Rattle.register_sheets.specs.declared.line_writers.LineWriter.{LineWriter}
+use Rattle.register_sheets.specs.LineWriters.{Each, GathersEach}
 use Rattle.register_sheets.proofs.CountLemmas.{one_found}
 use Rattle.register_sheets.proofs.LineWriterLemmas.{gathers_more, gathers_none}
 

@@ -1,34 +1,29 @@
 -- What is noted of a sheet, record by record.
 use Rattle.std.proofs.Common.{◌≡◌, ◌≤◌, ◌<◌, ◌+◌, ◌^◌, ◌∙◌, ◌++◌, ℕ, zero, suc, List, [], ◌∷◌, Option, Some, Bool}
-use Rattle.std.proofs.Common.{false, true, ap, arith, cond, get_or, length, map, refl, subst, sym}
-use Rattle.std.specs.Prelude.{IfErr, IfOk, Result, if◌then◌else◌, option_to_list, slice_get}
-use Rattle.std.specs.List.{AllZip}
+use Rattle.std.proofs.Common.{false, true, ap, arith, cond, get_or, length, map, refl, subst, sym, IfErr, IfOk, Result}
+use Rattle.std.proofs.Common.{if◌then◌else◌, option_to_list, slice_get}
+use Rattle.register_sheets.proofs.Common.{AllZip, Fields, record_limit, Dated, AreSheetCounts, DateStop, NameStop}
+use Rattle.register_sheets.proofs.Common.{SheetDate, below, HasFound, HasNotes, IsDateRead, RecordRead, date_seen}
+use Rattle.register_sheets.proofs.Common.{fields_read, all_dates, name_seen, DateColumn, SheetChoice, ColumnDates}
+use Rattle.register_sheets.proofs.Common.{SheetCause}
 use Rattle.std.proofs.Math.Seq.{take-nil}
 use Rattle.std.proofs.lemmas.List.{length-append, length-map, map-append}
 use Rattle.std.proofs.lemmas.List.Sums.{count_by-le-length, sum_by_push}
-use Rattle.register_records.specs.Entries.{Fields, record_limit}
-use Rattle.register_sheets.specs.DateEnds.{Dated}
 use Rattle.register_sheets.specs.CountViews.{AreUpTo, CountsRecord}
-use Rattle.register_sheets.specs.DateCounts.{AreSheetCounts}
-use Rattle.register_sheets.specs.DateStops.{DateStop, IsStopOf, NameStop, SheetDate, is_for, name_in}
-use Rattle.register_sheets.specs.Converted.{below}
-use Rattle.register_sheets.specs.SheetNotes.{HasFound, HasNotes, HasSpace, HasSpaceFor, unknown_of, unless_lost}
-use Rattle.register_sheets.specs.SheetRecords.{IsDateRead, RecordRead, date_seen, fields_read, rows_read}
-use Rattle.register_sheets.specs.UnknownNames.{IsFound, IsShort, IsUnknown, all_dates, counted, dates_of, name_seen}
-use Rattle.register_sheets.specs.UnknownNames.{names_in}
+use Rattle.register_sheets.specs.DateStops.{IsStopOf, is_for, name_in}
+use Rattle.register_sheets.specs.SheetNotes.{HasSpace, HasSpaceFor, unknown_of, unless_lost}
+use Rattle.register_sheets.specs.SheetRecords.{rows_read}
+use Rattle.register_sheets.specs.UnknownNames.{IsFound, IsShort, IsUnknown, counted, dates_of, names_in}
 use Rattle.register_sheets.specs.UnknownViews.{CountsDate, HasNames, HasPlace, HasRoom, NoneUnread}
-use Rattle.register_sheets.specs.declared.choices.DateColumn.{DateColumn}
-use Rattle.register_sheets.specs.declared.choices.SheetChoice.{SheetChoice}
 use Rattle.register_sheets.specs.declared.sheet_notes.Found.{Found}
 use Rattle.register_sheets.specs.declared.sheet_notes.SheetNotes.{SheetNotes}
-use Rattle.register_sheets.specs.declared.sheet_records.ColumnDates.{ColumnDates}
-use Rattle.register_sheets.specs.declared.sheet_ends.SheetCause.{SheetCause}
 use Rattle.register_sheets.specs.declared.sheet_ends.SheetCause.TheVariants.{NoMemory}
 use Rattle.register_sheets.specs.declared.stopped_dates.Unknown.{Unknown}
 use Rattle.std.proofs.lemmas.Option.{slice_get-get_or}
 use Rattle.register_sheets.proofs.CountLemmas.{counts_more, one_found, seen_slot, up_to}
 use Rattle.register_sheets.proofs.FoundLemmas.{dates_few, dates_more, has_room, names_both, names_few, names_one}
-use Rattle.register_sheets.proofs.FoundLemmas.{zip_both, zip_length}
+use Rattle.register_sheets.proofs.FoundLemmas.{zip_both}
+use Rattle.std.proofs.lemmas.Slice.Zip.{AllZip-long}
 
 -- no date yet
 pub none_found : (choice : SheetChoice) (found : Found) (most : ℕ) → found.most ≡ most → NoneUnread found.unread
@@ -99,14 +94,14 @@ date_found choice dates d most old new stop short is is_short counts kept named 
 pub found_place : (choice : SheetChoice) (dates : List SheetDate) (most : ℕ) (found : Found)
     → HasFound choice dates most found → length dates + 1 < 2 ^ 32 → HasPlace 1 found.unread
 found_place choice dates most found h few =
-    let all = zip_length (IsStopOf choice) dates h.stops h.are_stops in
+    let all = AllZip-long (IsStopOf choice) dates h.stops h.are_stops in
     record {
       stopped = omega (arith, h.counts.stopped_are, names_few h.stops, all, few);
       short = omega (
         arith,
         h.counts.short_are,
         count_by-le-length (λ (short : Bool). short) h.counts.shorts,
-        zip_length (IsShort choice) dates h.counts.shorts h.counts.are_short,
+        AllZip-long (IsShort choice) dates h.counts.shorts h.counts.are_short,
         few,
       );
       reasons = λ reason. omega (
@@ -122,7 +117,7 @@ pub found_room : (choice : SheetChoice) (dates : List SheetDate) (most : ℕ) (f
     → HasFound choice dates most found → length dates + 1 < 2 ^ 32 → found.is_lost ≡ false → HasRoom found.names
 found_room choice dates most found h few here =
     has_room most (names_in h.stops) found.names (h.named here)
-    (omega (arith, names_few h.stops, zip_length (IsStopOf choice) dates h.stops h.are_stops, few))
+    (omega (arith, names_few h.stops, AllZip-long (IsStopOf choice) dates h.stops h.are_stops, few))
 
 -- what was read of the date of a column
 zip_place : {A B : Type 0} (R : A → B → Type 0) (xs : List A) (ys : List B) (i : ℕ) (x : A) (y : B) → AllZip R xs ys
@@ -147,7 +142,7 @@ pub columns_count : (choice : SheetChoice) (number : ℕ) (fields : Fields) (col
     (dates : List ColumnDates) → AllZip (IsDateRead choice number fields) columns (map date_seen dates)
     → length dates ≡ length columns
 columns_count choice number fields columns dates h =
-    sym (length-map dates date_seen) ∙ zip_length (IsDateRead choice number fields) columns (map date_seen dates) h
+    sym (length-map dates date_seen) ∙ AllZip-long (IsDateRead choice number fields) columns (map date_seen dates) h
 
 -- one more record
 fields_more : (reads : List RecordRead) (one : RecordRead) → fields_read (reads ++ one ∷ []) ≡ fields_read reads ++

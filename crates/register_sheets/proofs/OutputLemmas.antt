@@ -1,42 +1,35 @@
 -- What one reading of a sheet makes.
-use Rattle.std.proofs.Common.{◌≡◌, ◌≤◌, ◌<◌, ◌∙◌, ◌++◌, ◌+◌, ◌-◌, ℕ, zero, suc, List, [], ◌∷◌, Some, ap}
-use Rattle.std.proofs.Common.{IsErrAnd, arith, drop, false, inl, inr, length, map, nat_lt, refl, replicate}
-use Rattle.std.proofs.Common.{subst, sym, take, true}
-use Rattle.std.specs.Prelude.{◌⊎◌, Err, IsOk, Ok, OnOk, Result, slice_get}
-use Rattle.std.specs.List.{AllZip}
+use Rattle.std.proofs.Common.{◌≡◌, ◌≤◌, ◌<◌, ◌∙◌, ◌++◌, ◌+◌, ◌-◌, ℕ, zero, suc, List, [], ◌∷◌, Some, ap, IsErrAnd}
+use Rattle.std.proofs.Common.{arith, drop, false, inl, inr, length, map, nat_lt, refl, replicate, subst, sym, take}
+use Rattle.std.proofs.Common.{true, ◌⊎◌, Err, IsOk, Ok, OnOk, Result, slice_get}
+use Rattle.register_sheets.proofs.Common.{AllZip, Fields, record_limit, Dated, as_text, below, AreLines, Produced}
+use Rattle.register_sheets.proofs.Common.{ending_of, first_fault, body_line, top_records, HasNotes, AreRegisterWriters}
+use Rattle.register_sheets.proofs.Common.{HasReadSheet, line_of_entry, AreSheetCounts, all_dates, Finishes, Gathers}
+use Rattle.register_sheets.proofs.Common.{Waits, AreRecordsRead, DateRead, IsDateRead, RecordRead, fields_read}
+use Rattle.register_sheets.proofs.Common.{records_text, widest, DateColumn, SheetChoice, SheetCause, LineWriter}
+use Rattle.register_sheets.proofs.Common.{EntryLine}
 use Rattle.std.proofs.lemmas.List.{length-map, length-replicate, take-append-drop}
 use Rattle.std.proofs.lemmas.Bool.Decides.{nat_tests}
 use Rattle.std.proofs.lemmas.Option.{slice_get_within}
 use Rattle.std.proofs.KnownBytes.{Appends-nil}
-use Rattle.register_records.specs.Entries.{Fields, record_limit}
 use Rattle.register_records.specs.declared.outputs.Output as outputs
 use Rattle.register_sheets.specs.Choices.{register_record}
-use Rattle.register_sheets.specs.DateEnds.{Dated, IsDated, as_text, one_end}
-use Rattle.register_sheets.specs.Converted.{AreFirstRows, AreRowsFrom, below, body_records, sheet_records}
+use Rattle.register_sheets.specs.DateEnds.{IsDated, one_end}
+use Rattle.register_sheets.specs.Converted.{AreFirstRows, AreRowsFrom, body_records, sheet_records}
 use Rattle.register_sheets.specs.SheetOutputs.{AreMadeRegisters, IsMadeRegister, IsMadeSheet, OfColumn, registers_by}
 use Rattle.register_sheets.specs.SheetOutputs.{sheet_ending}
-use Rattle.register_sheets.specs.Produced.{Agrees, AreLines, Ending, Produced, cut, ending_of, first_fault, lost}
-use Rattle.register_sheets.specs.Produced.{untouched, whole}
-use Rattle.register_sheets.specs.RecordLines.{body_line, entry_at, entry_line, if_dated}
+use Rattle.register_sheets.specs.Produced.{Agrees, Ending, cut, lost, untouched, whole}
+use Rattle.register_sheets.specs.RecordLines.{entry_at, entry_line, if_dated}
 use Rattle.register_sheets.specs.Registers.{AreEntries, AreFirstEntries, IsEntry, register_head}
-use Rattle.register_sheets.specs.Sending.{top_records}
-use Rattle.register_sheets.specs.SheetNotes.{HasNotes}
-use Rattle.register_sheets.specs.SheetReadings.{AreRegisterWriters, HasReadSheet, entry_maker, line_of_entry, sheet_end}
-use Rattle.register_sheets.specs.DateCounts.{AreSheetCounts}
-use Rattle.register_sheets.specs.UnknownNames.{AreUnread, all_dates}
-use Rattle.register_sheets.specs.LineWriters.{Finishes, FinishesEach, Gathers, GathersEach, Waits}
-use Rattle.register_sheets.specs.SheetRecords.{AreRecordsRead, DateRead, IsDateRead, RecordRead, fields_read, rows_read}
-use Rattle.register_sheets.specs.Sheets.{records_text, widest}
-use Rattle.register_sheets.specs.declared.choices.DateColumn.{DateColumn}
+use Rattle.register_sheets.specs.SheetReadings.{entry_maker, sheet_end}
+use Rattle.register_sheets.specs.UnknownNames.{AreUnread}
+use Rattle.register_sheets.specs.LineWriters.{FinishesEach, GathersEach}
+use Rattle.register_sheets.specs.SheetRecords.{rows_read}
 use Rattle.register_sheets.specs.declared.choices.End.{End}
 use Rattle.register_sheets.specs.declared.choices.End.TheVariants as ends
-use Rattle.register_sheets.specs.declared.choices.SheetChoice.{SheetChoice}
 use Rattle.register_sheets.specs.declared.choices.Spans.{Spans}
 use Rattle.register_sheets.specs.declared.choices.Spans.TheVariants as spans
-use Rattle.register_sheets.specs.declared.sheet_ends.SheetCause.{SheetCause}
 use Rattle.register_sheets.specs.declared.sheet_ends.SheetCause.TheVariants as cause
-use Rattle.register_sheets.specs.declared.line_writers.LineWriter.{LineWriter}
-use Rattle.register_sheets.specs.declared.record_lines.EntryLine.{EntryLine}
 use Rattle.register_sheets.specs.declared.sheet_ends.SheetEnd.{SheetEnd}
 use Rattle.register_sheets.specs.declared.sheet_ends.SheetEnd.TheVariants as end
 use Rattle.register_sheets.specs.declared.sheet_notes.SheetNotes.{SheetNotes}

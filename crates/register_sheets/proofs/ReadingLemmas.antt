@@ -1,17 +1,14 @@
 -- The records of a sheet that are read, one after the other.
-use Rattle.std.proofs.Common.{◌≡◌, ◌<◌, ◌∙◌, ◌++◌, ◌+◌, ℕ, List, [], ◌∷◌, ap, length, map, set, sym, take}
-use Rattle.std.proofs.Common.{Bor, arith, drop, inl, length-append, length-drop, refl, true}
-use Rattle.register_records.specs.Entries.{Fields}
-use Rattle.register_sheets.specs.DateEnds.{Dated}
-use Rattle.register_sheets.specs.declared.choices.SheetChoice.{SheetChoice}
-use Rattle.register_sheets.specs.SheetRecords.{AreRecordsRead, IsRecordRead, DateRead, RecordRead, date_seen}
-use Rattle.register_sheets.specs.SheetRecords.{dated_seen, fields_read}
-use Rattle.register_sheets.specs.declared.sheet_records.ColumnDates.{ColumnDates}
+use Rattle.std.proofs.Common.{◌≡◌, ◌<◌, ◌∙◌, ◌++◌, ◌+◌, ℕ, List, [], ◌∷◌, ap, length, map, set, sym, take, Bor, arith}
+use Rattle.std.proofs.Common.{drop, inl, length-append, length-drop, refl, true}
+use Rattle.register_sheets.proofs.Common.{Fields, Dated, SheetChoice, AreRecordsRead, DateRead, RecordRead, date_seen}
+use Rattle.register_sheets.proofs.Common.{dated_seen, fields_read, ColumnDates, IsReading}
+use Rattle.register_sheets.specs.SheetRecords.{IsRecordRead}
 use Rattle.register_sheets.proofs.ListLemmas.{one_taken}
 use Rattle.std.proofs.lemmas.List.{take_all, map-append, take-map, take_more_set}
 use Rattle.csv.specs.Reading.{took_first}
 use Rattle.csv.specs.declared.reader.Reader.{Reader}
-use Rattle.register_sheets.specs.Reading.{IsBegun, IsReading}
+use Rattle.register_sheets.specs.Reading.{IsBegun}
 
 -- one more is set
 pub set_more : {X Y : Type 0} (f : X → Y) (xs : List X) (i : ℕ) (x : X) → i < length xs

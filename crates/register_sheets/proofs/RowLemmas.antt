@@ -1,15 +1,11 @@
 -- The rows of records, one record after the other.
-use Rattle.std.proofs.Common.{◌≡◌, ◌<◌, ◌≤◌, ◌∙◌, ◌++◌, ◌+◌, ℕ, zero, suc, List, [], ◌∷◌, ap}
-use Rattle.std.proofs.Common.{append-nil, append_assoc, arith, drop, get_or, length, map, refl, subst, sym, take}
-use Rattle.std.specs.List.{AllZip, flat_map}
-use Rattle.std.specs.Prelude.{None, Some, slice_get}
+use Rattle.std.proofs.Common.{◌≡◌, ◌<◌, ◌≤◌, ◌∙◌, ◌++◌, ◌+◌, ℕ, zero, suc, List, [], ◌∷◌, ap, append-nil, append_assoc}
+use Rattle.std.proofs.Common.{arith, drop, get_or, length, map, refl, subst, sym, take, None, Some, slice_get}
+use Rattle.register_sheets.proofs.Common.{AllZip, flat_map, Fields, Dated, below, widest, SheetChoice}
 use Rattle.std.proofs.lemmas.List.{map-append, take-map, take_more}
 use Rattle.std.proofs.lemmas.List.Concat.{flat_map-append}
-use Rattle.register_records.specs.Entries.{Fields}
-use Rattle.register_sheets.specs.DateEnds.{Dated}
-use Rattle.register_sheets.specs.Converted.{below, body_record, body_records, head_record, sheet_records}
-use Rattle.register_sheets.specs.Sheets.{filled, widest}
-use Rattle.register_sheets.specs.declared.choices.SheetChoice.{SheetChoice}
+use Rattle.register_sheets.specs.Converted.{body_record, body_records, head_record, sheet_records}
+use Rattle.register_sheets.specs.Sheets.{filled}
 
 -- records without rows add nothing
 pub body_front : (width : ℕ) (choice : SheetChoice) (xs zs : List Fields) (ys : List (List Dated))

@@ -1,18 +1,14 @@
 -- How far records are written to an output.
 use Rattle.std.proofs.Common.{◌≡◌, ◌≤◌, ◌∙◌, ◌++◌, ℕ, List, [], ◌∷◌, Option, ap, append-nil, append_assoc, arith}
-use Rattle.std.proofs.Common.{length, IsErrAnd, min, refl, subst, suc, sym, take, zero}
-use Rattle.std.specs.Prelude.{Err, IfOk, Ok, Result}
+use Rattle.std.proofs.Common.{length, IsErrAnd, min, refl, subst, suc, sym, take, zero, Err, IfOk, Ok, Result}
+use Rattle.register_sheets.proofs.Common.{Fields, line_text, GainsFields, records_text, SheetLines}
 use Rattle.std.specs.Io.KnownBytes.{Appends}
 use Rattle.std.proofs.KnownBytes.{Appends-trans}
 use Rattle.std.proofs.Math.Seq.{take-append_seam}
 use Rattle.std.proofs.lemmas.List.{take-append-le}
 use Rattle.std.proofs.lemmas.List.Concat.{flat_map-append}
-use Rattle.register_records.specs.Entries.{Fields}
-use Rattle.register_records.specs.Lines.{line_text}
-use Rattle.register_sheets.specs.LineViews.{Begins, EndsLine, GainsFields}
+use Rattle.register_sheets.specs.LineViews.{Begins, EndsLine}
 use Rattle.register_sheets.specs.Sending.{HasFront, HasMade, IsSent}
-use Rattle.register_sheets.specs.Sheets.{records_text}
-use Rattle.register_sheets.specs.declared.lines.SheetLines.{SheetLines}
 
 pub text_both : (d : ℕ) (xs ys : List Fields) → records_text d (xs ++ ys) ≡ records_text d xs ++ records_text d ys
 text_both d xs ys = flat_map-append (line_text d) xs ys

@@ -1,24 +1,24 @@
 -- Stops that are alike, and the first of them.
-use Rattle.std.proofs.Common.{◌≡◌, ◌≤◌, ◌<◌, ◌+◌, ◌∙◌, ◌++◌, ◌||◌, ℕ, zero, suc, Bool, true, false, not, cond, List, [], ◌∷◌}
-use Rattle.std.proofs.Common.{ap, append-nil, arith, count_by, filter, get_or, inl, inr, length, map, refl, set, sym, take}
-use Rattle.std.specs.Prelude.{⊤, Some, option_map, slice_get}
-use Rattle.std.specs.List.{list_any}
+use Rattle.std.proofs.Common.{◌≡◌, ◌≤◌, ◌<◌, ◌+◌, ◌∙◌, ◌++◌, ◌||◌, ℕ, zero, suc, Bool, true, false, not, cond, List, []}
+use Rattle.std.proofs.Common.{◌∷◌, ap, append-nil, arith, count_by, filter, get_or, inl, inr, length, map, refl, set}
+use Rattle.std.proofs.Common.{sym, take, Some, option_map, slice_get}
+use Rattle.register_sheets.proofs.Common.{list_any, NameStop, NameCount, is_alike, name_seen, UnknownName}
+use Rattle.std.specs.Prelude.{⊤}
 use Rattle.std.specs.Cmp.{IsEquivalence}
 use Rattle.std.proofs.Math.Bool.{or-false, or-true}
 use Rattle.std.proofs.lemmas.Bool.{cases_Bool, or_parts}
 use Rattle.std.proofs.lemmas.Cmp.{and_equiv, nat_eq_equiv, on_equiv}
 use Rattle.std.specs.Cmp.Lexicographic.{options_equiv}
-use Rattle.std.proofs.lemmas.List.{get_or-map, length-append, length-map, length-take, map-append, take-append-le, take_all}
+use Rattle.std.proofs.lemmas.List.{get_or-map, length-append, length-map, length-take, map-append, take-append-le}
+use Rattle.std.proofs.lemmas.List.{take_all}
 use Rattle.std.proofs.lemmas.List.Elements.{filter-append}
 use Rattle.std.proofs.lemmas.Option.{get_or_from_slice_get, slice_get-map, slice_get_read, slice_get_within}
 use Rattle.std.proofs.lemmas.List.Folds.{list_any-append, list_any_at, list_any_more}
 use Rattle.std.proofs.lemmas.List.Sums.{sum_by-cons, sum_by_push}
 use Rattle.written_dates.specs.Calendars.{place}
 use Rattle.written_dates.proofs.WordLemmas.{same_word_equiv}
-use Rattle.register_sheets.specs.DateStops.{NameStop}
-use Rattle.register_sheets.specs.UnknownNames.{AreNames, NameCount, counted, firsts, is_alike, is_other, name_seen}
+use Rattle.register_sheets.specs.UnknownNames.{AreNames, counted, firsts, is_other}
 use Rattle.register_sheets.specs.UnknownViews.{named}
-use Rattle.register_sheets.specs.declared.stopped_names.UnknownName.{UnknownName}
 
 pub alike_equiv : IsEquivalence is_alike
 alike_equiv =

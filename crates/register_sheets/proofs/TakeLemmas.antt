@@ -1,17 +1,11 @@
 -- Records that are noted, and whose lines are made, one after the other.
 use Rattle.std.proofs.Common.{◌≡◌, ◌∙◌, ◌++◌, ◌+◌, ℕ, zero, suc, List, [], ◌∷◌, Some, ap, append-nil, append_assoc}
-use Rattle.std.proofs.Common.{arith, inl, inr, length, length-append, refl, subst, sym}
-use Rattle.std.specs.Prelude.{◌⊎◌, slice_get}
-use Rattle.register_records.specs.Entries.{Fields}
+use Rattle.std.proofs.Common.{arith, inl, inr, length, length-append, refl, subst, sym, ◌⊎◌, slice_get}
+use Rattle.register_sheets.proofs.Common.{Fields, Waits, HasNotes, AreRegisterWriters, Takes, line_of_entry, RecordRead}
+use Rattle.register_sheets.proofs.Common.{SheetChoice, LineWriter, EntryLine}
 use Rattle.register_records.specs.declared.outputs.Output as outputs
-use Rattle.register_sheets.specs.LineWriters.{Waits}
 use Rattle.register_sheets.specs.Registers.{register_head}
-use Rattle.register_sheets.specs.SheetNotes.{HasNotes}
-use Rattle.register_sheets.specs.SheetReadings.{AreRegisterWriters, Takes, entry_maker, line_of_entry}
-use Rattle.register_sheets.specs.SheetRecords.{RecordRead}
-use Rattle.register_sheets.specs.declared.choices.SheetChoice.{SheetChoice}
-use Rattle.register_sheets.specs.declared.line_writers.LineWriter.{LineWriter}
-use Rattle.register_sheets.specs.declared.record_lines.EntryLine.{EntryLine}
+use Rattle.register_sheets.specs.SheetReadings.{entry_maker}
 use Rattle.register_sheets.specs.declared.sheet_writers.SheetWriters.{SheetWriters}
 use Rattle.register_sheets.proofs.EachLemmas.{each_more, each_none}
 use Rattle.register_sheets.proofs.LineWriterLemmas.{gathers_more, gathers_none}

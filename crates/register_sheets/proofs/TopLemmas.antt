@@ -1,11 +1,9 @@
 -- What stands in a sheet down to its names.
 use Rattle.std.proofs.Common.{◌≡◌, ◌≤◌, ◌<◌, ◌∙◌, ◌++◌, ◌+◌, ℕ, List, [], ◌∷◌, ap, append-nil, append_assoc, drop}
 use Rattle.std.proofs.Common.{get_or, length, map, refl, sym, take}
+use Rattle.register_sheets.proofs.Common.{Fields, top_records, SheetChoice}
 use Rattle.std.proofs.lemmas.List.{take-append-drop, take_more}
-use Rattle.register_records.specs.Entries.{Fields}
-use Rattle.register_sheets.specs.Sending.{top_records}
 use Rattle.register_sheets.specs.Sheets.{filled}
-use Rattle.register_sheets.specs.declared.choices.SheetChoice.{SheetChoice}
 use Rattle.register_sheets.proofs.RowLemmas.{same_head}
 use Rattle.register_sheets.proofs.SendingLemmas.{taken_twice}
 use Rattle.register_sheets.proofs.WidthLemmas.{none_filled}

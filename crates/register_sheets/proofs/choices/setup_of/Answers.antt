@@ -1,13 +1,13 @@
-use Rattle.std.proofs.Common.{◌≡◌, ◌≤◌, ◌<◌, ◌∙◌, ◌==◌, ℕ, Bool, List, ap, arith, false, length, nat_lt, refl, subst, sym, take, true}
-use Rattle.std.specs.Prelude.{Err, Ok}
+use Rattle.std.proofs.Common.{◌≡◌, ◌≤◌, ◌<◌, ◌∙◌, ◌==◌, ℕ, Bool, List, ap, arith, false, length, nat_lt, refl, subst}
+use Rattle.std.proofs.Common.{sym, take, true, Err, Ok}
+use Rattle.register_sheets.proofs.Common.{asked_targets, SheetChoice}
 use Rattle.date_texts.specs.declared.target.Target.{Target}
 use Rattle.register_records.specs.SetupRules.{NamesTwice}
 use Rattle.register_records.specs.declared.setups.Setup.{Setup}
 use Rattle.register_records.specs.declared.setups.SetupFault.{SetupFault}
 use Rattle.std.proofs.lemmas.Bool.{true≢false}
 use Rattle.std.proofs.lemmas.Bool.Decides.{nat_tests}
-use Rattle.register_sheets.specs.Choices.{AsksOnce, HasDates, asked_targets, asks_twice, column_limit}
-use Rattle.register_sheets.specs.declared.choices.SheetChoice.{SheetChoice}
+use Rattle.register_sheets.specs.Choices.{AsksOnce, HasDates, asks_twice, column_limit}
 use Rattle.register_sheets.proofs.choices.setup_of.Goals as goal
 
 dated : (choice : SheetChoice) (none : Bool) → none ≡ (length choice.dates.now == 0) → none ≡ false

@@ -1,6 +1,5 @@
 use Rattle.std.proofs.Common.{[], ◌∷◌}
-use Rattle.register_sheets.specs.LineWriters.{Gathers}
-use Rattle.register_sheets.specs.SheetRecords.{record_read}
+use Rattle.register_sheets.proofs.Common.{Gathers, record_read}
 use Rattle.register_sheets.proofs.EachLemmas.{UpTo}
 use Rattle.register_sheets.proofs.line_writers.take_each.Given as goal
 

@@ -1,5 +1,5 @@
 use Rattle.std.proofs.Common.{◌≡◌, ℕ, List, Bor, true, false, Some}
-use Rattle.csv.specs.Records.{fields_of}
+use Rattle.register_sheets.proofs.Common.{fields_of}
 use Rattle.register_records.proofs.EntryStepLemmas.{reads}
 use Rattle.register_sheets.proofs.SheetLemmas.{first_left, none_left}
 use Rattle.register_sheets.proofs.reading.read_next.Goals as goal

@@ -1,14 +1,10 @@
-use Rattle.std.proofs.Common.{◌≡◌, ◌∙◌, ◌++◌, ◌∷◌, [], ℕ, Bool, List, ap, append-nil, append_assoc, codes, false, rules, subst}
-use Rattle.std.proofs.Common.{true}
-use Rattle.std.specs.Prelude.{OnOk}
-use Rattle.register_records.specs.Entries.{Fields}
+use Rattle.std.proofs.Common.{◌≡◌, ◌∙◌, ◌++◌, ◌∷◌, [], ℕ, Bool, List, ap, append-nil, append_assoc, codes, false, rules}
+use Rattle.std.proofs.Common.{subst, true, OnOk}
+use Rattle.register_sheets.proofs.Common.{Fields, row_seen, Dated, DatedEnd, GainsFields, dated_seen}
 use Rattle.register_records.specs.Outcomes.{TableRow}
-use Rattle.register_records.specs.Views.{row_seen}
 use Rattle.register_sheets.specs.Converted.{asked_cells, shown_in}
-use Rattle.register_sheets.specs.DateEnds.{Dated, DatedEnd, mark_text, told}
+use Rattle.register_sheets.specs.DateEnds.{mark_text, told}
 use Rattle.register_sheets.specs.DateViews.{edtf_field, fields_behind}
-use Rattle.register_sheets.specs.LineViews.{GainsFields}
-use Rattle.register_sheets.specs.SheetRecords.{dated_seen}
 use Rattle.register_sheets.proofs.LineLemmas.{both_gained, gained_at_last}
 use Rattle.register_sheets.proofs.record_lines.push_ends.Goals as goal
 

@@ -1,10 +1,8 @@
 use Rattle.std.proofs.Common.{◌∙◌, ◌+◌, ℕ, List, ap, arith, map, subst, sym, take, take_all}
+use Rattle.register_sheets.proofs.Common.{flat_map, GainsFields, dated_seen}
 use Rattle.std.proofs.lemmas.List.{length-map}
-use Rattle.std.specs.List.{flat_map}
 use Rattle.register_sheets.specs.Converted.{dated_fields}
-use Rattle.register_sheets.specs.LineViews.{GainsFields}
 use Rattle.register_sheets.proofs.LineLemmas.{both_gained, gained_as, none_gained}
-use Rattle.register_sheets.specs.SheetRecords.{dated_seen}
 use Rattle.register_sheets.proofs.ReadingLemmas.{rows_in}
 use Rattle.register_sheets.proofs.RowLemmas.{flat_more, map_more}
 use Rattle.register_sheets.proofs.record_lines.push_rows.Goals as goal

@@ -1,6 +1,5 @@
 use Rattle.std.proofs.Common.{◌≡◌, ◌∙◌, ◌+◌, ap, arith, drop, refl, take}
-use Rattle.register_sheets.specs.Reading.{left_of}
-use Rattle.register_sheets.specs.Sending.{top_records}
+use Rattle.register_sheets.proofs.Common.{left_of, top_records}
 use Rattle.register_sheets.proofs.LineWriterLemmas.{makes_both}
 use Rattle.register_sheets.proofs.ReadingLemmas.{begun_reads}
 use Rattle.register_sheets.proofs.RowLemmas.{drop_both}

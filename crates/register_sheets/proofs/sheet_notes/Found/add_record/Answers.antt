@@ -1,11 +1,8 @@
 use Rattle.std.proofs.Common.{None, ◌≡◌, ◌++◌, append-nil, arith, length-append, length-take, List, map, subst, sym}
 use Rattle.std.proofs.Common.{take, take_all}
+use Rattle.register_sheets.proofs.Common.{fields_of, HasFound, SheetDate, DateColumn}
 use Rattle.std.proofs.lemmas.List.{length-map}
-use Rattle.csv.specs.Records.{fields_of}
-use Rattle.register_sheets.specs.SheetNotes.{HasFound}
-use Rattle.register_sheets.specs.DateStops.{SheetDate}
 use Rattle.register_sheets.specs.declared.choices.CalendarField.TheVariants as calendar
-use Rattle.register_sheets.specs.declared.choices.DateColumn.{DateColumn}
 use Rattle.register_sheets.proofs.FoundLemmas.{dates_taken}
 use Rattle.register_sheets.proofs.NoteLemmas.{columns_count, date_at_place}
 use Rattle.register_sheets.proofs.sheet_notes.Found.add_record.Goals as goal

@@ -1,6 +1,5 @@
 use Rattle.std.proofs.Common.{◌∙◌, ap, length, refl}
-use Rattle.csv.specs.Records.{fields_of}
-use Rattle.register_sheets.specs.SheetRecords.{record_read}
+use Rattle.register_sheets.proofs.Common.{fields_of, record_read}
 use Rattle.register_sheets.proofs.NoteLemmas.{columns_count, notes_more, notes_space, notes_up_to}
 use Rattle.register_sheets.proofs.ReadingLemmas.{rows_in}
 use Rattle.register_sheets.proofs.sheet_notes.SheetNotes.add.Goals as goal

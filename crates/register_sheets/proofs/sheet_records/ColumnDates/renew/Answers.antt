@@ -1,12 +1,8 @@
-use Rattle.std.proofs.Common.{◌≡◌, ◌∙◌, [], ℕ, List, Option, ap, rules, subst, sym}
-use Rattle.std.specs.Prelude.{None}
+use Rattle.std.proofs.Common.{◌≡◌, ◌∙◌, [], ℕ, List, Option, ap, rules, subst, sym, None}
+use Rattle.register_sheets.proofs.Common.{fields_of, Calendar, calendar_for, id_text, AreEndsIn, as_text, IsStopBy}
+use Rattle.register_sheets.proofs.Common.{dated_seen}
 use Rattle.std.proofs.lemmas.Result.{on_ok_weaker}
-use Rattle.csv.specs.Records.{fields_of}
-use Rattle.date_texts.specs.declared.calendar.Calendar.{Calendar}
-use Rattle.register_sheets.specs.Choices.{calendar_for, id_text}
-use Rattle.register_sheets.specs.DateEnds.{AreEndsIn, as_text}
-use Rattle.register_sheets.specs.DateStops.{IsStopBy}
-use Rattle.register_sheets.specs.SheetRecords.{dated_seen, stop_read}
+use Rattle.register_sheets.specs.SheetRecords.{stop_read}
 use Rattle.register_sheets.specs.UnknownViews.{if_stop}
 use Rattle.register_sheets.proofs.AcceptedLemmas.{accepted_date}
 use Rattle.register_sheets.proofs.DateLemmas.{date_is_read}

@@ -97,8 +97,7 @@ pub so_named : (names : CalendarNames) (place : CalendarField) (fields : Fields)
     → IsSoNamed (calendar_text names place fields) (meaning_in names place fields)
 so_named names (calendar.All meaning) fields = named_itself (calendar_of meaning)
 so_named names (calendar.Column column) fields =
-    of_field (get_or fields column.place [])
-    (meant_in names column.otherwise (get_or fields column.place []))
+    of_field (get_or fields column.place []) (meant_in names column.otherwise (get_or fields column.place []))
     (calendar_called (get_or fields column.place [])) refl
 
 own_named : (text : List ℕ) (meant : Option CalendarMeaning) (own : Option OwnDate) → IsSoNamed text meant
@@ -136,12 +135,10 @@ pub accepted_date : (one : OneCalendar) (choice : SheetChoice) (column : DateCol
     (id calendar : List ℕ) (meant : Option CalendarMeaning) (end : DatedEnd)
     → calendar ≡ calendar_for choice column fields → meant ≡ meaning_for choice column fields
     → IsRowOf (asked_targets choice.columns.now) (end_entry number id calendar end) end.row → HasDate end
-    → IsSome (option_map calendar_of meant)
-    → IsStopBy choice column fields end.text (option_map calendar_of meant) None
+    → IsSome (option_map calendar_of meant) → IsStopBy choice column fields end.text (option_map calendar_of meant) None
 accepted_date one choice column number fields id calendar meant end is_calendar is_meant row has some =
     let t : Texts = record { id = id; calendar = calendar; date = end.text; note = [] } in
-    let named : IsSoNamed calendar meant
-    = subst (λ (text : List ℕ). IsSoNamed text meant) (sym is_calendar)
+    let named : IsSoNamed calendar meant = subst (λ (text : List ℕ). IsSoNamed text meant) (sym is_calendar)
     (subst (λ (m : Option CalendarMeaning). IsSoNamed (calendar_for choice column fields) m) (sym is_meant)
     (own_named (calendar_text choice.calendars.now column.calendar fields)
     (meaning_in choice.calendars.now column.calendar fields) (own_in choice column fields)

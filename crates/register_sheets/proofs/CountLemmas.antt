@@ -47,14 +47,12 @@ zip_more (a ∷ xs) (b ∷ ys) x y e = ap (λ rest. (a, b) ∷ rest) (zip_more x
 zip_more [] (b ∷ ys) x y e = absurd (omega arith)
 zip_more (a ∷ xs) [] x y e = absurd (omega arith)
 
-dates_more : (columns : List DateColumn) (place : ℕ) (done : List Fields) (rows : List (List Dated)) (fields :
-    Fields)
+dates_more : (columns : List DateColumn) (place : ℕ) (done : List Fields) (rows : List (List Dated)) (fields : Fields)
     (one : List Dated) → length done ≡ length rows → dates_at columns place (done ++ fields ∷ []) (rows ++ one ∷ [])
     ≡ dates_at columns place done rows ++ date_at columns place fields one
 dates_more columns place done rows fields one e =
     let f : Fields × List Dated → List DateRow = λ r. date_at columns place r.0 r.1 in
-    ap (flat_map f) (zip_more done rows fields one e)
-    ∙ flat_map-append f (zip done rows) ((fields, one) ∷ [])
+    ap (flat_map f) (zip_more done rows fields one e) ∙ flat_map-append f (zip done rows) ((fields, one) ∷ [])
     ∙ ap (λ dates. dates_at columns place done rows ++ dates) (append-nil (date_at columns place fields one))
 
 pub counts_more : (columns : List DateColumn) (done : List Fields) (rows : List (List Dated)) (fields : Fields)
@@ -74,8 +72,7 @@ counts_more columns done rows fields one old new same all more =
               then_.refused,
               before.refused,
               both is_refused xs ys,
-              ap (count_by is_refused)
-                  next,
+              ap (count_by is_refused) next,
             );
             reasons = λ refusal.
                 omega (
@@ -148,13 +145,11 @@ seen_slot f (x ∷ xs) zero d low = refl
 seen_slot f (x ∷ xs) (suc i) d low = seen_slot f xs i d (omega arith)
 
 -- the date at one place more is counted
-pub place_counted : (columns : List DateColumn) (fields : Fields) (rows : List Dated) (place : ℕ) (column :
-    DateColumn)
+pub place_counted : (columns : List DateColumn) (fields : Fields) (rows : List Dated) (place : ℕ) (column : DateColumn)
     (row : Dated) (old mid : List DateCounts) (next : DateCounts) → place < length mid
     → slice_get columns place ≡ Some column → slice_get rows place ≡ Some row → is_blank_record fields ≡ false
     → CountsDates ((get_or fields column.date [], row) ∷ []) (get_or mid place no_counts) next
-    → ((q : ℕ) → place ≤ q → get_or mid q no_counts ≡ get_or old q no_counts)
-    → ((q : ℕ) → q < place
+    → ((q : ℕ) → place ≤ q → get_or mid q no_counts ≡ get_or old q no_counts) → ((q : ℕ) → q < place
     → CountsDates (date_at columns q fields rows) (get_or old q no_counts) (get_or mid q no_counts)) → (q : ℕ)
     → q < place + 1
     → CountsDates (date_at columns q fields rows) (get_or old q no_counts) (get_or (set mid place next) q no_counts)

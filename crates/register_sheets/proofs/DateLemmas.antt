@@ -16,8 +16,7 @@ use Rattle.register_sheets.specs.DateViews.{HasRows, end_entry}
 use Rattle.register_sheets.specs.SheetRecords.{stop_read}
 
 -- one end that is both tells for itself, and is one day where it has one
-told_by : (failed open_end : Bool) (end : DatedEnd)
-    → cond failed end (cond failed end (cond open_end end end)) ≡ end
+told_by : (failed open_end : Bool) (end : DatedEnd) → cond failed end (cond failed end (cond open_end end end)) ≡ end
 told_by true open_end end = refl
 told_by false true end = refl
 told_by false false end = refl
@@ -48,8 +47,7 @@ pub date_is_read : (choice : SheetChoice) (column : DateColumn) (number : ℕ) (
     → mid.calendar.items ≡ calendar_for choice column fields
     → meant ≡ meaning_for choice column fields → id ≡ id_text choice.id number fields
     → AreEndsIn meant choice.spans choice.reading choice.names.now.listed.now (date_text choice column fields)
-    (as_text (dated_seen mid).first) (as_text (dated_seen mid).last) mid.marks
-    → HasRows choice number id mid rows
+    (as_text (dated_seen mid).first) (as_text (dated_seen mid).last) mid.marks → HasRows choice number id mid rows
     → IsStopBy choice column fields (dated_seen rows).first.text (option_map calendar_of meant) stop
     → stop_read new.stop ≡ stop → new.calendar ≡ rows.calendar
     → (dated_seen new).first ≡ (dated_seen rows).first → (dated_seen new).last ≡ (dated_seen rows).last

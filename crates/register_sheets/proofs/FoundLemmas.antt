@@ -91,8 +91,7 @@ dates_more choice records fields =
 
 -- one more name of a list
 pub listed_more : (names : List UnknownName) (k : ℕ) (name : UnknownName) → k < length names
-    → name ≡ get_or names k name
-    → records_text 44 (list_head ∷ map name_record (map name_seen (take k names)))
+    → name ≡ get_or names k name → records_text 44 (list_head ∷ map name_record (map name_seen (take k names)))
     ++ line_text 44 (name_record (name_seen name))
     ≡ records_text 44 (list_head ∷ map name_record (map name_seen (take (k + 1) names)))
 listed_more names k name lt is =

@@ -12,8 +12,7 @@ use Rattle.register_sheets.specs.declared.new_headings.NewNames.{NewNames}
 
 -- the name with this number is free, and those before it are not
 pub first_free : (taken : Fields) (wanted name : List ℕ) (n : ℕ) → 2 ≤ n → name ≡ wanted ++ 32 ∷ decimal n
-    → is_taken taken name ≡ false
-    → ((fewer : ℕ) → fewer + 1 < n → is_taken taken (numbered wanted fewer) ≡ true)
+    → is_taken taken name ≡ false → ((fewer : ℕ) → fewer + 1 < n → is_taken taken (numbered wanted fewer) ≡ true)
     → IsHeading taken wanted name
 first_free taken wanted name zero low e free least = absurd (omega arith)
 first_free taken wanted name (suc zero) low e free least = absurd (omega arith)
@@ -84,8 +83,7 @@ taken_next (x ∷ xs) (suc k) name lt =
 
 -- a new name is that at this place, or stands behind it
 pub made_next : (made : List (Vec ℕ Global)) (k : ℕ) (text : Vec ℕ Global) (name : List ℕ) → k < length made
-    → text ≡ get_or made k text
-    → is_taken (items_of (drop k made)) name
+    → text ≡ get_or made k text → is_taken (items_of (drop k made)) name
     ≡ (bytes_eq name text.items || is_taken (items_of (drop (k + 1) made)) name)
 made_next made k text name lt is =
     at_drop_more (λ (xs : List (Vec ℕ Global)). is_taken (items_of xs) name) made k text lt

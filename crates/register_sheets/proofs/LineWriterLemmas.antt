@@ -79,8 +79,7 @@ module _ {W : Type 0} (o : outputs.Ghosts W) (d : ℕ) (given : W) where
 
 -- how the lines of an output came out, by a fault of their writer, as they were read, and by one of sending
 pub agrees_fault : {W : Type 0} (o : outputs.Ghosts W) (d : ℕ) (given output : W) (lines : SheetLines) (made : List
-    Fields)
-    (c : SheetCause) (read : Result (Unit {0}) SheetCause) → Stands o d given output lines made (Some c)
+    Fields) (c : SheetCause) (read : Result (Unit {0}) SheetCause) → Stands o d given output lines made (Some c)
     → Agrees read (Err c)
 agrees_fault o d given output lines made cause.NoMemory read h =
     record { all = tt; many = λ e. absurd (cc); named = λ e. cc }
@@ -124,8 +123,7 @@ module _ {M W : Type 0} (o : outputs.Ghosts W) where
       record {
         maker = refl;
         delimiter = refl;
-        holds = λ given made h.
-            subst (Holds o given output writer) (sym (ap (λ xs. made ++ xs) e ∙ append-nil made)) h;
+        holds = λ given made h. subst (Holds o given output writer) (sym (ap (λ xs. made ++ xs) e ∙ append-nil made)) h;
       }
 
   pub makes_both : (xs ys all : List Fields) (old mid new : LineWriter M) (before middle after : W) → all ≡ xs ++ ys
@@ -166,8 +164,7 @@ module _ {M W : Type 0} (o : outputs.Ghosts W) where
               stands = subst (λ (d : ℕ). Stands o d given after new.sender.lines (made ++ line ∷ []) (Some c))
                   (sym wrote.delimiter)
                   (stands_stopped o old.sender.delimiter given before after old.sender.lines new.sender.lines made
-                  (line ∷ []) c
-                  (subst (Stands o old.sender.delimiter given before old.sender.lines made) none h.stands)
+                  (line ∷ []) c (subst (Stands o old.sender.delimiter given before old.sender.lines made) none h.stands)
                   wrote.output);
               mark = wrote.output.marked ∙ h.mark;
             };
@@ -234,8 +231,7 @@ waits_stand o output d made lines (Some cause.NoNames) waits = absurd waits
 waits_stand o output d made lines (Some cause.TooManyRecords) waits = absurd waits
 
 pub holds_waiting : {M W : Type 0} (o : outputs.Ghosts W) (output : W) (writer : LineWriter M) (d : ℕ) (made : List
-    Fields)
-    → Waits d made writer → Holds o output output writer made
+    Fields) → Waits d made writer → Holds o output output writer made
 holds_waiting o output writer d made waits =
     record {
       stands = subst (λ (n : ℕ). Stands o n output output writer.sender.lines made writer.fault) (sym waits.by)

@@ -22,8 +22,7 @@ decimal_lacks n c few small i lt =
     omega arith
 
 -- where a text is cut at the first byte of a kind is one place
-pub first_same : (c : ℕ) (a x b y : List ℕ) → Lacks c a → Lacks c x → a ++ c ∷ b ≡ x ++ c ∷ y
-    → (a ≡ x) × (b ≡ y)
+pub first_same : (c : ℕ) (a x b y : List ℕ) → Lacks c a → Lacks c x → a ++ c ∷ b ≡ x ++ c ∷ y → (a ≡ x) × (b ≡ y)
 first_same c [] [] b y la lx e = (refl, cc)
 first_same c [] (d ∷ x) b y la lx e = absurd (lx 0 (omega arith) (cc))
 first_same c (d ∷ a) [] b y la lx e = absurd (la 0 (omega arith) (cc))
@@ -43,8 +42,7 @@ plain_by : (none : Bool) (text : List ℕ) (day : ℕ) (days : ℤ) → Lacks 32
 plain_by true text day days lack is = is ∙ append-nil (decimal day)
 plain_by false text day days lack is = absurd (stands 32 (decimal day) (signed_decimal days) text is lack)
 
-pub plain_day : (text : List ℕ) (day : ℕ) (days : ℤ) → Lacks 32 text → text ≡ day_name day days
-    → text ≡ decimal day
+pub plain_day : (text : List ℕ) (day : ℕ) (days : ℤ) → Lacks 32 text → text ≡ day_name day days → text ≡ decimal day
 plain_day text day days = plain_by (int_eq days (pos 0)) text day days
 
 -- a day with a blank has days behind it, which are not 0

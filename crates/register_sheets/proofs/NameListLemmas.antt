@@ -23,8 +23,7 @@ use Rattle.register_sheets.specs.declared.name_lists.NameLine.{NameLine}
 
 -- the split at spaces gives the names of the field
 pub names_of_split : (field : List ℕ) (s t : Split ℕ) → t ≡ s → split_text s ≡ field → split_has_more s ≡ true
-    → split_pattern s ≡ 32
-    → YieldsList (split_steps FindsChar (λ a b. b ≡ a)) (λ name. name.now) t (names_in field)
+    → split_pattern s ≡ 32 → YieldsList (split_steps FindsChar (λ a b. b ≡ a)) (λ name. name.now) t (names_in field)
 names_of_split field s t same text more pattern = YieldsList-at same
     (YieldsList-from_str_split 32 field (lit< tt) text more pattern)
 

@@ -50,8 +50,7 @@ none_found choice found most limit none empty no_more =
 -- one more date
 pub date_found : (choice : SheetChoice) (dates : List SheetDate) (d : SheetDate) (most : ℕ) (old new : Found)
     (stop : Option DateStop) (short : Bool) → IsStopOf choice d stop → IsShort choice d short
-    → CountsDate stop short old.unread new.unread
-    → new.most ≡ old.most
+    → CountsDate stop short old.unread new.unread → new.most ≡ old.most
     → (new.is_lost ≡ false → (old.is_lost ≡ false) × ((stops : List NameStop) → HasNames old.most stops old.names
     → HasNames old.most (stops ++ option_to_list (name_in stop)) new.names))
     → HasFound choice dates most old → HasFound choice (dates ++ d ∷ []) most new
@@ -77,16 +76,14 @@ date_found choice dates d most old new stop short is is_short counts kept named 
         );
         short_are = counts.short ∙ ap (λ (n : ℕ). n + (if short then 1 else 0)) found.counts.short_are
             ∙ sym (sum_by_push (λ (b : Bool). cond b 1 0) found.counts.shorts short);
-        reasons_are = λ reason.
-            counts.reasons reason
+        reasons_are = λ reason. counts.reasons reason
             ∙ ap (λ (n : ℕ). n + (if is_for reason stop then 1 else 0)) (found.counts.reasons_are reason)
             ∙ sym (sum_by_push (λ (s : Option DateStop). cond (is_for reason s) 1 0) stops stop);
       };
       named = λ here.
           let (before, add) = named here in
           subst (λ (xs : List NameStop). HasNames most xs new.names) (sym all)
-          (subst (λ (n : ℕ). HasNames n (names_in stops ++ more) new.names) found.limit
-          (add (names_in stops)
+          (subst (λ (n : ℕ). HasNames n (names_in stops ++ more) new.names) found.limit (add (names_in stops)
           (subst (λ (n : ℕ). HasNames n (names_in stops) old.names) (sym found.limit) (found.named before))));
     }
 
@@ -120,7 +117,7 @@ found_room choice dates most found h few here =
     (omega (arith, names_few h.stops, AllZip-long (IsStopOf choice) dates h.stops h.are_stops, few))
 
 -- what was read of the date of a column
-zip_place : {A B : Type 0} (R : A → B → Type 0) (xs : List A) (ys : List B) (i : ℕ) (x : A) (y : B) → AllZip R xs ys
+pub zip_place : {A B : Type 0} (R : A → B → Type 0) (xs : List A) (ys : List B) (i : ℕ) (x : A) (y : B) → AllZip R xs ys
     → slice_get xs i ≡ Some x → slice_get ys i ≡ Some y → R x y
 zip_place R [] ys i x y h a b = absurd (cc)
 zip_place R (u ∷ xs) [] i x y h a b = absurd (cc)
@@ -162,8 +159,7 @@ notes_more choice reads one most old new records counts found noted =
           (λ (xs : List Fields). AreSheetCounts choice.dates.now xs (map rows_read (reads ++ one ∷ [])) new.counts)
           (sym fields)
           (subst (λ (ys : List (List Dated)). AreSheetCounts choice.dates.now (fields_read reads ++ one.fields ∷ [])
-          ys new.counts)
-          (sym (map-append rows_read reads (one ∷ [])))
+          ys new.counts) (sym (map-append rows_read reads (one ∷ [])))
           (counts_more choice.dates.now (fields_read reads) (map rows_read reads) one.fields (rows_read one) old.counts
           new.counts
           (length-map reads (λ (read : RecordRead). read.fields) ∙ sym (length-map reads rows_read)) noted.counts
@@ -205,13 +201,11 @@ pub unknown_found : (choice : SheetChoice) (records : List Fields) (reads : List
     × IfErr result (λ c. c ≡ NoMemory)
 unknown_found choice records reads most notes result named all few noted is =
     subst (λ (r : Result Unknown SheetCause). IfOk r (λ u. IsUnknown choice records most (map name_seen u.names.items)
-    u.more u.unread)
-    × IfErr r (λ c. c ≡ NoMemory)) (sym is) (by_lost notes.found.is_lost refl)
+    u.more u.unread) × IfErr r (λ c. c ≡ NoMemory)) (sym is) (by_lost notes.found.is_lost refl)
   where
     by_lost : (lost : Bool) → notes.found.is_lost ≡ lost
         → IfOk (unless_lost lost notes.found) (λ u. IsUnknown choice records most (map name_seen u.names.items) u.more
-        u.unread)
-        × IfErr (unless_lost lost notes.found) (λ c. c ≡ NoMemory)
+        u.unread) × IfErr (unless_lost lost notes.found) (λ c. c ≡ NoMemory)
     by_lost true e = (tt, refl)
     by_lost false e = (
       record {

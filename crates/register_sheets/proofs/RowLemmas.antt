@@ -71,10 +71,8 @@ flat_more f front xs x e =
 pub map_more : {X Y : Type 0} (f : X → Y) (xs : List X) (i : ℕ) (x : X) → i < length xs → x ≡ get_or xs i x
     → take (i + 1) (map f xs) ≡ take i (map f xs) ++ f x ∷ []
 map_more f xs i x lt is =
-    take-map f (i + 1) xs
-    ∙ ap (map f) (take_more xs i x lt ∙ ap (λ y. take i xs ++ y ∷ []) (sym is))
-    ∙ map-append f (take i xs) (x ∷ [])
-    ∙ ap (λ front. front ++ f x ∷ []) (sym (take-map f i xs))
+    take-map f (i + 1) xs ∙ ap (map f) (take_more xs i x lt ∙ ap (λ y. take i xs ++ y ∷ []) (sym is))
+    ∙ map-append f (take i xs) (x ∷ []) ∙ ap (λ front. front ++ f x ∷ []) (sym (take-map f i xs))
 
 pub zip_at : {X Y : Type 0} (R : X → Y → Type 0) (xs : List X) (ys : List Y) (i : ℕ) (d : X) (y : Y) → i < length xs
     → AllZip R (take i xs) ys → R (get_or xs i d) y → AllZip R (take (i + 1) xs) (ys ++ y ∷ [])

@@ -76,8 +76,7 @@ pub front_more : (d : ℕ) (begun now : Option (List ℕ)) (xs ys : List Fields)
     → HasFront d begun now (xs ++ ys)
 front_more d begun now xs ys (n, appends) = (
   min n (length xs),
-  subst (Appends begun now)
-      (ap (records_text d) (sym (take-append-le (min n (length xs)) xs ys (omega arith)
+  subst (Appends begun now) (ap (records_text d) (sym (take-append-le (min n (length xs)) xs ys (omega arith)
       ∙ shorter n (min n (length xs)) xs refl))) appends,
 )
 

@@ -16,8 +16,7 @@ module _ {M W : Type 0} (o : outputs.Ghosts W) (line : M → SheetChoice → Rec
         → Takes o line choice reads writers writers output output files files
     takes_none reads writers output files none =
         record {
-          notes = λ done most h.
-              subst (λ (all : List RecordRead). HasNotes choice all most writers.notes)
+          notes = λ done most h. subst (λ (all : List RecordRead). HasNotes choice all most writers.notes)
               (sym (ap (λ (xs : List RecordRead). done ++ xs) none ∙ append-nil done)) h;
           sheet = gathers_none o line choice reads writers.sheet output none;
           registers = each_none o line_of_entry choice reads writers.registers.items files none;
@@ -26,13 +25,11 @@ module _ {M W : Type 0} (o : outputs.Ghosts W) (line : M → SheetChoice → Rec
     pub takes_more : (reads all : List RecordRead) (one : RecordRead) (old mid new : SheetWriters M) (before middle after
         : W)
         (given between written : List W) → all ≡ reads ++ one ∷ [] → Takes o line choice reads old mid before middle
-        given between
-        → Takes o line choice (one ∷ []) mid new middle after between written
+        given between → Takes o line choice (one ∷ []) mid new middle after between written
         → Takes o line choice all old new before after given written
     takes_more reads all one old mid new before middle after given between written is a b =
         record {
-          notes = λ done most h.
-              subst (λ (xs : List RecordRead). HasNotes choice xs most new.notes)
+          notes = λ done most h. subst (λ (xs : List RecordRead). HasNotes choice xs most new.notes)
               (append_assoc done reads (one ∷ []) ∙ ap (λ (xs : List RecordRead). done ++ xs) (sym is))
               (b.notes (done ++ reads) most (a.notes done most h));
           sheet = gathers_more o line choice reads all one old.sheet mid.sheet new.sheet before middle after is a.sheet

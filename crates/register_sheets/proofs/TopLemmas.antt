@@ -12,8 +12,7 @@ use Rattle.register_sheets.proofs.WidthLemmas.{none_filled}
 pub top_line : (all left : List Fields) (k : ℕ) (lines : Fields) → lines ≡ [] → k < length all → left ≡ drop k all
     → take (k + 1) all ≡ take k all ++ (filled 0 (get_or left 0 []) ++ lines) ∷ []
 top_line all left k lines none low is =
-    take_more all k [] low
-    ∙ ap (λ (f : Fields). take k all ++ f ∷ [])
+    take_more all k [] low ∙ ap (λ (f : Fields). take k all ++ f ∷ [])
     (sym (ap (λ (xs : Fields). filled 0 (get_or left 0 []) ++ xs) none ∙ append-nil (filled 0 (get_or left 0 []))
     ∙ none_filled (get_or left 0 []) ∙ ap (λ (xs : List Fields). get_or xs 0 []) is ∙ same_head k all []))
 

@@ -66,11 +66,13 @@ returns-clause-good c =
     let made = c.in-Ok.ensures in
     let once : ¬ (NamesTwice (take c.asked_targets-count.result.1 c.asked_targets-count.result.0))
     = λ twice. no_fault _ _ (made.twice.1 twice) in (
-      dated c.args.choice.now _ c.is_empty.ensures c.if-is_empty.false c.if-choice-gt-MAX_DATES.false,
-      asks_once c.args.choice.now _ _ c.if-choice-gt-MAX_COLUMNS.false c.asks_twice.ensures c.if-asks_twice.false
-          c.asked_targets-count.ensures.value once,
-      not_false _ (λ off. no_fault _ _ (made.delimiter.1 (once, refl, off))),
-      rw c.added_each-each.ensures at c.if-choice-each.false,
+      record {
+        dated = dated c.args.choice.now _ c.is_empty.ensures c.if-is_empty.false c.if-choice-gt-MAX_DATES.false;
+        once = asks_once c.args.choice.now _ _ c.if-choice-gt-MAX_COLUMNS.false c.asks_twice.ensures
+            c.if-asks_twice.false c.asked_targets-count.ensures.value once;
+        delimited = not_false _ (λ off. no_fault _ _ (made.delimiter.1 (once, refl, off)));
+        headed = rw c.added_each-each.ensures at c.if-choice-each.false;
+      },
       made.value.0 ∙ c.asked_targets-count.ensures.value,
     )
 

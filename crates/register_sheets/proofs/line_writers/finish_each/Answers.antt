@@ -17,8 +17,7 @@ writers-preserved g c =
     let room : i < length c.writers.files = omega (arith, c.writers-test.true, inv.files, c.requires.matched) in
     let more = answers ++ c.finish-answer.result ∷ [] in
     let Did : List (Result (Unit {0}) SheetCause) → ℕ → LineWriter g.row.M.Denot → LineWriter g.row.M.Denot →
-    g.row.W.Denot
-    → g.row.W.Denot → Type 0
+    g.row.W.Denot → g.row.W.Denot → Type 0
     = λ xs place w v b a. (answer : Result (Unit {0}) SheetCause) × (slice_get xs place ≡ Some answer)
     × Finishes g.W.Output c.args.read w b a answer in (
       more,
@@ -36,8 +35,7 @@ writers-preserved g c =
             c.finish-answer.result,
             answer_last answers c.finish-answer.result i many,
             c.finish-answer.ensures,
-          )
-          (length-set c.writers.writers i c.finish-answer.new.self) (length-set c.writers.files i
+          ) (length-set c.writers.writers i c.finish-answer.new.self) (length-set c.writers.files i
           c.finish-answer.new.output),
     )
 

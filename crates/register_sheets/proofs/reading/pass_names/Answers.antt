@@ -36,8 +36,7 @@ returns-then-not-branch c =
       named = λ there. absurd (not_both _ refl there);
       left = λ there. absurd (not_both _ refl there);
       found = λ there. absurd (not_both _ refl there);
-      none = λ end.
-          none_below (left_of c.args.records.now) c.records.counter c.args.above (omega arith)
+      none = λ end. none_below (left_of c.args.records.now) c.records.counter c.args.above (omega arith)
           (sym c.records.invariant.left ∙ none);
     }
 

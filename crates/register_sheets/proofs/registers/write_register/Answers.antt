@@ -19,11 +19,9 @@ returns g c column there =
     register_produced g.W.Output choice records c.read_below-read.result c.finish.result
     c.of_register-writers.result.sheet
     c.read_below-read.new.writers.sheet (column, c.args.end) c.args.output.now c.read_below-read.new.output
-    c.finish.new.output
-    all.reads c.in-Ok.ensures.named
+    c.finish.new.output all.reads c.in-Ok.ensures.named
     (subst (λ (xs : List Fields). HasReadSheet choice xs all.reads c.read_below-read.result) c.in-Ok.ensures.left
-    all.read)
-    (ap (λ (maker : EntryLine). slice_get choice.dates.now maker.place) start.maker ∙ there)
+    all.read) (ap (λ (maker : EntryLine). slice_get choice.dates.now maker.place) start.maker ∙ there)
     (ap (λ (maker : EntryLine). maker.end) start.maker) start.waits all.takes.sheet c.finish.ensures
 
 pub read_below-read-requires-clause-none_noted : goal.read_below-read-requires-clause-none_noted

@@ -8,5 +8,4 @@ columns-init c = no_writers _ _ _ c.new-writers.ensures.items
 pub columns-preserved : goal.columns-preserved
 columns-preserved c =
     one_writer_more _ _ _ _ _ _ c.columns.invariant c.in_ok-push.ensures.items
-    (c.register_writer.ensures.maker ∙ c.entry_maker.ensures)
-    c.register_writer.ensures.waits
+    (c.register_writer.ensures.maker ∙ c.entry_maker.ensures) c.register_writer.ensures.waits

@@ -54,8 +54,7 @@ add_date-requires c =
     let done = map f (take c.dates.place columns) in
     let same = columns_count choice of_sheet.number fields columns of_sheet.columns.items c.requires.read in
     let is = date_at_place choice of_sheet.number fields columns of_sheet.columns.items c.dates.place none
-    c.index.result.now
-    c.requires.read c.dates-test.true (omega (arith, same, c.dates-test.true)) c.index.ensures in
+    c.index.result.now c.requires.read c.dates-test.true (omega (arith, same, c.dates-test.true)) c.index.ensures in
     record {
       space = record {
         dates = space.dates ++ done;

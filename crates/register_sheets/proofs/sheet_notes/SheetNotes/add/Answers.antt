@@ -21,5 +21,4 @@ pub add-requires-clause-room : goal.add-requires-clause-room
 add-requires-clause-room c = notes_up_to c.args.choice.now c.args.self.now c.requires.space
 
 pub add_record-requires-clause-space : goal.add_record-requires-clause-space
-add_record-requires-clause-space c =
-    notes_space c.args.choice.now c.args.self.now c.requires.few c.requires.space
+add_record-requires-clause-space c = notes_space c.args.choice.now c.args.self.now c.requires.few c.requires.space

@@ -16,8 +16,7 @@ stop_beside-stop-requires-clause-stop c has some =
     let meant = c.date_said-said.result.meant in
     let rows = c.convert.ensures.rows in
     let end = (dated_seen c.convert.new.self).first in
-    let named : c.put_ends.new.self.calendar.items ≡ calendar_for choice column fields
-    = search rules in
+    let named : c.put_ends.new.self.calendar.items ≡ calendar_for choice column fields = search rules in
     subst (λ (called : Option Calendar). IsStopBy choice column fields end.text called None) (sym c.called_by.ensures)
     (accepted_date c.one_calendar.ensures choice column c.args.number fields c.id_of-id.result.now
     c.put_ends.new.self.calendar.items meant end named c.date_said-said.ensures.meant rows.first has
@@ -39,9 +38,7 @@ returns c =
     let stops = subst (λ (called : Option Calendar). IsStopBy choice column fields (dated_seen rows).first.text called
     (if_stop c.stop_beside-stop.result)) c.called_by.ensures c.stop_beside-stop.ensures in
     let last = c.put_edtf.ensures in
-    on_ok_weaker c.put_edtf.result
-    (λ edtf. date_is_read choice column c.args.number fields c.id_of-id.result.now meant
+    on_ok_weaker c.put_edtf.result (λ edtf. date_is_read choice column c.args.number fields c.id_of-id.result.now meant
     (if_stop c.stop_beside-stop.result) put rows c.put_edtf.new.self named c.date_said-said.ensures.meant id ends
     c.convert.ensures.rows stops (ap stop_read last.stop ∙ c.in_ok-renew.ensures) last.calendar last.first last.last
-    last.marks edtf)
-    last.edtf
+    last.marks edtf) last.edtf

@@ -18,8 +18,7 @@ returns-in-Some c = λ stops are.
     let lt : k < length items = omega (arith, slice_get_within _ k name found, length-map items named) in
     let at = get_or-map count_seen items k x (count_seen x) lt ∙ ap count_seen (sym c.index_mut.ensures.value) in
     name_counted c.args.most stops (name_seen c.args.stop) items _ c.args.self.now.more k name (count_seen x) are found alike
-    (map-set count_seen items k _
-    ∙ ap (λ (n : NameCount). set (map count_seen items) k (one_more n)) (sym at))
+    (map-set count_seen items k _ ∙ ap (λ (n : NameCount). set (map count_seen items) k (one_more n)) (sym at))
 
 pub returns-then-len-most : goal.returns-then-len-most
 returns-then-len-most c = λ stops are.

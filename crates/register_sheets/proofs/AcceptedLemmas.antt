@@ -1,41 +1,34 @@
 -- A date whose row was accepted is stopped by nothing.
-use Rattle.std.proofs.Common.{◌≡◌, ◌&&◌, ℕ, ℤ, Bool, true, false, List, [], ◌∷◌, None, Option, Some, cond, get_or}
-use Rattle.std.proofs.Common.{Err, Ok, Result, inl, inr, is_ok, option_map, refl, subst, sym}
-use Rattle.std.specs.Prelude.{⊤, IsSome}
+use Rattle.std.proofs.Common.{◌≡◌, ◌&&◌, ℕ, ℤ, Bool, true, false, List, [], ◌∷◌, None, Option, Some, cond, get_or, Err}
+use Rattle.std.proofs.Common.{Ok, Result, inl, inr, is_ok, option_map, refl, subst, sym, IsSome}
+use Rattle.register_sheets.proofs.Common.{all_calendars, calendar_name, IsNamed, Calendar, Gregorian, Refusal, Fields}
+use Rattle.register_sheets.proofs.Common.{calendar_of, CalendarMeaning, Name, asked_targets, calendar_for, meaning_for}
+use Rattle.register_sheets.proofs.Common.{DatedEnd, IsStopBy, DateColumn, SheetChoice}
+use Rattle.std.specs.Prelude.{⊤}
 use Rattle.std.specs.List.{find}
 use Rattle.std.specs.Str.{is_utf8, str_to_ascii_lowercase}
 use Rattle.std.proofs.lemmas.Bool.{cases_Bool}
 use Rattle.std.proofs.lemmas.Slice.Eq.{bytes_eq-Decides}
 use Rattle.std.proofs.lemmas.Str.{IsUtf8-from_is_utf8}
-use Rattle.date_texts.specs.Calendars.{all_calendars, calendar_name}
 use Rattle.date_texts.specs.DateText.{IsDateText}
 use Rattle.date_texts.specs.Laws.{OneCalendar}
-use Rattle.date_texts.specs.Names.{IsNamed}
 use Rattle.date_texts.specs.Trimmed.{trimmed}
-use Rattle.date_texts.specs.declared.calendar.Calendar.{Calendar}
-use Rattle.date_texts.specs.declared.calendar.Calendar.TheVariants.{Gregorian}
 use Rattle.date_texts.specs.declared.date.Date.{Date}
-use Rattle.date_texts.specs.declared.refusal.Refusal.{Refusal}
 use Rattle.date_texts.specs.declared.refusal.Refusal.TheVariants as refusal
-use Rattle.register_records.specs.Entries.{Fields, Texts, are_short, are_utf8}
-use Rattle.register_records.specs.Outcomes.{IsOutcome, IsRowOf, Says, accepted, no_date_text, no_such_date, out_of_range}
-use Rattle.register_records.specs.Outcomes.{refused, unknown_calendar}
-use Rattle.written_dates.specs.Fields.{calendar_of, or_field}
-use Rattle.written_dates.specs.declared.fields.CalendarMeaning.{CalendarMeaning}
+use Rattle.register_records.specs.Entries.{Texts, are_short, are_utf8}
+use Rattle.register_records.specs.Outcomes.{IsOutcome, IsRowOf, Says, accepted, no_date_text, no_such_date}
+use Rattle.register_records.specs.Outcomes.{out_of_range, refused, unknown_calendar}
+use Rattle.written_dates.specs.Fields.{or_field}
 use Rattle.written_dates.specs.declared.fields.CalendarMeaning.TheVariants.{One}
 use Rattle.written_dates.specs.declared.fields.CalendarNames.{CalendarNames}
-use Rattle.written_dates.specs.declared.meanings.Name.{Name}
 use Rattle.written_dates.specs.declared.written.Choice.{Choice}
-use Rattle.register_sheets.specs.Choices.{asked_targets, calendar_called, calendar_for, calendar_text, date_text, is_name, meaning_for}
-use Rattle.register_sheets.specs.Choices.{meaning_in, meant_in, or_meant, own_in}
-use Rattle.register_sheets.specs.DateEnds.{DatedEnd}
-use Rattle.register_sheets.specs.DateStops.{IsStopBy, IsStopIn}
+use Rattle.register_sheets.specs.Choices.{calendar_called, calendar_text, date_text, is_name, meaning_in, meant_in}
+use Rattle.register_sheets.specs.Choices.{or_meant, own_in}
+use Rattle.register_sheets.specs.DateStops.{IsStopIn}
 use Rattle.register_sheets.specs.OwnCalendars.{OwnDate, or_calendar, or_meaning}
 use Rattle.register_sheets.specs.DateViews.{HasDate, end_entry}
 use Rattle.register_sheets.specs.declared.choices.CalendarField.{CalendarField}
 use Rattle.register_sheets.specs.declared.choices.CalendarField.TheVariants as calendar
-use Rattle.register_sheets.specs.declared.choices.DateColumn.{DateColumn}
-use Rattle.register_sheets.specs.declared.choices.SheetChoice.{SheetChoice}
 
 -- texts say a date where their outcome is a day
 abbrev SaysOne : Texts → Type 0
@@ -104,8 +97,7 @@ pub so_named : (names : CalendarNames) (place : CalendarField) (fields : Fields)
     → IsSoNamed (calendar_text names place fields) (meaning_in names place fields)
 so_named names (calendar.All meaning) fields = named_itself (calendar_of meaning)
 so_named names (calendar.Column column) fields =
-    of_field (get_or fields column.place [])
-    (meant_in names column.otherwise (get_or fields column.place []))
+    of_field (get_or fields column.place []) (meant_in names column.otherwise (get_or fields column.place []))
     (calendar_called (get_or fields column.place [])) refl
 
 own_named : (text : List ℕ) (meant : Option CalendarMeaning) (own : Option OwnDate) → IsSoNamed text meant
@@ -143,12 +135,10 @@ pub accepted_date : (one : OneCalendar) (choice : SheetChoice) (column : DateCol
     (id calendar : List ℕ) (meant : Option CalendarMeaning) (end : DatedEnd)
     → calendar ≡ calendar_for choice column fields → meant ≡ meaning_for choice column fields
     → IsRowOf (asked_targets choice.columns.now) (end_entry number id calendar end) end.row → HasDate end
-    → IsSome (option_map calendar_of meant)
-    → IsStopBy choice column fields end.text (option_map calendar_of meant) None
+    → IsSome (option_map calendar_of meant) → IsStopBy choice column fields end.text (option_map calendar_of meant) None
 accepted_date one choice column number fields id calendar meant end is_calendar is_meant row has some =
     let t : Texts = record { id = id; calendar = calendar; date = end.text; note = [] } in
-    let named : IsSoNamed calendar meant
-    = subst (λ (text : List ℕ). IsSoNamed text meant) (sym is_calendar)
+    let named : IsSoNamed calendar meant = subst (λ (text : List ℕ). IsSoNamed text meant) (sym is_calendar)
     (subst (λ (m : Option CalendarMeaning). IsSoNamed (calendar_for choice column fields) m) (sym is_meant)
     (own_named (calendar_text choice.calendars.now column.calendar fields)
     (meaning_in choice.calendars.now column.calendar fields) (own_in choice column fields)

@@ -1,20 +1,18 @@
 -- The columns asked, one after the other.
 use Rattle.std.proofs.Common.{◌≡◌, ◌≤◌, ◌<◌, ◌∙◌, ◌++◌, ◌+◌, ℕ, List, [], ◌∷◌, Option, Some, None, add-one, ap}
 use Rattle.std.proofs.Common.{append-nil, append_assoc, arith, drop, drop-cons, get_or, length, refl, set, sym, take}
-use Rattle.std.proofs.Common.{codes, map, suc, true, zero}
-use Rattle.std.specs.List.{flat_map, list_all}
-use Rattle.std.specs.Prelude.{option_to_list}
+use Rattle.std.proofs.Common.{codes, map, suc, true, zero, option_to_list}
+use Rattle.register_sheets.proofs.Common.{flat_map, Fields, asked_targets, AskedColumn, DayNumber}
+use Rattle.std.specs.List.{list_all}
 use Rattle.std.proofs.lemmas.List.{take_more, take_more_set}
 use Rattle.std.proofs.lemmas.List.Concat.{flat_map-append}
 use Rattle.register_records.specs.Columns.{Column, cell_columns, kind_columns, tail_order}
-use Rattle.register_records.specs.Entries.{Fields}
 use Rattle.register_records.specs.Outcomes.{TableRow}
 use Rattle.date_texts.specs.declared.target.Target.{Target}
 use Rattle.register_sheets.specs.AskedViews.{day_columns, has_cells}
-use Rattle.register_sheets.specs.Choices.{asked_targets, target_in}
+use Rattle.register_sheets.specs.Choices.{target_in}
 use Rattle.register_sheets.specs.Converted.{asked_fields, asked_text, asked_texts, cells_taken, shown_in}
-use Rattle.register_sheets.specs.declared.choices.AskedColumn.{AskedColumn}
-use Rattle.register_sheets.specs.declared.choices.AskedColumn.TheVariants.{Cells, Church, DayNumber, Weekday}
+use Rattle.register_sheets.specs.declared.choices.AskedColumn.TheVariants.{Cells, Church, Weekday}
 use Rattle.register_sheets.proofs.RowLemmas.{drop_both, same_head}
 
 pub asked_step : (columns : List AskedColumn) (i : ℕ) (d : AskedColumn) (row : TableRow) (cells : List (List ℕ))
@@ -26,16 +24,14 @@ asked_step columns i d row cells taken more made all lt is e =
     let column = get_or columns i d in
     append_assoc made (asked_text column row (drop taken cells) ∷ []) _
     ∙ ap (λ rest. made ++ asked_text column row (drop taken cells) ∷ asked_texts (drop (i + 1) columns) row rest)
-    (sym (drop_both taken more (taken + more) cells refl)
-    ∙ ap (λ n. drop n (drop taken cells)) is)
+    (sym (drop_both taken more (taken + more) cells refl) ∙ ap (λ n. drop n (drop taken cells)) is)
     ∙ ap (λ rest. made ++ asked_texts rest row (drop taken cells))
     (sym (drop-cons columns i d lt ∙ ap (λ j. column ∷ drop j columns) (sym (add-one i)))) ∙ e
 
 targets_more : (columns : List AskedColumn) (i : ℕ) (d : AskedColumn) → i < length columns
     → asked_targets (take (i + 1) columns) ≡ asked_targets (take i columns) ++ target_in (get_or columns i d)
 targets_more columns i d lt =
-    ap asked_targets (take_more columns i d lt)
-    ∙ flat_map-append target_in (take i columns) (get_or columns i d ∷ [])
+    ap asked_targets (take_more columns i d lt) ∙ flat_map-append target_in (take i columns) (get_or columns i d ∷ [])
     ∙ ap (λ ts. asked_targets (take i columns) ++ ts) (append-nil (target_in (get_or columns i d)))
 
 pub target_taken : (columns : List AskedColumn) (i : ℕ) (d : AskedColumn) (o : Option Target) (t : Target) (ts : List Target)
@@ -43,8 +39,7 @@ pub target_taken : (columns : List AskedColumn) (i : ℕ) (d : AskedColumn) (o :
     → take count ts ≡ asked_targets (take i columns)
     → take (count + 1) (set ts count t) ≡ asked_targets (take (i + 1) columns)
 target_taken columns i d o t ts count lt room is some e =
-    take_more_set ts count t room
-    ∙ ap (λ front. front ++ t ∷ []) e
+    take_more_set ts count t room ∙ ap (λ front. front ++ t ∷ []) e
     ∙ ap (λ one. asked_targets (take i columns) ++ one) (sym (ap option_to_list some) ∙ is)
     ∙ sym (targets_more columns i d lt)
 
@@ -73,8 +68,7 @@ cells_shown [] [] row place all same = refl
 cells_shown (Cells t ∷ columns) (u ∷ ts) row place all same =
     ap (λ (rest : Fields). get_or (drop place row.cells) 0 [] ∷ rest)
     (ap (λ (cells : List (List ℕ)). asked_texts columns row cells ++ shown_in (codes "refusal") row ∷ [])
-    (drop_both place 1 (place + 1) row.cells refl)
-    ∙ cells_shown columns ts row (place + 1) all (omega arith))
+    (drop_both place 1 (place + 1) row.cells refl) ∙ cells_shown columns ts row (place + 1) all (omega arith))
     ∙ ap (λ (text : List ℕ). text ∷ map (λ (c : Column). c.field row) (cell_columns (place + 1) ts ++ behind_cells))
     (same_head place row.cells [])
 cells_shown (column ∷ columns) [] row place all same = absurd (omega arith)

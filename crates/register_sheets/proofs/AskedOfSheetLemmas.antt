@@ -1,45 +1,25 @@
 -- When what is asked of a sheet is a choice, and which.
-use Rattle.std.proofs.Common.{◌≡◌, ◌≢◌, ◌↔◌, List, ℕ, false, length, map, refl, subst, sym, true}
-use Rattle.std.specs.Prelude.{Err, IfErr, IfOk, Ok, Result, nat_lt}
-use Rattle.register_records.specs.Entries.{Fields}
-use Rattle.register_records.specs.SetupRules.{is_delimiter}
+use Rattle.std.proofs.Common.{◌≡◌, List, ℕ, map, subst, sym, Err, IfErr, IfOk, Ok}
+use Rattle.std.proofs.Common.{Result}
+use Rattle.register_sheets.proofs.Common.{Fields, CalendarMeaning, Name, SheetChoice}
 use Rattle.written_dates.specs.Fields.{bare_name, entries}
-use Rattle.written_dates.specs.declared.fields.CalendarMeaning.{CalendarMeaning}
 use Rattle.written_dates.specs.declared.fields.CalendarName.{CalendarName}
-use Rattle.written_dates.specs.declared.meanings.Name.{Name}
-use Rattle.register_sheets.specs.AskedOfSheets.{HasHeadings, IsChoice, IsChoiceBy, IsChoiceOf, IsListedChoice}
-use Rattle.register_sheets.specs.AskedOfSheets.{SheetAsked, asked_in}
-use Rattle.register_sheets.specs.Choices.{AsksOnce, HasDates, added, column_limit}
+use Rattle.register_sheets.specs.AskedOfSheets.{HasFault, HasHeadings, IsChoice, IsChoiceBy, IsChoiceOf}
+use Rattle.register_sheets.specs.AskedOfSheets.{IsListedChoice, SheetAsked, asked_in}
 use Rattle.register_sheets.specs.NameLists.{calendar_names_in, calendar_seen, name_seen, names_in_dates}
 use Rattle.register_sheets.specs.declared.asked_of_sheets.AskedByNames.{AskedByNames}
 use Rattle.register_sheets.specs.declared.choices.ChoiceFault.{ChoiceFault}
 use Rattle.register_sheets.specs.declared.choices.ChoiceFault.TheVariants as fault
-use Rattle.register_sheets.specs.declared.choices.SheetChoice.{SheetChoice}
 use Rattle.register_sheets.specs.declared.choices.SheetSetup.{SheetSetup}
 use Rattle.register_sheets.specs.declared.name_lists.NameLine.{NameLine}
 
 -- a choice that was refused is none
-no_choice : (choice : SheetChoice) (why : ChoiceFault) (r : Result SheetSetup ChoiceFault) → r ≡ Err why
-    → ((r ≡ Err fault.Dates) ↔ ¬ (HasDates choice))
-    → ((r ≡ Err fault.TooManyColumns)
-    ↔ (HasDates choice × (nat_lt column_limit (length choice.columns.now) ≡ true)))
-    → ((r ≡ Err fault.ColumnTwice) ↔ (HasDates choice
-    × (nat_lt column_limit (length choice.columns.now) ≡ false) × ¬ (AsksOnce choice)))
-    → ((r ≡ Err fault.Delimiter)
-    ↔ (HasDates choice × AsksOnce choice × (is_delimiter choice.delimiter ≡ false)))
-    → ((r ≡ Err fault.Headings)
-    ↔ (HasDates choice × AsksOnce choice × (is_delimiter choice.delimiter ≡ true)
-    × (length choice.headings.now ≢ added choice)))
-    → ¬ (IsChoice choice)
-no_choice choice fault.Dates r is dates many twice delimiter headings ok = dates.0 is ok.dated
-no_choice choice fault.TooManyColumns r is dates many twice delimiter headings ok =
-    let (dated, over) = many.0 is in let few = ok.once.few in absurd (cc)
-no_choice choice fault.ColumnTwice r is dates many twice delimiter headings ok =
-    let (dated, few, again) = twice.0 is in again ok.once
-no_choice choice fault.Delimiter r is dates many twice delimiter headings ok =
-    let (dated, once, other) = delimiter.0 is in let right = ok.delimited in absurd (cc)
-no_choice choice fault.Headings r is dates many twice delimiter headings ok =
-    let (dated, once, right, other) = headings.0 is in other ok.headed
+no_choice : (choice : SheetChoice) (why : ChoiceFault) → HasFault choice why → ¬ (IsChoice choice)
+no_choice choice fault.Dates none ok = none ok.dated
+no_choice choice fault.TooManyColumns (dated, over) ok = let few = ok.once.few in absurd (cc)
+no_choice choice fault.ColumnTwice (dated, few, again) ok = again ok.once
+no_choice choice fault.Delimiter (dated, once, other) ok = let right = ok.delimited in absurd (cc)
+no_choice choice fault.Headings (dated, once, right, other) ok = other ok.headed
 
 -- the choice is the same by what is the same
 same_choice : (a b : SheetAsked) (m n : List Name) (p q : List (List ℕ × CalendarMeaning)) (x y : Fields)
@@ -65,32 +45,11 @@ listed_choice by asked lines sheet in_dates of_calendars headings choice dates c
       chosen = same_choice _ _ _ _ _ _ _ _ choice ea en ec eh is;
     }
 
--- what a value asks was refused as a choice
-pub refused_choice : (by : AskedByNames) (choice : SheetChoice) (r : Result SheetSetup ChoiceFault)
-    → ((r ≡ Err fault.Dates) ↔ ¬ (HasDates choice))
-    → ((r ≡ Err fault.TooManyColumns)
-    ↔ (HasDates choice × (nat_lt column_limit (length choice.columns.now) ≡ true)))
-    → ((r ≡ Err fault.ColumnTwice) ↔ (HasDates choice
-    × (nat_lt column_limit (length choice.columns.now) ≡ false) × ¬ (AsksOnce choice)))
-    → ((r ≡ Err fault.Delimiter)
-    ↔ (HasDates choice × AsksOnce choice × (is_delimiter choice.delimiter ≡ false)))
-    → ((r ≡ Err fault.Headings)
-    ↔ (HasDates choice × AsksOnce choice × (is_delimiter choice.delimiter ≡ true)
-    × (length choice.headings.now ≢ added choice)))
-    → IsChoiceBy by choice
-    → IfErr r (λ why. (found : SheetChoice) × IsChoiceBy by found × ¬ (IsChoice found))
-refused_choice by choice (Ok setup) dates many twice delimiter headings of = tt
-refused_choice by choice (Err why) dates many twice delimiter headings of =
-    (choice, of, no_choice choice why (Err why) refl dates many twice delimiter headings)
-
--- and what was taken is a choice
-pub taken_choice : (by : AskedByNames) (choice : SheetChoice) (r : Result SheetSetup ChoiceFault)
-    → IfOk r (λ setup. setup.choice ≡ choice)
-    → IfOk r (λ setup. HasDates choice × AsksOnce choice × (is_delimiter choice.delimiter ≡ true)
-    × (length choice.headings.now ≡ added choice))
+-- what a value asks is a choice, or was refused as one
+pub chosen_by : (by : AskedByNames) (choice : SheetChoice) (r : Result SheetSetup ChoiceFault)
+    → IfOk r (λ setup. setup.choice ≡ choice) → IfOk r (λ setup. IsChoice choice) → IfErr r (HasFault choice)
     → IsChoiceBy by choice → IfOk r (λ setup. IsChoiceBy by setup.choice × IsChoice setup.choice)
-taken_choice by choice (Ok setup) value good of = (
-  subst (IsChoiceBy by) (sym value) of,
-  subst IsChoice (sym value) (record { dated = good.0; once = good.1; delimited = good.2; headed = good.3 }),
-)
-taken_choice by choice (Err why) value good of = tt
+    × IfErr r (λ why. (found : SheetChoice) × IsChoiceBy by found × ¬ (IsChoice found))
+chosen_by by choice (Ok setup) value good none of =
+    ((subst (IsChoiceBy by) (sym value) of, subst IsChoice (sym value) good), tt)
+chosen_by by choice (Err why) value good none of = (tt, (choice, of, no_choice choice why none))

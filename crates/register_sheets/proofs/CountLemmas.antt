@@ -1,22 +1,19 @@
 -- Dates that were refused or are empty are counted record by record.
 use Rattle.std.proofs.Common.{◌≡◌, ◌≤◌, ◌<◌, ◌∙◌, ◌+◌, ◌++◌, ℕ, zero, suc, List, [], ◌∷◌, Option, None, Some, Bool}
-use Rattle.std.proofs.Common.{true, false}
-use Rattle.std.proofs.Common.{ap, append-nil, arith, cond, count_by, get_or, get_or-set_other, get_or-set_same, inl}
-use Rattle.std.proofs.Common.{inr, length, length-append, map, refl, replicate, set, sym}
-use Rattle.std.specs.Prelude.{if◌then◌else◌, slice_get}
-use Rattle.std.specs.List.{flat_map, zip}
+use Rattle.std.proofs.Common.{true, false, ap, append-nil, arith, cond, count_by, get_or, get_or-set_other}
+use Rattle.std.proofs.Common.{get_or-set_same, inl, inr, length, length-append, map, refl, replicate, set, sym}
+use Rattle.std.proofs.Common.{if◌then◌else◌, slice_get}
+use Rattle.register_sheets.proofs.Common.{flat_map, Refusal, Fields, Dated, CountsDates, AreSheetCounts, no_counts}
+use Rattle.register_sheets.proofs.Common.{DateColumn}
+use Rattle.std.specs.List.{zip}
 use Rattle.std.proofs.lemmas.Bool.Decides.{eqb_tells}
 use Rattle.std.proofs.lemmas.List.Concat.{flat_map-append}
 use Rattle.std.proofs.lemmas.List.Sums.{count_by-le-length, sum_by-append}
-use Rattle.date_texts.specs.declared.refusal.Refusal.{Refusal}
 use Rattle.date_texts.specs.declared.refusal.Refusal.TheVariants as refusals
-use Rattle.register_records.specs.Entries.{Fields}
-use Rattle.register_sheets.specs.DateEnds.{Dated}
 use Rattle.register_records.specs.RefusalCounts.{count_of}
-use Rattle.register_sheets.specs.CountViews.{AreUpTo, CountsDates, CountsRecord}
-use Rattle.register_sheets.specs.DateCounts.{AreDateCounts, AreSheetCounts, DateRow, date_at, date_of, dates_at}
-use Rattle.register_sheets.specs.DateCounts.{is_blank_record, is_empty, is_refused, is_refused_with, is_span, no_counts}
-use Rattle.register_sheets.specs.declared.choices.DateColumn.{DateColumn}
+use Rattle.register_sheets.specs.CountViews.{AreUpTo, CountsRecord}
+use Rattle.register_sheets.specs.DateCounts.{AreDateCounts, DateRow, date_at, date_of, dates_at, is_blank_record}
+use Rattle.register_sheets.specs.DateCounts.{is_empty, is_refused, is_refused_with, is_span}
 use Rattle.register_sheets.specs.declared.date_counts.DateCounts.{DateCounts}
 use Rattle.register_sheets.specs.declared.date_counts.SheetCounts.{SheetCounts}
 
@@ -50,14 +47,12 @@ zip_more (a ∷ xs) (b ∷ ys) x y e = ap (λ rest. (a, b) ∷ rest) (zip_more x
 zip_more [] (b ∷ ys) x y e = absurd (omega arith)
 zip_more (a ∷ xs) [] x y e = absurd (omega arith)
 
-dates_more : (columns : List DateColumn) (place : ℕ) (done : List Fields) (rows : List (List Dated)) (fields :
-    Fields)
+dates_more : (columns : List DateColumn) (place : ℕ) (done : List Fields) (rows : List (List Dated)) (fields : Fields)
     (one : List Dated) → length done ≡ length rows → dates_at columns place (done ++ fields ∷ []) (rows ++ one ∷ [])
     ≡ dates_at columns place done rows ++ date_at columns place fields one
 dates_more columns place done rows fields one e =
     let f : Fields × List Dated → List DateRow = λ r. date_at columns place r.0 r.1 in
-    ap (flat_map f) (zip_more done rows fields one e)
-    ∙ flat_map-append f (zip done rows) ((fields, one) ∷ [])
+    ap (flat_map f) (zip_more done rows fields one e) ∙ flat_map-append f (zip done rows) ((fields, one) ∷ [])
     ∙ ap (λ dates. dates_at columns place done rows ++ dates) (append-nil (date_at columns place fields one))
 
 pub counts_more : (columns : List DateColumn) (done : List Fields) (rows : List (List Dated)) (fields : Fields)
@@ -77,8 +72,7 @@ counts_more columns done rows fields one old new same all more =
               then_.refused,
               before.refused,
               both is_refused xs ys,
-              ap (count_by is_refused)
-                  next,
+              ap (count_by is_refused) next,
             );
             reasons = λ refusal.
                 omega (
@@ -151,13 +145,11 @@ seen_slot f (x ∷ xs) zero d low = refl
 seen_slot f (x ∷ xs) (suc i) d low = seen_slot f xs i d (omega arith)
 
 -- the date at one place more is counted
-pub place_counted : (columns : List DateColumn) (fields : Fields) (rows : List Dated) (place : ℕ) (column :
-    DateColumn)
+pub place_counted : (columns : List DateColumn) (fields : Fields) (rows : List Dated) (place : ℕ) (column : DateColumn)
     (row : Dated) (old mid : List DateCounts) (next : DateCounts) → place < length mid
     → slice_get columns place ≡ Some column → slice_get rows place ≡ Some row → is_blank_record fields ≡ false
     → CountsDates ((get_or fields column.date [], row) ∷ []) (get_or mid place no_counts) next
-    → ((q : ℕ) → place ≤ q → get_or mid q no_counts ≡ get_or old q no_counts)
-    → ((q : ℕ) → q < place
+    → ((q : ℕ) → place ≤ q → get_or mid q no_counts ≡ get_or old q no_counts) → ((q : ℕ) → q < place
     → CountsDates (date_at columns q fields rows) (get_or old q no_counts) (get_or mid q no_counts)) → (q : ℕ)
     → q < place + 1
     → CountsDates (date_at columns q fields rows) (get_or old q no_counts) (get_or (set mid place next) q no_counts)

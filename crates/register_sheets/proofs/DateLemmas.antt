@@ -1,42 +1,22 @@
 -- What is read for a date.
-use Rattle.std.proofs.Common.{◌≡◌, ◌∙◌, [], ℕ, ℤ, Bool, List, Option, Vec, ap, cond, false, get_or, is_ok, refl, subst}
-use Rattle.std.proofs.Common.{Err, Ok, Result, option_map, sym, true}
+use Rattle.std.proofs.Common.{◌≡◌, ◌∙◌, [], ℕ, ℤ, Bool, List, Option, Vec, ap, cond, false, is_ok, refl, subst, Err, Ok}
+use Rattle.std.proofs.Common.{Result, option_map, sym, true}
+use Rattle.register_sheets.proofs.Common.{Refusal, Fields, calendar_of, CalendarMeaning, asked_targets, calendar_for}
+use Rattle.register_sheets.proofs.Common.{id_text, meaning_for, AreEndsIn, DatedEnd, as_text, DateStop, IsStopBy}
+use Rattle.register_sheets.proofs.Common.{IsDateRead, date_seen, dated_seen, DateColumn, SheetChoice, ColumnDates}
 use Rattle.std.specs.declared.alloc.Global.{Global}
-use Rattle.std.specs.Result.{result_ok}
 use Rattle.std.proofs.lemmas.Bool.Decides.{Decides-int_eq}
-use Rattle.date_spans.specs.Edtf.{IsEdtf}
-use Rattle.date_spans.specs.declared.edtf.Sense.{Sense}
 use Rattle.date_spans.specs.declared.spans.Marks.{Marks}
-use Rattle.date_texts.specs.declared.refusal.Refusal.{Refusal}
-use Rattle.register_records.specs.Entries.{Fields}
 use Rattle.register_records.specs.Outcomes.{IsRowOf}
-use Rattle.written_dates.specs.Fields.{calendar_of}
-use Rattle.written_dates.specs.declared.fields.CalendarMeaning.{CalendarMeaning}
 use Rattle.register_sheets.specs.CalendarChanges.{EndText}
-use Rattle.register_sheets.specs.Choices.{asked_targets, calendar_for, called_for, date_text, id_text, meaning_for}
-use Rattle.register_sheets.specs.DateEnds.{AreEndsIn, Dated, DatedEnd, IsEdtfIf, IsEdtfOf, as_text}
-use Rattle.register_sheets.specs.DateEnds.{is_failed, is_open, sense_of, telling}
+use Rattle.register_sheets.specs.Choices.{called_for, date_text}
+use Rattle.register_sheets.specs.DateEnds.{IsEdtfOf, is_failed, is_open, telling}
 use Rattle.register_sheets.specs.DateCounts.{is_one_day}
-use Rattle.register_sheets.specs.DateStops.{DateStop, IsStopBy}
 use Rattle.register_sheets.specs.DateViews.{HasRows, end_entry}
-use Rattle.register_sheets.specs.SheetRecords.{IsDateRead, date_seen, dated_seen, stop_read}
-use Rattle.register_sheets.specs.declared.choices.DateColumn.{DateColumn}
-use Rattle.register_sheets.specs.declared.choices.SheetChoice.{SheetChoice}
-use Rattle.register_sheets.specs.declared.sheet_records.ColumnDates.{ColumnDates}
-use Rattle.register_sheets.specs.declared.sheet_records.ReadStop.{ReadStop}
-
-pub edtf_there : (b : Bool) (dated : Dated) (sense : Sense) (n k : Option ℤ) → b ≡ true → sense ≡ sense_of dated.marks
-    → n ≡ result_ok dated.first.row.outcome → k ≡ result_ok dated.last.row.outcome → IsEdtf sense n k dated.edtf
-    → IsEdtfIf b dated
-edtf_there b dated sense n k is same first last h =
-    subst (λ (there : Bool). IsEdtfIf there dated) (sym is)
-    (subst (λ (m : Option ℤ). IsEdtf (sense_of dated.marks) (result_ok dated.first.row.outcome) m dated.edtf) last
-    (subst (λ (m : Option ℤ). IsEdtf (sense_of dated.marks) m k dated.edtf) first
-    (subst (λ (s : Sense). IsEdtf s n k dated.edtf) same h)))
+use Rattle.register_sheets.specs.SheetRecords.{stop_read}
 
 -- one end that is both tells for itself, and is one day where it has one
-told_by : (failed open_end : Bool) (end : DatedEnd)
-    → cond failed end (cond failed end (cond open_end end end)) ≡ end
+told_by : (failed open_end : Bool) (end : DatedEnd) → cond failed end (cond failed end (cond open_end end end)) ≡ end
 told_by true open_end end = refl
 told_by false true end = refl
 told_by false false end = refl
@@ -67,8 +47,7 @@ pub date_is_read : (choice : SheetChoice) (column : DateColumn) (number : ℕ) (
     → mid.calendar.items ≡ calendar_for choice column fields
     → meant ≡ meaning_for choice column fields → id ≡ id_text choice.id number fields
     → AreEndsIn meant choice.spans choice.reading choice.names.now.listed.now (date_text choice column fields)
-    (as_text (dated_seen mid).first) (as_text (dated_seen mid).last) mid.marks
-    → HasRows choice number id mid rows
+    (as_text (dated_seen mid).first) (as_text (dated_seen mid).last) mid.marks → HasRows choice number id mid rows
     → IsStopBy choice column fields (dated_seen rows).first.text (option_map calendar_of meant) stop
     → stop_read new.stop ≡ stop → new.calendar ≡ rows.calendar
     → (dated_seen new).first ≡ (dated_seen rows).first → (dated_seen new).last ≡ (dated_seen rows).last

@@ -1,18 +1,11 @@
 -- Writers beside one another, each for the output at its place.
-use Rattle.std.proofs.Common.{◌≡◌, ◌≢◌, ◌≤◌, ◌<◌, ◌∙◌, ◌++◌, ◌+◌, ℕ, zero, suc, List, [], ◌∷◌, Option, Some, ap}
-use Rattle.std.proofs.Common.{arith, inl, inr, length, refl}
-use Rattle.std.proofs.Common.{set, subst, sym}
-use Rattle.std.specs.Prelude.{Err, Ok, Result, slice_get}
+use Rattle.std.proofs.Common.{◌≡◌, ◌≢◌, ◌≤◌, ◌<◌, ◌∙◌, ◌++◌, ◌+◌, ℕ, zero, suc, List, [], ◌∷◌, Some, ap, arith, inl}
+use Rattle.std.proofs.Common.{inr, length, refl, set, subst, sym, Err, Ok, Result, slice_get}
+use Rattle.register_sheets.proofs.Common.{Fields, Gathers, first_fault, RecordRead, SheetCause, SheetChoice, LineWriter}
 use Rattle.std.proofs.lemmas.Bool.Decides.{eqb_tells}
 use Rattle.std.proofs.lemmas.Option.{slice_get_within}
-use Rattle.register_records.specs.Entries.{Fields}
 use Rattle.register_records.specs.declared.outputs.Output as outputs
-use Rattle.register_sheets.specs.LineWriters.{Each, Gathers, GathersEach}
-use Rattle.register_sheets.specs.Produced.{first_fault}
-use Rattle.register_sheets.specs.SheetRecords.{RecordRead}
-use Rattle.register_sheets.specs.declared.sheet_ends.SheetCause.{SheetCause}
-use Rattle.register_sheets.specs.declared.choices.SheetChoice.{SheetChoice}
-use Rattle.register_sheets.specs.declared.line_writers.LineWriter.{LineWriter}
+use Rattle.register_sheets.specs.LineWriters.{Each, GathersEach}
 use Rattle.register_sheets.proofs.CountLemmas.{one_found}
 use Rattle.register_sheets.proofs.LineWriterLemmas.{gathers_more, gathers_none}
 
@@ -74,13 +67,10 @@ module _ {M W : Type 0} (Did : ℕ → M → M → W → W → Type 0) where
                   let same_v : v ≡ v0
                   = one_found (slice_get (set mid i v) place) v v0 (ap (slice_get (set mid i v)) here.1 ∙ set_there mid
                   i v low) f in
-                  let same_a : a ≡ a0
-                  = one_found (slice_get (set middle i a) place) a a0
+                  let same_a : a ≡ a0 = one_found (slice_get (set middle i a) place) a a0
                   (ap (slice_get (set middle i a)) here.1 ∙ set_there middle i a room) k in
-                  subst (λ (n : ℕ). Did n w0 v0 b0 a0) (sym here.1)
-                  (subst (λ (x : M). Did i x v0 b0 a0) same_w
-                  (subst (λ (x : M). Did i w x b0 a0) same_v
-                  (subst (λ (x : W). Did i w v x a0) same_b
+                  subst (λ (n : ℕ). Did n w0 v0 b0 a0) (sym here.1) (subst (λ (x : M). Did i x v0 b0 a0) same_w
+                  (subst (λ (x : M). Did i w x b0 a0) same_v (subst (λ (x : W). Did i w v x a0) same_b
                   (subst (λ (x : W). Did i w v b x) same_a did))))
               | inr other ↦
                   h.done place w0 v0 b0 a0 e (sym (set_elsewhere mid i place v other.1) ∙ f) g
@@ -104,8 +94,7 @@ module _ {M W : Type 0} (Did : ℕ → M → M → W → W → Type 0) where
 
 -- what they did may be said otherwise
 pub up_to_as : {M W : Type 0} (Did Does : ℕ → M → M → W → W → Type 0) (count : ℕ) (old new : List M) (before after :
-    List W)
-    → ((place : ℕ) (w v : M) (b a : W) → place < count → Did place w v b a → Does place w v b a)
+    List W) → ((place : ℕ) (w v : M) (b a : W) → place < count → Did place w v b a → Does place w v b a)
     → UpTo Did count old new before after → UpTo Does count old new before after
 up_to_as Did Does count old new before after f h =
     record {
@@ -154,8 +143,7 @@ answer_last (x ∷ answers) answer zero e = absurd (omega arith)
 answer_last (x ∷ answers) answer (suc i) e = answer_last answers answer i (omega arith)
 
 pub answer_kept : {X : Type 0} (answers : List X) (answer : X) (place : ℕ) (found : X) → slice_get answers place ≡ Some
-    found
-    → slice_get (answers ++ answer ∷ []) place ≡ Some found
+    found → slice_get (answers ++ answer ∷ []) place ≡ Some found
 answer_kept [] answer place found e = absurd (cc)
 answer_kept (x ∷ answers) answer zero found e = e
 answer_kept (x ∷ answers) answer (suc place) found e = answer_kept answers answer place found e

@@ -1,24 +1,17 @@
 -- What is not known is counted date by date.
-use Rattle.std.proofs.Common.{◌≡◌, ◌≤◌, ◌<◌, ◌+◌, ◌*◌, ◌^◌, ◌∙◌, ◌++◌, ℕ, zero, suc, List, [], ◌∷◌, Option, None}
-use Rattle.std.proofs.Common.{Some, inl, inr}
-use Rattle.std.proofs.Common.{ap, append-nil, append_assoc, arith, get_or, length, map, refl, sym, take}
-use Rattle.std.specs.Prelude.{option_to_list}
-use Rattle.std.specs.List.{AllZip}
+use Rattle.std.proofs.Common.{◌≡◌, ◌≤◌, ◌<◌, ◌+◌, ◌*◌, ◌^◌, ◌∙◌, ◌++◌, ℕ, zero, suc, List, [], ◌∷◌, Option, None, Some}
+use Rattle.std.proofs.Common.{inl, inr, ap, append-nil, append_assoc, arith, get_or, length, map, sym, take}
+use Rattle.std.proofs.Common.{option_to_list}
+use Rattle.register_sheets.proofs.Common.{AllZip, Fields, line_text, DateStop, NameStop, SheetDate, records_text}
+use Rattle.register_sheets.proofs.Common.{NameCount, all_dates, is_alike, list_head, name_record, name_seen, DateColumn}
+use Rattle.register_sheets.proofs.Common.{SheetChoice, UnknownName}
 use Rattle.std.proofs.lemmas.List.{flat_map_more, length-append, length-map, map-append, take_more}
 use Rattle.std.proofs.lemmas.List.Concat.{flat_map-append}
 use Rattle.std.proofs.lemmas.List.Sums.{count_by-le-length}
-use Rattle.register_records.specs.Entries.{Fields}
-use Rattle.register_records.specs.Lines.{line_text}
-use Rattle.register_sheets.specs.DateStops.{DateStop, NameStop, SheetDate, name_in}
-use Rattle.register_sheets.specs.Sheets.{records_text}
-use Rattle.register_sheets.specs.UnknownNames.{NameCount, all_dates, counted, dates_of, firsts, is_alike, is_other}
-use Rattle.register_sheets.specs.UnknownNames.{list_head}
-use Rattle.register_sheets.specs.UnknownNames.{name_record, name_seen, names_in}
+use Rattle.register_sheets.specs.DateStops.{name_in}
+use Rattle.register_sheets.specs.UnknownNames.{counted, dates_of, firsts, is_other, names_in}
 use Rattle.register_sheets.specs.UnknownViews.{HasNames, HasRoom}
-use Rattle.register_sheets.specs.declared.choices.DateColumn.{DateColumn}
-use Rattle.register_sheets.specs.declared.choices.SheetChoice.{SheetChoice}
 use Rattle.register_sheets.specs.declared.stopped_names.StoppedNames.{StoppedNames}
-use Rattle.register_sheets.specs.declared.stopped_names.UnknownName.{UnknownName}
 
 -- no count is above the number of stops
 low_at : (stops : List NameStop) (items : List UnknownName) (names : List NameStop)
@@ -42,13 +35,6 @@ has_room most stops names are few =
     }
 
 -- of each date there is what stopped it
-pub zip_length : {A B : Type 0} (P : A → B → Type 0) (xs : List A) (ys : List B) → AllZip P xs ys
-    → length ys ≡ length xs
-zip_length P [] [] zip = refl
-zip_length P [] (y ∷ ys) zip = absurd zip
-zip_length P (x ∷ xs) [] zip = absurd zip
-zip_length P (x ∷ xs) (y ∷ ys) zip = omega (arith, zip_length P xs ys zip.1)
-
 pub zip_both : {A B : Type 0} (P : A → B → Type 0) (xs : List A) (ys : List B) (us : List A) (vs : List B)
     → AllZip P xs ys → AllZip P us vs → AllZip P (xs ++ us) (ys ++ vs)
 zip_both P [] [] us vs zip more = more
@@ -105,8 +91,7 @@ dates_more choice records fields =
 
 -- one more name of a list
 pub listed_more : (names : List UnknownName) (k : ℕ) (name : UnknownName) → k < length names
-    → name ≡ get_or names k name
-    → records_text 44 (list_head ∷ map name_record (map name_seen (take k names)))
+    → name ≡ get_or names k name → records_text 44 (list_head ∷ map name_record (map name_seen (take k names)))
     ++ line_text 44 (name_record (name_seen name))
     ≡ records_text 44 (list_head ∷ map name_record (map name_seen (take (k + 1) names)))
 listed_more names k name lt is =

@@ -1,25 +1,18 @@
 -- Headings are named one after the other.
-use Rattle.std.proofs.Common.{◌≡◌, ◌<◌, ◌≤◌, ◌+◌, ◌∙◌, ◌++◌, ℕ, zero, suc, Bool, true, false, List, [], ◌∷◌, refl, sym, ap, subst}
-use Rattle.std.proofs.Common.{arith, append_assoc, append-nil, drop, get_or, length, map, take, ◌||◌}
-use Rattle.std.specs.Str.{bytes_eq}
+use Rattle.std.proofs.Common.{◌≡◌, ◌<◌, ◌≤◌, ◌+◌, ◌∙◌, ◌++◌, ℕ, zero, suc, Bool, true, false, List, [], ◌∷◌, refl, sym}
+use Rattle.std.proofs.Common.{ap, subst, arith, append_assoc, append-nil, drop, get_or, length, map, take, ◌||◌, Vec}
+use Rattle.register_sheets.proofs.Common.{bytes_eq, fields_of, Fields, NamesMore, taken_by, wanted_all, DateColumn}
+use Rattle.register_sheets.proofs.Common.{is_taken, items_of, AskedColumn}
 use Rattle.std.specs.Fmt.{decimal}
-use Rattle.std.specs.Prelude.{Vec}
 use Rattle.std.specs.declared.alloc.Global.{Global}
 use Rattle.std.proofs.lemmas.Cmp.{nat_list_eq_equiv}
 use Rattle.std.proofs.lemmas.List.{at_drop_more, map-append, take_more}
-use Rattle.csv.specs.Records.{fields_of}
-use Rattle.register_records.specs.Entries.{Fields}
-use Rattle.register_sheets.specs.HeadingViews.{NamesMore, taken_by, wanted_all}
-use Rattle.register_sheets.specs.declared.choices.DateColumn.{DateColumn}
-use Rattle.register_sheets.specs.Headings.{AreHeadings, IsHeading, is_taken, items_of, numbered}
-use Rattle.register_sheets.specs.Headings.{wanted_heading}
-use Rattle.register_sheets.specs.declared.choices.AskedColumn.{AskedColumn}
+use Rattle.register_sheets.specs.Headings.{AreHeadings, IsHeading, numbered, wanted_heading}
 use Rattle.register_sheets.specs.declared.new_headings.NewNames.{NewNames}
 
 -- the name with this number is free, and those before it are not
 pub first_free : (taken : Fields) (wanted name : List ℕ) (n : ℕ) → 2 ≤ n → name ≡ wanted ++ 32 ∷ decimal n
-    → is_taken taken name ≡ false
-    → ((fewer : ℕ) → fewer + 1 < n → is_taken taken (numbered wanted fewer) ≡ true)
+    → is_taken taken name ≡ false → ((fewer : ℕ) → fewer + 1 < n → is_taken taken (numbered wanted fewer) ≡ true)
     → IsHeading taken wanted name
 first_free taken wanted name zero low e free least = absurd (omega arith)
 first_free taken wanted name (suc zero) low e free least = absurd (omega arith)
@@ -90,8 +83,7 @@ taken_next (x ∷ xs) (suc k) name lt =
 
 -- a new name is that at this place, or stands behind it
 pub made_next : (made : List (Vec ℕ Global)) (k : ℕ) (text : Vec ℕ Global) (name : List ℕ) → k < length made
-    → text ≡ get_or made k text
-    → is_taken (items_of (drop k made)) name
+    → text ≡ get_or made k text → is_taken (items_of (drop k made)) name
     ≡ (bytes_eq name text.items || is_taken (items_of (drop (k + 1) made)) name)
 made_next made k text name lt is =
     at_drop_more (λ (xs : List (Vec ℕ Global)). is_taken (items_of xs) name) made k text lt

@@ -1,20 +1,14 @@
 -- Laws of dates that name their calendars.
-use Rattle.std.proofs.Common.{◌≡◌, ◌∙◌, ℕ, List, None, Option, Some, ap, get_or, inl, inr, [], refl, subst, sym, true}
+use Rattle.std.proofs.Common.{◌≡◌, ◌∙◌, ℕ, List, None, Option, ap, get_or, inl, inr, [], refl, subst, sym, true}
+use Rattle.register_sheets.proofs.Common.{Fields, CalendarMeaning, calendar_for, id_text, meaning_for, AreEndsIn, Dated}
+use Rattle.register_sheets.proofs.Common.{as_text, DateColumn, SheetChoice}
 use Rattle.std.specs.Char.{is_ascii_digit}
 use Rattle.std.proofs.lemmas.Bool.{cases_Bool}
-use Rattle.register_records.specs.Entries.{Fields}
-use Rattle.date_texts.specs.Calendars.{calendar_name}
-use Rattle.written_dates.specs.declared.fields.CalendarMeaning.{CalendarMeaning}
-use Rattle.written_dates.specs.declared.fields.CalendarMeaning.TheVariants.{One}
-use Rattle.register_sheets.specs.Choices.{calendar_for, calendar_text, date_text, id_text, meaning_for, meaning_in, own_by}
-use Rattle.register_sheets.specs.Choices.{own_in}
-use Rattle.register_sheets.specs.DateEnds.{AreEndsIn, Dated, IsDated, as_text}
+use Rattle.register_sheets.specs.Choices.{calendar_text, date_text, meaning_in, own_by, own_in}
+use Rattle.register_sheets.specs.DateEnds.{IsDated}
 use Rattle.register_sheets.specs.Laws.{DigitsNameNone, NamesAreColumns}
-use Rattle.register_sheets.specs.OwnCalendars.{OwnDate, has_styles, last_byte, or_calendar, or_date, or_meaning, own_date}
+use Rattle.register_sheets.specs.OwnCalendars.{has_styles, last_byte, or_calendar, or_date, or_meaning, own_date}
 use Rattle.register_sheets.specs.declared.choices.CalendarField.{CalendarField}
-use Rattle.register_sheets.specs.declared.choices.CalendarField.TheVariants.{All}
-use Rattle.register_sheets.specs.declared.choices.DateColumn.{DateColumn}
-use Rattle.register_sheets.specs.declared.choices.SheetChoice.{SheetChoice}
 use Rattle.register_sheets.proofs.DateLemmas.{entry_as}
 
 -- a text that ends with a digit names none

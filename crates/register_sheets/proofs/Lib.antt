@@ -4,6 +4,7 @@
 --   MeaningLemmas, NameListLemmas: `NameList::read`. HeadingLemmas: `headings`. StopLemmas, FoundLemmas,
 --     NoteLemmas: `unknown_names`.
 --   UndatedLemmas: `undated_is_not_unread`. The others: `convert_outputs`.
+pub mod Common
 pub mod ListLemmas
 pub mod LineLemmas
 pub mod SheetLemmas

@@ -1,18 +1,14 @@
 -- What the lines of a sheet hold.
-use Rattle.std.proofs.Common.{◌≡◌, ◌∙◌, ℕ, List, [], ◌∷◌, ◌++◌, false, length}
-use Rattle.std.proofs.Common.{refl, subst, sym, ap, append_assoc, append-nil}
-use Rattle.std.proofs.Common.{◌<◌, ◌+◌, get_or, map, take}
+use Rattle.std.proofs.Common.{◌≡◌, ◌∙◌, ℕ, List, [], ◌∷◌, ◌++◌, false, length, refl, subst, sym, ap, append_assoc}
+use Rattle.std.proofs.Common.{append-nil, ◌<◌, ◌+◌, get_or, map, take, Err, Ok, OnOk, Result}
+use Rattle.register_sheets.proofs.Common.{line_text, GainsFields, SheetLines}
 use Rattle.std.proofs.lemmas.List.{map-append, take_more}
 use Rattle.std.specs.Borrow.{Bor}
-use Rattle.std.specs.Prelude.{Err, Ok, OnOk, Result}
 use Rattle.register_records.specs.LineRoom as buffer
-use Rattle.register_records.specs.LineRoom.{writing}
 use Rattle.register_records.specs.LineViews.{line_bytes}
 use Rattle.register_records.specs.private.LineViews.{line_delimiter}
-use Rattle.register_records.specs.Lines.{line_text}
 use Rattle.register_records.specs.declared.lines.LineBuffer.{LineBuffer}
-use Rattle.register_sheets.specs.LineViews.{EndsLine, GainsFields}
-use Rattle.register_sheets.specs.declared.lines.SheetLines.{SheetLines}
+use Rattle.register_sheets.specs.LineViews.{EndsLine}
 
 -- memory with the same lines
 pub record SameLines (old new : LineBuffer) : Type 0 where

@@ -1,28 +1,19 @@
 -- What the texts of meanings have, and what they lack.
+use Rattle.std.proofs.Common.{◌≡◌, ◌≢◌, ◌<◌, ◌≤◌, ◌^◌, ◌++◌, ◌∙◌, ℕ, suc, Bool, true, false, List, [], ◌∷◌}
+use Rattle.std.proofs.Common.{ap, append-nil, arith, get_or, length, length-append, refl, sym, ℤ, pos, negsuc}
+use Rattle.std.proofs.Common.{FitsSigned, w16, if◌then◌else◌}
 use lib.Signed.{mag}
-use Rattle.std.proofs.Common.{◌≡◌, ◌≢◌, ◌<◌, ◌≤◌, ◌^◌, ◌++◌, ◌∙◌, ◌==◌, ℕ, zero, suc, Bool, true, false, List, [], ◌∷◌}
-use Rattle.std.proofs.Common.{ap, append-nil, arith, get_or, length, length-append, refl, sym, ℤ, pos, negsuc, FitsSigned, w16}
 use Rattle.std.specs.Fmt.{decimal, signed_decimal}
-use Rattle.std.specs.List.{list_any}
 use Rattle.std.specs.Ordering.{int_eq}
-use Rattle.std.specs.Prelude.{if◌then◌else◌}
 use Rattle.std.proofs.Math.Seq.{get_or-append_seam}
-use Rattle.std.proofs.lemmas.Bool.Decides.{nat_tests}
 use Rattle.std.proofs.lemmas.Fmt.{decimal_is_IsNumeral, signed_decimal_injective}
 use Rattle.std.proofs.lemmas.Int.{ints}
 use Rattle.std.proofs.lemmas.Str.Parse.{digit_at}
-use Rattle.church_year.specs.declared.feasts.Season.{Season}
-use Rattle.church_year.specs.declared.feasts.Season.TheVariants.{Epiphany, Lent, Easter, Pentecost, Trinity, Advent}
-use Rattle.register_sheets.specs.NameMeanings.{IsFewDays, day_name, season_name}
+use Rattle.register_sheets.specs.NameMeanings.{IsFewDays, day_name}
 
 -- a byte is at no place of a text
 abbrev pub Lacks : ℕ → List ℕ → Type 0
 Lacks c text = (i : ℕ) → i < length text → get_or text i 0 ≢ c
-
-lacks : (c : ℕ) (text : List ℕ) → list_any (λ b. b == c) text ≡ false → Lacks c text
-lacks c [] none i lt = absurd (omega arith)
-lacks c (b ∷ text) none zero lt = grind (arith, nat_tests)
-lacks c (b ∷ text) none (suc i) lt = lacks c text (grind arith) i (omega arith)
 
 -- a number in decimal has digits alone
 pub decimal_lacks : (n c : ℕ) → n < 2 ^ 64 → c < 48 → Lacks c (decimal n)
@@ -30,18 +21,8 @@ decimal_lacks n c few small i lt =
     let (low, high) = digit_at (decimal n) i (decimal_is_IsNumeral n few).0.1 lt in
     omega arith
 
--- the names of seasons have no blank
-pub season_lacks : (season : Season) → Lacks 32 (season_name season)
-season_lacks Epiphany = lacks 32 (season_name Epiphany) refl
-season_lacks Lent = lacks 32 (season_name Lent) refl
-season_lacks Easter = lacks 32 (season_name Easter) refl
-season_lacks Pentecost = lacks 32 (season_name Pentecost) refl
-season_lacks Trinity = lacks 32 (season_name Trinity) refl
-season_lacks Advent = lacks 32 (season_name Advent) refl
-
 -- where a text is cut at the first byte of a kind is one place
-pub first_same : (c : ℕ) (a x b y : List ℕ) → Lacks c a → Lacks c x → a ++ c ∷ b ≡ x ++ c ∷ y
-    → (a ≡ x) × (b ≡ y)
+pub first_same : (c : ℕ) (a x b y : List ℕ) → Lacks c a → Lacks c x → a ++ c ∷ b ≡ x ++ c ∷ y → (a ≡ x) × (b ≡ y)
 first_same c [] [] b y la lx e = (refl, cc)
 first_same c [] (d ∷ x) b y la lx e = absurd (lx 0 (omega arith) (cc))
 first_same c (d ∷ a) [] b y la lx e = absurd (la 0 (omega arith) (cc))
@@ -61,8 +42,7 @@ plain_by : (none : Bool) (text : List ℕ) (day : ℕ) (days : ℤ) → Lacks 32
 plain_by true text day days lack is = is ∙ append-nil (decimal day)
 plain_by false text day days lack is = absurd (stands 32 (decimal day) (signed_decimal days) text is lack)
 
-pub plain_day : (text : List ℕ) (day : ℕ) (days : ℤ) → Lacks 32 text → text ≡ day_name day days
-    → text ≡ decimal day
+pub plain_day : (text : List ℕ) (day : ℕ) (days : ℤ) → Lacks 32 text → text ≡ day_name day days → text ≡ decimal day
 plain_day text day days = plain_by (int_eq days (pos 0)) text day days
 
 -- a day with a blank has days behind it, which are not 0

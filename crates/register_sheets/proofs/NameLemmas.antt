@@ -1,16 +1,11 @@
 -- The calendar that a text names.
-use Rattle.std.proofs.Common.{◌≡◌, ◌↔◌, ℕ, Bool, true, false, List, [], ◌∷◌, Option, None, Some, refl}
-use Rattle.std.proofs.Common.{inl, inr, subst, sym}
+use Rattle.std.proofs.Common.{◌≡◌, ◌↔◌, ℕ, Bool, true, false, List, [], ◌∷◌, Option, None, Some, refl, inl, inr, sym}
+use Rattle.register_sheets.proofs.Common.{bytes_eq, all_calendars, calendar_name, IsNamed, Calendar, Gregorian}
 use Rattle.std.specs.List.{find}
-use Rattle.std.specs.Str.{IsUtf8, bytes_eq, is_utf8, str_to_ascii_lowercase}
-use Rattle.std.proofs.lemmas.Str.{is_utf8-from_IsUtf8}
+use Rattle.std.specs.Str.{is_utf8, str_to_ascii_lowercase}
 use Rattle.std.proofs.lemmas.Bool.{cases_Bool}
 use Rattle.std.proofs.lemmas.Slice.Eq.{bytes_eq-Decides}
-use Rattle.date_texts.specs.Calendars.{all_calendars, calendar_name}
-use Rattle.date_texts.specs.Names.{IsNamed}
 use Rattle.date_texts.specs.Trimmed.{trimmed}
-use Rattle.date_texts.specs.declared.calendar.Calendar.{Calendar}
-use Rattle.date_texts.specs.declared.calendar.Calendar.TheVariants.{Gregorian}
 use Rattle.register_sheets.specs.Choices.{calendar_called, is_name}
 
 -- where no element passes the test
@@ -22,17 +17,6 @@ none_found test (x ∷ xs) h = rw (h x) (none_found test xs h)
 found_itself : (c : Calendar) → find (λ other. bytes_eq (calendar_name c) (calendar_name other)) all_calendars ≡ Some c
 found_itself Gregorian = refl
 found_itself c = refl
-
-name_alone : (c : Calendar) → str_to_ascii_lowercase (trimmed (calendar_name c)) ≡ calendar_name c
-name_alone Gregorian = refl
-name_alone c = refl
-
-pub called_itself : (c : Calendar) (name : List ℕ) → name ≡ calendar_name c → IsUtf8 name
-    → Some c ≡ calendar_called (calendar_name c)
-unfolding calendar_called
-called_itself c name e h =
-    let text : is_utf8 (calendar_name c) ≡ true = is_utf8-from_IsUtf8 (calendar_name c) (subst IsUtf8 e h) in
-    rw (text, name_alone c) (sym (found_itself c))
 
 -- what a text that is UTF-8 names
 pub called_by : (text : List ℕ) (called : Option Calendar) → is_utf8 text ≡ true

@@ -1,8 +1,8 @@
 -- Names of calendars in a field, one after the other, and the lines of a list.
-use Rattle.std.proofs.Common.{◌≡◌, ◌∙◌, ◌+◌, ◌++◌, ◌||◌, ℕ, Bool, true, List, [], ◌∷◌, map, length, slice_set}
-use Rattle.std.proofs.Common.{ap, ap₂, sym, refl, subst, suc, lit<, arith}
-use Rattle.std.specs.List.{list_any}
-use Rattle.std.specs.Str.{bytes_eq}
+use Rattle.std.proofs.Common.{◌≡◌, ◌∙◌, ◌+◌, ◌++◌, ◌||◌, ℕ, Bool, true, List, [], ◌∷◌, map, length, slice_set, ap, ap₂}
+use Rattle.std.proofs.Common.{sym, refl, subst, suc, lit<, arith}
+use Rattle.register_sheets.proofs.Common.{list_any, bytes_eq, all_calendars, calendar_name, IsNamed, Calendar}
+use Rattle.register_sheets.proofs.Common.{Gregorian, Fields, named_by}
 use Rattle.std.proofs.lemmas.List.Folds.{list_any-append}
 use Rattle.std.proofs.lemmas.Iterator.{YieldsList}
 use Rattle.std.proofs.lemmas.Iterator.Consumers.{YieldsList-at}
@@ -10,16 +10,12 @@ use Rattle.std.proofs.lemmas.Iterator.Splits.{YieldsList-from_str_split}
 use Rattle.std.specs.Str.Iter.{split_has_more, split_pattern, split_steps, split_text}
 use Rattle.std.specs.Str.Pattern.{FindsChar}
 use Rattle.std.specs.declared.str.Split.{Split}
-use Rattle.date_texts.specs.Calendars.{all_calendars, calendar_name}
-use Rattle.date_texts.specs.Names.{IsNamed}
-use Rattle.date_texts.specs.declared.calendar.Calendar.{Calendar}
-use Rattle.date_texts.specs.declared.calendar.Calendar.TheVariants.{Gregorian, Iso, Julian, Coptic, Ethiopic, Egyptian}
-use Rattle.date_texts.specs.declared.calendar.Calendar.TheVariants.{Armenian, Islamic, Hebrew, Longcount, French, Roman}
+use Rattle.date_texts.specs.declared.calendar.Calendar.TheVariants.{Iso, Julian, Coptic, Ethiopic, Egyptian, Armenian}
+use Rattle.date_texts.specs.declared.calendar.Calendar.TheVariants.{Islamic, Hebrew, Longcount, French, Roman}
 use Rattle.date_texts.specs.declared.calendar.Calendar.TheVariants.{Republican}
 use Rattle.written_dates.specs.Calendars.{place}
-use Rattle.register_records.specs.Entries.{Fields}
-use Rattle.register_sheets.specs.NameLists.{AreLines, IsFaultOf, IsLine, IsRefused, IsRefusedBehind}
-use Rattle.register_sheets.specs.NameLists.{columns, is_named, named_by, names_in}
+use Rattle.register_sheets.specs.NameLists.{AreLines, IsFaultOf, IsLine, IsRefused, IsRefusedBehind, columns, is_named}
+use Rattle.register_sheets.specs.NameLists.{names_in}
 use Rattle.register_sheets.specs.Sheets.{chosen}
 use Rattle.register_sheets.specs.declared.name_lists.NameListFault.{NameListFault}
 use Rattle.register_sheets.specs.declared.name_lists.NameListFault.TheVariants as fault
@@ -27,8 +23,7 @@ use Rattle.register_sheets.specs.declared.name_lists.NameLine.{NameLine}
 
 -- the split at spaces gives the names of the field
 pub names_of_split : (field : List ℕ) (s t : Split ℕ) → t ≡ s → split_text s ≡ field → split_has_more s ≡ true
-    → split_pattern s ≡ 32
-    → YieldsList (split_steps FindsChar (λ a b. b ≡ a)) (λ name. name.now) t (names_in field)
+    → split_pattern s ≡ 32 → YieldsList (split_steps FindsChar (λ a b. b ≡ a)) (λ name. name.now) t (names_in field)
 names_of_split field s t same text more pattern = YieldsList-at same
     (YieldsList-from_str_split 32 field (lit< tt) text more pattern)
 

@@ -1,38 +1,29 @@
 -- What is noted of a sheet, record by record.
 use Rattle.std.proofs.Common.{◌≡◌, ◌≤◌, ◌<◌, ◌+◌, ◌^◌, ◌∙◌, ◌++◌, ℕ, zero, suc, List, [], ◌∷◌, Option, Some, Bool}
-use Rattle.std.proofs.Common.{false, true}
-use Rattle.std.proofs.Common.{ap, arith, cond, get_or, length, map, refl, subst, sym}
-use Rattle.std.specs.Prelude.{IfErr, IfOk, Result, if◌then◌else◌, option_to_list, slice_get}
-use Rattle.std.specs.List.{AllZip}
+use Rattle.std.proofs.Common.{false, true, ap, arith, cond, get_or, length, map, refl, subst, sym, IfErr, IfOk, Result}
+use Rattle.std.proofs.Common.{if◌then◌else◌, option_to_list, slice_get}
+use Rattle.register_sheets.proofs.Common.{AllZip, Fields, record_limit, Dated, AreSheetCounts, DateStop, NameStop}
+use Rattle.register_sheets.proofs.Common.{SheetDate, below, HasFound, HasNotes, IsDateRead, RecordRead, date_seen}
+use Rattle.register_sheets.proofs.Common.{fields_read, all_dates, name_seen, DateColumn, SheetChoice, ColumnDates}
+use Rattle.register_sheets.proofs.Common.{SheetCause}
 use Rattle.std.proofs.Math.Seq.{take-nil}
 use Rattle.std.proofs.lemmas.List.{length-append, length-map, map-append}
 use Rattle.std.proofs.lemmas.List.Sums.{count_by-le-length, sum_by_push}
-use Rattle.register_records.specs.Entries.{Fields, record_limit}
-use Rattle.register_sheets.specs.DateEnds.{Dated}
 use Rattle.register_sheets.specs.CountViews.{AreUpTo, CountsRecord}
-use Rattle.register_sheets.specs.DateCounts.{AreSheetCounts}
-use Rattle.register_sheets.specs.DateStops.{DateStop, IsStopOf, NameStop, SheetDate, is_for, name_in}
-use Rattle.register_sheets.specs.Converted.{below}
-use Rattle.register_sheets.specs.SheetNotes.{HasFound, HasNotes, HasSpace, HasSpaceFor, unknown_of, unless_lost}
-use Rattle.register_sheets.specs.SheetRecords.{IsDateRead, RecordRead, date_seen}
-use Rattle.register_sheets.specs.SheetRecords.{fields_read, rows_read}
-use Rattle.register_sheets.specs.UnknownNames.{IsFound, IsShort, IsUnknown, all_dates, counted, dates_of, name_seen}
-use Rattle.register_sheets.specs.UnknownNames.{names_in}
-use Rattle.register_sheets.specs.UnknownViews.{CountsDate, HasNames, HasPlace, HasRoom}
-use Rattle.register_sheets.specs.declared.choices.DateColumn.{DateColumn}
-use Rattle.register_sheets.specs.declared.choices.SheetChoice.{SheetChoice}
-use Rattle.register_sheets.specs.declared.date_counts.SheetCounts.{SheetCounts}
+use Rattle.register_sheets.specs.DateStops.{IsStopOf, is_for, name_in}
+use Rattle.register_sheets.specs.SheetNotes.{HasSpace, HasSpaceFor, unknown_of, unless_lost}
+use Rattle.register_sheets.specs.SheetRecords.{rows_read}
+use Rattle.register_sheets.specs.UnknownNames.{IsFound, IsShort, IsUnknown, counted, dates_of, names_in}
+use Rattle.register_sheets.specs.UnknownViews.{CountsDate, HasNames, HasPlace, HasRoom, NoneUnread}
 use Rattle.register_sheets.specs.declared.sheet_notes.Found.{Found}
 use Rattle.register_sheets.specs.declared.sheet_notes.SheetNotes.{SheetNotes}
-use Rattle.register_sheets.specs.declared.sheet_records.ColumnDates.{ColumnDates}
-use Rattle.register_sheets.specs.declared.sheet_ends.SheetCause.{SheetCause}
 use Rattle.register_sheets.specs.declared.sheet_ends.SheetCause.TheVariants.{NoMemory}
 use Rattle.register_sheets.specs.declared.stopped_dates.Unknown.{Unknown}
-use Rattle.register_sheets.specs.UnknownViews.{NoneUnread}
 use Rattle.std.proofs.lemmas.Option.{slice_get-get_or}
 use Rattle.register_sheets.proofs.CountLemmas.{counts_more, one_found, seen_slot, up_to}
 use Rattle.register_sheets.proofs.FoundLemmas.{dates_few, dates_more, has_room, names_both, names_few, names_one}
-use Rattle.register_sheets.proofs.FoundLemmas.{zip_both, zip_length}
+use Rattle.register_sheets.proofs.FoundLemmas.{zip_both}
+use Rattle.std.proofs.lemmas.Slice.Zip.{AllZip-long}
 
 -- no date yet
 pub none_found : (choice : SheetChoice) (found : Found) (most : ℕ) → found.most ≡ most → NoneUnread found.unread
@@ -59,8 +50,7 @@ none_found choice found most limit none empty no_more =
 -- one more date
 pub date_found : (choice : SheetChoice) (dates : List SheetDate) (d : SheetDate) (most : ℕ) (old new : Found)
     (stop : Option DateStop) (short : Bool) → IsStopOf choice d stop → IsShort choice d short
-    → CountsDate stop short old.unread new.unread
-    → new.most ≡ old.most
+    → CountsDate stop short old.unread new.unread → new.most ≡ old.most
     → (new.is_lost ≡ false → (old.is_lost ≡ false) × ((stops : List NameStop) → HasNames old.most stops old.names
     → HasNames old.most (stops ++ option_to_list (name_in stop)) new.names))
     → HasFound choice dates most old → HasFound choice (dates ++ d ∷ []) most new
@@ -86,16 +76,14 @@ date_found choice dates d most old new stop short is is_short counts kept named 
         );
         short_are = counts.short ∙ ap (λ (n : ℕ). n + (if short then 1 else 0)) found.counts.short_are
             ∙ sym (sum_by_push (λ (b : Bool). cond b 1 0) found.counts.shorts short);
-        reasons_are = λ reason.
-            counts.reasons reason
+        reasons_are = λ reason. counts.reasons reason
             ∙ ap (λ (n : ℕ). n + (if is_for reason stop then 1 else 0)) (found.counts.reasons_are reason)
             ∙ sym (sum_by_push (λ (s : Option DateStop). cond (is_for reason s) 1 0) stops stop);
       };
       named = λ here.
           let (before, add) = named here in
           subst (λ (xs : List NameStop). HasNames most xs new.names) (sym all)
-          (subst (λ (n : ℕ). HasNames n (names_in stops ++ more) new.names) found.limit
-          (add (names_in stops)
+          (subst (λ (n : ℕ). HasNames n (names_in stops ++ more) new.names) found.limit (add (names_in stops)
           (subst (λ (n : ℕ). HasNames n (names_in stops) old.names) (sym found.limit) (found.named before))));
     }
 
@@ -103,14 +91,14 @@ date_found choice dates d most old new stop short is is_short counts kept named 
 pub found_place : (choice : SheetChoice) (dates : List SheetDate) (most : ℕ) (found : Found)
     → HasFound choice dates most found → length dates + 1 < 2 ^ 32 → HasPlace 1 found.unread
 found_place choice dates most found h few =
-    let all = zip_length (IsStopOf choice) dates h.stops h.are_stops in
+    let all = AllZip-long (IsStopOf choice) dates h.stops h.are_stops in
     record {
       stopped = omega (arith, h.counts.stopped_are, names_few h.stops, all, few);
       short = omega (
         arith,
         h.counts.short_are,
         count_by-le-length (λ (short : Bool). short) h.counts.shorts,
-        zip_length (IsShort choice) dates h.counts.shorts h.counts.are_short,
+        AllZip-long (IsShort choice) dates h.counts.shorts h.counts.are_short,
         few,
       );
       reasons = λ reason. omega (
@@ -126,10 +114,10 @@ pub found_room : (choice : SheetChoice) (dates : List SheetDate) (most : ℕ) (f
     → HasFound choice dates most found → length dates + 1 < 2 ^ 32 → found.is_lost ≡ false → HasRoom found.names
 found_room choice dates most found h few here =
     has_room most (names_in h.stops) found.names (h.named here)
-    (omega (arith, names_few h.stops, zip_length (IsStopOf choice) dates h.stops h.are_stops, few))
+    (omega (arith, names_few h.stops, AllZip-long (IsStopOf choice) dates h.stops h.are_stops, few))
 
 -- what was read of the date of a column
-zip_place : {A B : Type 0} (R : A → B → Type 0) (xs : List A) (ys : List B) (i : ℕ) (x : A) (y : B) → AllZip R xs ys
+pub zip_place : {A B : Type 0} (R : A → B → Type 0) (xs : List A) (ys : List B) (i : ℕ) (x : A) (y : B) → AllZip R xs ys
     → slice_get xs i ≡ Some x → slice_get ys i ≡ Some y → R x y
 zip_place R [] ys i x y h a b = absurd (cc)
 zip_place R (u ∷ xs) [] i x y h a b = absurd (cc)
@@ -151,7 +139,7 @@ pub columns_count : (choice : SheetChoice) (number : ℕ) (fields : Fields) (col
     (dates : List ColumnDates) → AllZip (IsDateRead choice number fields) columns (map date_seen dates)
     → length dates ≡ length columns
 columns_count choice number fields columns dates h =
-    sym (length-map dates date_seen) ∙ zip_length (IsDateRead choice number fields) columns (map date_seen dates) h
+    sym (length-map dates date_seen) ∙ AllZip-long (IsDateRead choice number fields) columns (map date_seen dates) h
 
 -- one more record
 fields_more : (reads : List RecordRead) (one : RecordRead) → fields_read (reads ++ one ∷ []) ≡ fields_read reads ++
@@ -171,8 +159,7 @@ notes_more choice reads one most old new records counts found noted =
           (λ (xs : List Fields). AreSheetCounts choice.dates.now xs (map rows_read (reads ++ one ∷ [])) new.counts)
           (sym fields)
           (subst (λ (ys : List (List Dated)). AreSheetCounts choice.dates.now (fields_read reads ++ one.fields ∷ [])
-          ys new.counts)
-          (sym (map-append rows_read reads (one ∷ [])))
+          ys new.counts) (sym (map-append rows_read reads (one ∷ [])))
           (counts_more choice.dates.now (fields_read reads) (map rows_read reads) one.fields (rows_read one) old.counts
           new.counts
           (length-map reads (λ (read : RecordRead). read.fields) ∙ sym (length-map reads rows_read)) noted.counts
@@ -214,13 +201,11 @@ pub unknown_found : (choice : SheetChoice) (records : List Fields) (reads : List
     × IfErr result (λ c. c ≡ NoMemory)
 unknown_found choice records reads most notes result named all few noted is =
     subst (λ (r : Result Unknown SheetCause). IfOk r (λ u. IsUnknown choice records most (map name_seen u.names.items)
-    u.more u.unread)
-    × IfErr r (λ c. c ≡ NoMemory)) (sym is) (by_lost notes.found.is_lost refl)
+    u.more u.unread) × IfErr r (λ c. c ≡ NoMemory)) (sym is) (by_lost notes.found.is_lost refl)
   where
     by_lost : (lost : Bool) → notes.found.is_lost ≡ lost
         → IfOk (unless_lost lost notes.found) (λ u. IsUnknown choice records most (map name_seen u.names.items) u.more
-        u.unread)
-        × IfErr (unless_lost lost notes.found) (λ c. c ≡ NoMemory)
+        u.unread) × IfErr (unless_lost lost notes.found) (λ c. c ≡ NoMemory)
     by_lost true e = (tt, refl)
     by_lost false e = (
       record {

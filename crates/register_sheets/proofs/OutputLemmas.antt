@@ -1,47 +1,41 @@
 -- What one reading of a sheet makes.
-use Rattle.std.proofs.Common.{◌≡◌, ◌≤◌, ◌<◌, ◌∙◌, ◌++◌, ◌+◌, ◌-◌, ℕ, zero, suc, List, [], ◌∷◌, Some, ap}
-use Rattle.std.proofs.Common.{IsErrAnd, arith, drop, false, inl, inr, length, map, nat_lt, refl, replicate}
-use Rattle.std.proofs.Common.{subst, sym, take, true}
-use Rattle.std.specs.Prelude.{◌⊎◌, Err, IsOk, Ok, OnOk, Result, slice_get}
-use Rattle.std.specs.List.{AllZip}
+use Rattle.std.proofs.Common.{◌≡◌, ◌≤◌, ◌<◌, ◌∙◌, ◌++◌, ◌+◌, ◌-◌, ℕ, zero, suc, List, [], ◌∷◌, Some, ap, IsErrAnd}
+use Rattle.std.proofs.Common.{arith, drop, false, inl, inr, length, map, nat_lt, refl, replicate, subst, sym, take}
+use Rattle.std.proofs.Common.{true, ◌⊎◌, Err, IsOk, Ok, OnOk, Result, slice_get}
+use Rattle.register_sheets.proofs.Common.{AllZip, Fields, record_limit, Dated, as_text, below, AreLines, Produced}
+use Rattle.register_sheets.proofs.Common.{ending_of, first_fault, body_line, top_records, HasNotes, AreRegisterWriters}
+use Rattle.register_sheets.proofs.Common.{HasReadSheet, line_of_entry, AreSheetCounts, all_dates, Finishes, Gathers}
+use Rattle.register_sheets.proofs.Common.{Waits, AreRecordsRead, DateRead, IsDateRead, RecordRead, fields_read}
+use Rattle.register_sheets.proofs.Common.{records_text, widest, DateColumn, SheetChoice, SheetCause, LineWriter}
+use Rattle.register_sheets.proofs.Common.{EntryLine}
 use Rattle.std.proofs.lemmas.List.{length-map, length-replicate, take-append-drop}
 use Rattle.std.proofs.lemmas.Bool.Decides.{nat_tests}
 use Rattle.std.proofs.lemmas.Option.{slice_get_within}
 use Rattle.std.proofs.KnownBytes.{Appends-nil}
-use Rattle.register_records.specs.Entries.{Fields, record_limit}
 use Rattle.register_records.specs.declared.outputs.Output as outputs
-use Rattle.register_sheets.specs.Choices.{id_text, register_record}
-use Rattle.register_sheets.specs.DateEnds.{Dated, IsDated, as_text, one_end}
-use Rattle.register_sheets.specs.Converted.{AreFirstRows, AreRowsFrom, below, body_records, sheet_records}
+use Rattle.register_sheets.specs.Choices.{register_record}
+use Rattle.register_sheets.specs.DateEnds.{IsDated, one_end}
+use Rattle.register_sheets.specs.Converted.{AreFirstRows, AreRowsFrom, body_records, sheet_records}
 use Rattle.register_sheets.specs.SheetOutputs.{AreMadeRegisters, IsMadeRegister, IsMadeSheet, OfColumn, registers_by}
 use Rattle.register_sheets.specs.SheetOutputs.{sheet_ending}
-use Rattle.register_sheets.specs.Produced.{Agrees, AreLines, Ending, Produced, cut, ending_of, first_fault, lost}
-use Rattle.register_sheets.specs.Produced.{untouched, whole}
-use Rattle.register_sheets.specs.RecordLines.{body_line, entry_at, entry_line, if_dated}
+use Rattle.register_sheets.specs.Produced.{Agrees, Ending, cut, lost, untouched, whole}
+use Rattle.register_sheets.specs.RecordLines.{entry_at, entry_line, if_dated}
 use Rattle.register_sheets.specs.Registers.{AreEntries, AreFirstEntries, IsEntry, register_head}
-use Rattle.register_sheets.specs.Sending.{top_records}
-use Rattle.register_sheets.specs.SheetNotes.{HasNotes}
-use Rattle.register_sheets.specs.SheetReadings.{AreRegisterWriters, HasReadSheet, entry_maker, line_of_entry, sheet_end}
-use Rattle.register_sheets.specs.DateCounts.{AreSheetCounts}
-use Rattle.register_sheets.specs.UnknownNames.{AreUnread, all_dates}
-use Rattle.register_sheets.specs.LineWriters.{Finishes, FinishesEach, Gathers, GathersEach, Waits}
-use Rattle.register_sheets.specs.SheetRecords.{AreRecordsRead, DateRead, IsDateRead, RecordRead}
-use Rattle.register_sheets.specs.SheetRecords.{fields_read, rows_read}
-use Rattle.register_sheets.specs.Sheets.{records_text, widest}
-use Rattle.register_sheets.specs.declared.choices.DateColumn.{DateColumn}
+use Rattle.register_sheets.specs.SheetReadings.{entry_maker, sheet_end}
+use Rattle.register_sheets.specs.UnknownNames.{AreUnread}
+use Rattle.register_sheets.specs.LineWriters.{FinishesEach, GathersEach}
+use Rattle.register_sheets.specs.SheetRecords.{rows_read}
 use Rattle.register_sheets.specs.declared.choices.End.{End}
 use Rattle.register_sheets.specs.declared.choices.End.TheVariants as ends
-use Rattle.register_sheets.specs.declared.choices.SheetChoice.{SheetChoice}
 use Rattle.register_sheets.specs.declared.choices.Spans.{Spans}
 use Rattle.register_sheets.specs.declared.choices.Spans.TheVariants as spans
-use Rattle.register_sheets.specs.declared.sheet_ends.SheetCause.{SheetCause}
 use Rattle.register_sheets.specs.declared.sheet_ends.SheetCause.TheVariants as cause
-use Rattle.register_sheets.specs.declared.line_writers.LineWriter.{LineWriter}
-use Rattle.register_sheets.specs.declared.record_lines.EntryLine.{EntryLine}
 use Rattle.register_sheets.specs.declared.sheet_ends.SheetEnd.{SheetEnd}
 use Rattle.register_sheets.specs.declared.sheet_ends.SheetEnd.TheVariants as end
 use Rattle.register_sheets.specs.declared.sheet_notes.SheetNotes.{SheetNotes}
+use Rattle.std.proofs.lemmas.Slice.Zip.{AllZip-long}
 use Rattle.register_sheets.proofs.EachLemmas.{found_at}
+use Rattle.register_sheets.proofs.NoteLemmas.{zip_place}
 use Rattle.register_sheets.proofs.CountLemmas.{one_found}
 use Rattle.register_sheets.proofs.LineWriterLemmas.{holds_waiting}
 use Rattle.register_sheets.proofs.RowLemmas.{below_names, body_front, sheet_made}
@@ -75,11 +69,9 @@ rows_from choice k (read ∷ reads) h = (
 
 -- their lines
 body_lines : (choice : SheetChoice) (width : ℕ) (reads : List RecordRead)
-    → map (body_line width choice) reads ≡ body_records width choice (fields_read reads) (map rows_read
-    reads)
+    → map (body_line width choice) reads ≡ body_records width choice (fields_read reads) (map rows_read reads)
 body_lines choice width [] = refl
-body_lines choice width (read ∷ reads) =
-    ap (λ rest. body_line width choice read ∷ rest) (body_lines choice width reads)
+body_lines choice width (read ∷ reads) = ap (λ rest. body_line width choice read ∷ rest) (body_lines choice width reads)
 
 reads_first : (records : List Fields) (reads : List RecordRead) → fields_read reads ≡ take (length reads) records
     → records ≡ fields_read reads ++ drop (length reads) records
@@ -98,13 +90,10 @@ date_at : (choice : SheetChoice) (number : ℕ) (fields : Fields) (columns : Lis
     (place : ℕ) (column : DateColumn) → AllZip (IsDateRead choice number fields) columns dates
     → slice_get columns place ≡ Some column
     → (date : DateRead) × (slice_get dates place ≡ Some date) × IsDateRead choice number fields column date
-date_at choice number fields [] dates place column h there = absurd (cc)
-date_at choice number fields (first ∷ columns) (date ∷ dates) zero column h there =
-    let same : first ≡ column = cc in
-    (date, refl, subst (λ (c : DateColumn). IsDateRead choice number fields c date) same h.0)
-date_at choice number fields (first ∷ columns) (date ∷ dates) (suc place) column h there =
-    date_at choice number fields columns dates place column h.1 there
-date_at choice number fields (first ∷ columns) [] place column h there = absurd h
+date_at choice number fields columns dates place column h there =
+    let (date, at) = found_at dates place
+    (omega (arith, slice_get_within columns place column there, AllZip-long _ columns dates h)) in
+    (date, at, zip_place (IsDateRead choice number fields) columns dates place column date h there at)
 
 entry_is : (choice : SheetChoice) (place : ℕ) (column : DateColumn) (end : End) (k : ℕ) (read : RecordRead)
     (date : DateRead) → read.number ≡ k + 1 → slice_get read.dates place ≡ Some date
@@ -123,8 +112,7 @@ entry_is choice place column end k read date numbered there is =
     }
 
 entries_are : (choice : SheetChoice) (place : ℕ) (column : DateColumn) (end : End)
-    → slice_get choice.dates.now place ≡ Some column → (k : ℕ) (reads : List RecordRead)
-    → AreRecordsRead choice k reads
+    → slice_get choice.dates.now place ≡ Some column → (k : ℕ) (reads : List RecordRead) → AreRecordsRead choice k reads
     → AreEntries choice column end k (fields_read reads) (map (entry_line place end choice) reads)
 entries_are choice place column end there k [] h = tt
 entries_are choice place column end there k (read ∷ reads) h =
@@ -165,11 +153,9 @@ module _ (choice : SheetChoice) (records : List Fields) (reads : List RecordRead
       let left = drop choice.above records in
       let rest = drop 1 left in
       let same : rest ≡ below choice records = below_names choice records left rest refl refl in
-      ap (λ xs. top_records choice width records ++ xs)
-      (body_lines choice width reads
+      ap (λ xs. top_records choice width records ++ xs) (body_lines choice width reads
       ∙ sym (body_front width choice (fields_read reads) (drop (length reads) (below choice records)) rows
-      (length_fields reads ∙ sym (length-map reads rows_read)))
-      ∙ ap (λ xs. body_records width choice xs rows)
+      (length_fields reads ∙ sym (length-map reads rows_read))) ∙ ap (λ xs. body_records width choice xs rows)
       (sym (reads_first (below choice records) reads read.first) ∙ sym same))
       ∙ sheet_made choice records left rest width rows refl refl wide
 
@@ -254,16 +240,14 @@ module _ (choice : SheetChoice) (records : List Fields) (reads : List RecordRead
   -- what the output of the sheet has come to
   pub sheet_produced : {W : Type 0} (o : outputs.Ghosts W) (given written : W) (width : ℕ)
       → width ≡ widest (drop choice.above records) → (notes : SheetNotes) (most : ℕ) → HasNotes choice reads most notes
-      → (answer : Result (Unit {0}) SheetCause) → Agrees result answer
-      → Produced o given written (ending_of answer)
+      → (answer : Result (Unit {0}) SheetCause) → Agrees result answer → Produced o given written (ending_of answer)
       (AreLines choice.delimiter (top_records choice width records ++ map (body_line width choice) reads) answer)
       → (end : SheetEnd) → end ≡ sheet_end answer notes
       → Produced o given written (sheet_ending end) (IsMadeSheet choice records end)
   sheet_produced o given written width wide notes most noted answer agrees produced end is =
       subst (λ (x : SheetEnd). Produced o given written (sheet_ending x) (IsMadeSheet choice records x)) (sym is)
       (subst (λ (x : Ending). Produced o given written x (IsMadeSheet choice records (sheet_end answer notes)))
-      (sym (same_ending answer notes))
-      (produced_as o given written (ending_of answer) _ _
+      (sym (same_ending answer notes)) (produced_as o given written (ending_of answer) _ _
       (λ bytes made. sheet_bytes width wide notes most noted answer agrees bytes made) produced))
 
 -- what the output of one register has come to
@@ -280,14 +264,12 @@ register_produced o choice records result answer first last of given mid written
     finish =
     let holds = gathers.holds given (register_head ∷ []) (holds_waiting o given first choice.delimiter _ waits) in
     let (produced, agrees) = finish given _ holds in
-    produced_as o given written (ending_of answer) _ _
-    (λ bytes made.
+    produced_as o given written (ending_of answer) _ _ (λ bytes made.
     subst (λ (end : End). IsMadeRegister choice (of.0, end) records answer bytes) ended
     (register_bytes choice records reads named result read first.maker.place of.0 first.maker.end there answer agrees
     bytes
     (subst (λ (d : ℕ). AreLines d (register_head ∷ map (entry_line first.maker.place first.maker.end choice) reads)
-    answer bytes)
-    (gathers.delimiter ∙ waits.by) made))) produced
+    answer bytes) (gathers.delimiter ∙ waits.by) made))) produced
 
 -- the register at a place is that of the maker there
 at_map : {X Y : Type 0} (f : X → Y) (xs : List X) (place : ℕ) (y : Y) → slice_get (map f xs) place ≡ Some y
@@ -355,8 +337,7 @@ of_both columns place of e =
     ]
 
 maker_of : (kind : Spans) (columns : List DateColumn) (place : ℕ) (of : OfColumn)
-    → slice_get (registers_by kind columns) place ≡ Some of
-    → IsMakerOf columns (entry_maker (length columns) place) of
+    → slice_get (registers_by kind columns) place ≡ Some of → IsMakerOf columns (entry_maker (length columns) place) of
 maker_of spans.Unread columns place of e = of_first columns place of e
 maker_of spans.Ends columns place of e = of_both columns place of e
 maker_of spans.EndsAndEdtf columns place of e = of_both columns place of e
@@ -390,8 +371,7 @@ registers_produced o choice records result first start middle last given mid wri
           let maker = subst (λ (maker : EntryLine). IsMakerOf choice.dates.now maker of) (sym made)
           (maker_of choice.spans choice.dates.now place of there) in
           subst (λ (x : Result (Unit {0}) SheetCause). Produced o g w (ending_of x) (IsMadeRegister choice of records x))
-          same
-          (register_produced o choice records result found w0 w1 of g m w reads named read maker.0 maker.1 waits
+          same (register_produced o choice records result found w0 w1 of g m w reads named read maker.0 maker.1 waits
           (gathered.each place w0 w1 g m at0 at1 here at2) finish);
     }
 
@@ -415,31 +395,9 @@ in_replica x y zero place e = absurd (cc)
 in_replica x y (suc n) zero e = cc
 in_replica x y (suc n) (suc place) e = in_replica x y n place e
 
-registers_none : {W : Type 0} (o : outputs.Ghosts W) (choice : SheetChoice) (records : List Fields) (c : SheetCause)
-    (given : List W)
-    → ((g : W) (of : OfColumn) → Produced o g g (ending_of {A = Unit {0}} (Err c))
-    (IsMadeRegister {A = Unit {0}} choice of records (Err c)))
-    → (result : Result (Unit {0}) SheetCause) → result ≡ first_fault (replicate (length given) (Err c))
-    → AreMadeRegisters o choice records result given given
-registers_none {W} o choice records c given made result is =
-    record {
-      answers = replicate (length given) (Err c);
-      answered = length-replicate (length given) (Err c);
-      files = refl;
-      first = is;
-      each = λ place of answer g w there at here came.
-          let same : g ≡ w = one_found (slice_get given place) g w here came in
-          subst
-          (λ (x : Result (Unit {0}) SheetCause). Produced o g w (ending_of x) (IsMadeRegister choice of records x))
-          (in_replica (Err c) answer (length given) place at)
-          (subst (λ (x : W). Produced o g x (ending_of {A = Unit {0}} (Err c))
-          (IsMadeRegister {A = Unit {0}} choice of records (Err c))) same (made g of));
-    }
-
 -- as for want of memory, or of names
 pub register_none : {W : Type 0} (o : outputs.Ghosts W) (choice : SheetChoice) (records : List Fields) (g : W)
-    (of : OfColumn) (c : SheetCause)
-    → (c ≡ cause.NoMemory) ⊎ ((c ≡ cause.NoNames) × (length records ≤ choice.above))
+    (of : OfColumn) (c : SheetCause) → (c ≡ cause.NoMemory) ⊎ ((c ≡ cause.NoNames) × (length records ≤ choice.above))
     → Produced o g g (ending_of {A = Unit {0}} (Err c)) (IsMadeRegister {A = Unit {0}} choice of records (Err c))
 register_none o choice records g of c why =
     let Holds : SheetCause → Type 0
@@ -451,8 +409,7 @@ register_none o choice records g of c why =
     ]
 
 pub sheet_none : {W : Type 0} (o : outputs.Ghosts W) (choice : SheetChoice) (records : List Fields) (g : W) (c :
-    SheetCause)
-    → (c ≡ cause.NoMemory) ⊎ ((c ≡ cause.NoNames) × (length records ≤ choice.above)) → (done : SheetEnd)
+    SheetCause) → (c ≡ cause.NoMemory) ⊎ ((c ≡ cause.NoNames) × (length records ≤ choice.above)) → (done : SheetEnd)
     → done ≡ end.Broken c → Produced o g g (sheet_ending done) (IsMadeSheet choice records done)
 sheet_none o choice records g c why done e =
     let Holds : SheetCause → Type 0
@@ -467,5 +424,17 @@ pub nothing_made : {W : Type 0} (o : outputs.Ghosts W) (choice : SheetChoice) (r
     (given : List W) → (c ≡ cause.NoMemory) ⊎ ((c ≡ cause.NoNames) × (length records ≤ choice.above))
     → (result : Result (Unit {0}) SheetCause) → result ≡ first_fault (replicate (length given) (Err c))
     → AreMadeRegisters o choice records result given given
-nothing_made o choice records c given why result is =
-    registers_none o choice records c given (λ g of. register_none o choice records g of c why) result is
+nothing_made {W} o choice records c given why result is =
+    record {
+      answers = replicate (length given) (Err c);
+      answered = length-replicate (length given) (Err c);
+      files = refl;
+      first = is;
+      each = λ place of answer g w there at here came.
+          let same : g ≡ w = one_found (slice_get given place) g w here came in
+          subst
+          (λ (x : Result (Unit {0}) SheetCause). Produced o g w (ending_of x) (IsMadeRegister choice of records x))
+          (in_replica (Err c) answer (length given) place at)
+          (subst (λ (x : W). Produced o g x (ending_of {A = Unit {0}} (Err c))
+          (IsMadeRegister {A = Unit {0}} choice of records (Err c))) same (register_none o choice records g of c why));
+    }

@@ -1,12 +1,11 @@
 -- What a name says in dates, and the first end of a text that names a style.
 use Rattle.std.proofs.Common.{◌≡◌, ◌≤◌, ◌<◌, ◌-◌, ◌∙◌, ℕ, List, [], ◌∷◌, None, Option, Some, ap, arith, drop, false}
 use Rattle.std.proofs.Common.{length, nat_le, refl, sym, take}
+use Rattle.register_sheets.proofs.Common.{Calendar, Name}
 use Rattle.std.proofs.Math.Seq.{take-length}
 use Rattle.std.proofs.lemmas.Bool.Decides.{nat_tests}
-use Rattle.date_texts.specs.declared.calendar.Calendar.{Calendar}
 use Rattle.written_dates.specs.declared.fields.CalendarNames.{CalendarNames}
 use Rattle.written_dates.specs.declared.items.Item.{Item}
-use Rattle.written_dates.specs.declared.meanings.Name.{Name}
 use Rattle.register_sheets.specs.OwnCalendars.{first_style, says_something, style_named}
 
 pub many_say_nothing : (found : Option (List Item)) → ((items : List Item) → found ≡ Some items → 16 < length items)

@@ -1,26 +1,20 @@
 -- The records of a sheet that are read, one after the other.
-use Rattle.std.proofs.Common.{◌≡◌, ◌<◌, ◌∙◌, ◌++◌, ◌+◌, ℕ, List, [], ◌∷◌, ap, length, map, set, sym, take}
-use Rattle.std.proofs.Common.{Bor, arith, drop, inl, length-append, length-drop, refl, true}
-use Rattle.register_records.specs.Entries.{Fields}
-use Rattle.register_sheets.specs.DateEnds.{Dated}
-use Rattle.register_sheets.specs.declared.choices.SheetChoice.{SheetChoice}
-use Rattle.register_sheets.specs.SheetRecords.{AreRecordsRead, IsRecordRead, DateRead, RecordRead, date_seen}
-use Rattle.register_sheets.specs.SheetRecords.{dated_seen, fields_read}
-use Rattle.register_sheets.specs.declared.sheet_records.ColumnDates.{ColumnDates}
+use Rattle.std.proofs.Common.{◌≡◌, ◌<◌, ◌∙◌, ◌++◌, ◌+◌, ℕ, List, [], ◌∷◌, ap, length, map, set, sym, take, Bor, arith}
+use Rattle.std.proofs.Common.{drop, inl, length-append, length-drop, refl, true}
+use Rattle.register_sheets.proofs.Common.{Fields, Dated, SheetChoice, AreRecordsRead, DateRead, RecordRead, date_seen}
+use Rattle.register_sheets.proofs.Common.{dated_seen, fields_read, ColumnDates, IsReading}
+use Rattle.register_sheets.specs.SheetRecords.{IsRecordRead}
 use Rattle.register_sheets.proofs.ListLemmas.{one_taken}
-use Rattle.std.proofs.lemmas.List.{take_all}
+use Rattle.std.proofs.lemmas.List.{take_all, map-append, take-map, take_more_set}
 use Rattle.csv.specs.Reading.{took_first}
 use Rattle.csv.specs.declared.reader.Reader.{Reader}
-use Rattle.register_sheets.specs.Reading.{IsBegun, IsReading}
-use Rattle.std.proofs.lemmas.List.{map-append, take-map, take_more_set}
+use Rattle.register_sheets.specs.Reading.{IsBegun}
 
 -- one more is set
 pub set_more : {X Y : Type 0} (f : X → Y) (xs : List X) (i : ℕ) (x : X) → i < length xs
     → take (i + 1) (map f (set xs i x)) ≡ take i (map f xs) ++ f x ∷ []
 set_more f xs i x lt =
-    take-map f (i + 1) (set xs i x)
-    ∙ ap (map f) (take_more_set xs i x lt)
-    ∙ map-append f (take i xs) (x ∷ [])
+    take-map f (i + 1) (set xs i x) ∙ ap (map f) (take_more_set xs i x lt) ∙ map-append f (take i xs) (x ∷ [])
     ∙ ap (λ front. front ++ f x ∷ []) (sym (take-map f i xs))
 
 -- a reader that has read a record
@@ -36,10 +30,8 @@ pub given_more : (all left rest : List Fields) (given new : List RecordRead) (on
     → (fields_read new ≡ take (count + 1) all) × (rest ≡ drop (count + 1) all) × (length new ≡ length given + 1)
 given_more all left rest given new one count is found first more =
     let taken = one_taken all count one.fields rest (sym is ∙ found) in (
-      ap fields_read more
-          ∙ map-append (λ (read : RecordRead). read.fields) given (one ∷ [])
-          ∙ ap (λ (xs : List Fields). xs ++ one.fields ∷ []) first
-          ∙ sym taken.0,
+      ap fields_read more ∙ map-append (λ (read : RecordRead). read.fields) given (one ∷ [])
+          ∙ ap (λ (xs : List Fields). xs ++ one.fields ∷ []) first ∙ sym taken.0,
       sym taken.1,
       ap length more ∙ length-append given (one ∷ []),
     )
@@ -65,5 +57,4 @@ pub reads_more : (choice : SheetChoice) (k : ℕ) (reads : List RecordRead) (one
     → one.number ≡ k + length reads + 1 → AreRecordsRead choice k reads → IsRecordRead choice one
     → AreRecordsRead choice k (reads ++ one ∷ [])
 reads_more choice k [] one e h is = (omega arith, is, tt)
-reads_more choice k (read ∷ reads) one e h is =
-    (h.0, h.1, reads_more choice (k + 1) reads one (omega arith) h.2 is)
+reads_more choice k (read ∷ reads) one e h is = (h.0, h.1, reads_more choice (k + 1) reads one (omega arith) h.2 is)

@@ -1,15 +1,11 @@
 -- The rows of records, one record after the other.
-use Rattle.std.proofs.Common.{◌≡◌, ◌<◌, ◌≤◌, ◌∙◌, ◌++◌, ◌+◌, ℕ, zero, suc, List, [], ◌∷◌, ap}
-use Rattle.std.proofs.Common.{append-nil, append_assoc, arith, drop, get_or, length, map, refl, subst, sym, take}
-use Rattle.std.specs.List.{AllZip, flat_map}
-use Rattle.std.specs.Prelude.{None, Option, Some, slice_get}
+use Rattle.std.proofs.Common.{◌≡◌, ◌<◌, ◌≤◌, ◌∙◌, ◌++◌, ◌+◌, ℕ, zero, suc, List, [], ◌∷◌, ap, append-nil, append_assoc}
+use Rattle.std.proofs.Common.{arith, drop, get_or, length, map, refl, subst, sym, take, None, Some, slice_get}
+use Rattle.register_sheets.proofs.Common.{AllZip, flat_map, Fields, Dated, below, widest, SheetChoice}
 use Rattle.std.proofs.lemmas.List.{map-append, take-map, take_more}
 use Rattle.std.proofs.lemmas.List.Concat.{flat_map-append}
-use Rattle.register_records.specs.Entries.{Fields}
-use Rattle.register_sheets.specs.DateEnds.{Dated}
-use Rattle.register_sheets.specs.Converted.{below, body_record, body_records, head_record, sheet_records}
-use Rattle.register_sheets.specs.Sheets.{filled, widest}
-use Rattle.register_sheets.specs.declared.choices.SheetChoice.{SheetChoice}
+use Rattle.register_sheets.specs.Converted.{body_record, body_records, head_record, sheet_records}
+use Rattle.register_sheets.specs.Sheets.{filled}
 
 -- records without rows add nothing
 pub body_front : (width : ℕ) (choice : SheetChoice) (xs zs : List Fields) (ys : List (List Dated))
@@ -75,10 +71,8 @@ flat_more f front xs x e =
 pub map_more : {X Y : Type 0} (f : X → Y) (xs : List X) (i : ℕ) (x : X) → i < length xs → x ≡ get_or xs i x
     → take (i + 1) (map f xs) ≡ take i (map f xs) ++ f x ∷ []
 map_more f xs i x lt is =
-    take-map f (i + 1) xs
-    ∙ ap (map f) (take_more xs i x lt ∙ ap (λ y. take i xs ++ y ∷ []) (sym is))
-    ∙ map-append f (take i xs) (x ∷ [])
-    ∙ ap (λ front. front ++ f x ∷ []) (sym (take-map f i xs))
+    take-map f (i + 1) xs ∙ ap (map f) (take_more xs i x lt ∙ ap (λ y. take i xs ++ y ∷ []) (sym is))
+    ∙ map-append f (take i xs) (x ∷ []) ∙ ap (λ front. front ++ f x ∷ []) (sym (take-map f i xs))
 
 pub zip_at : {X Y : Type 0} (R : X → Y → Type 0) (xs : List X) (ys : List Y) (i : ℕ) (d : X) (y : Y) → i < length xs
     → AllZip R (take i xs) ys → R (get_or xs i d) y → AllZip R (take (i + 1) xs) (ys ++ y ∷ [])

@@ -1,21 +1,14 @@
 -- How far records are written to an output.
 use Rattle.std.proofs.Common.{◌≡◌, ◌≤◌, ◌∙◌, ◌++◌, ℕ, List, [], ◌∷◌, Option, ap, append-nil, append_assoc, arith}
-use Rattle.std.proofs.Common.{drop, length}
-use Rattle.std.proofs.Common.{IsErrAnd, inl, min, refl, subst, suc, sym, take, zero}
-use Rattle.std.specs.Prelude.{Bool, Err, IfOk, Ok, Result}
+use Rattle.std.proofs.Common.{length, IsErrAnd, min, refl, subst, suc, sym, take, zero, Err, IfOk, Ok, Result}
+use Rattle.register_sheets.proofs.Common.{Fields, line_text, GainsFields, records_text, SheetLines}
 use Rattle.std.specs.Io.KnownBytes.{Appends}
 use Rattle.std.proofs.KnownBytes.{Appends-trans}
 use Rattle.std.proofs.Math.Seq.{take-append_seam}
-use Rattle.std.proofs.lemmas.List.{take-append-drop, take-append-le}
+use Rattle.std.proofs.lemmas.List.{take-append-le}
 use Rattle.std.proofs.lemmas.List.Concat.{flat_map-append}
-use Rattle.register_records.specs.Entries.{Fields}
-use Rattle.register_records.specs.Lines.{line_text}
-use Rattle.register_sheets.specs.LineViews.{Begins, EndsLine, GainsFields}
-use Rattle.register_sheets.specs.Sending.{Ends, HasFront, HasMade, IsSent}
-use Rattle.register_sheets.specs.Sheets.{records_text}
-use Rattle.register_sheets.specs.declared.lines.SheetLines.{SheetLines}
-use Rattle.register_sheets.specs.declared.sheet_ends.SheetCause.{SheetCause}
-use Rattle.register_sheets.specs.declared.sheet_ends.SheetCause.TheVariants.{NoMemory}
+use Rattle.register_sheets.specs.LineViews.{Begins, EndsLine}
+use Rattle.register_sheets.specs.Sending.{HasFront, HasMade, IsSent}
 
 pub text_both : (d : ℕ) (xs ys : List Fields) → records_text d (xs ++ ys) ≡ records_text d xs ++ records_text d ys
 text_both d xs ys = flat_map-append (line_text d) xs ys
@@ -83,8 +76,7 @@ pub front_more : (d : ℕ) (begun now : Option (List ℕ)) (xs ys : List Fields)
     → HasFront d begun now (xs ++ ys)
 front_more d begun now xs ys (n, appends) = (
   min n (length xs),
-  subst (Appends begun now)
-      (ap (records_text d) (sym (take-append-le (min n (length xs)) xs ys (omega arith)
+  subst (Appends begun now) (ap (records_text d) (sym (take-append-le (min n (length xs)) xs ys (omega arith)
       ∙ shorter n (min n (length xs)) xs refl))) appends,
 )
 

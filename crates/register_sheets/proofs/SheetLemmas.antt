@@ -1,10 +1,10 @@
 -- Records of a sheet, one after the other.
-use Rattle.std.proofs.Common.{◌≡◌, suc, ℕ, List, [], ◌∷◌, ◌++◌, get_or, length, arith, max, Option, None, IsSome, IfSome}
+use Rattle.std.proofs.Common.{◌≡◌, suc, ℕ, List, [], ◌∷◌, ◌++◌, get_or, length, arith, max, Option, None, IsSome}
+use Rattle.std.proofs.Common.{IfSome}
+use Rattle.register_sheets.proofs.Common.{Fields, widest}
 use Rattle.csv.specs.Records.{field_at}
-use Rattle.register_records.specs.Entries.{Fields}
 use Rattle.register_records.specs.private.ReadingState.{TakesFirst}
 use Rattle.register_sheets.specs.Reading.{left_in}
-use Rattle.register_sheets.specs.Sheets.{widest}
 
 -- a field that a record has not
 pub absent : (fields : List (List ℕ)) (place : ℕ) → field_at fields place ≡ None → get_or fields place [] ≡ []

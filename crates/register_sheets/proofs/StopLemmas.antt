@@ -1,25 +1,24 @@
 -- Stops that are alike, and the first of them.
-use Rattle.std.proofs.Common.{◌≡◌, ◌≤◌, ◌<◌, ◌+◌, ◌∙◌, ◌++◌, ◌||◌, ℕ, zero, suc, Bool, true, false, not, cond, List, [], ◌∷◌}
-use Rattle.std.proofs.Common.{ap, append-nil, arith, count_by, filter, get_or, inl, inr, length, map, refl, set, sym, take}
-use Rattle.std.specs.Prelude.{⊤, Some, option_map, slice_get}
-use Rattle.std.specs.List.{list_any}
+use Rattle.std.proofs.Common.{◌≡◌, ◌≤◌, ◌<◌, ◌+◌, ◌∙◌, ◌++◌, ◌||◌, ℕ, zero, suc, Bool, true, false, not, cond, List, []}
+use Rattle.std.proofs.Common.{◌∷◌, ap, append-nil, arith, count_by, filter, get_or, inl, inr, length, map, refl, set}
+use Rattle.std.proofs.Common.{sym, take, Some, option_map, slice_get}
+use Rattle.register_sheets.proofs.Common.{list_any, NameStop, NameCount, is_alike, name_seen, UnknownName}
+use Rattle.std.specs.Prelude.{⊤}
 use Rattle.std.specs.Cmp.{IsEquivalence}
 use Rattle.std.proofs.Math.Bool.{or-false, or-true}
 use Rattle.std.proofs.lemmas.Bool.{cases_Bool, or_parts}
 use Rattle.std.proofs.lemmas.Cmp.{and_equiv, nat_eq_equiv, on_equiv}
 use Rattle.std.specs.Cmp.Lexicographic.{options_equiv}
-use Rattle.std.proofs.lemmas.List.{get_or-map, length-append, length-map, length-take, map-append, take-append-le, take_all}
+use Rattle.std.proofs.lemmas.List.{get_or-map, length-append, length-map, length-take, map-append, take-append-le}
+use Rattle.std.proofs.lemmas.List.{take_all}
 use Rattle.std.proofs.lemmas.List.Elements.{filter-append}
 use Rattle.std.proofs.lemmas.Option.{get_or_from_slice_get, slice_get-map, slice_get_read, slice_get_within}
 use Rattle.std.proofs.lemmas.List.Folds.{list_any-append, list_any_at, list_any_more}
 use Rattle.std.proofs.lemmas.List.Sums.{sum_by-cons, sum_by_push}
 use Rattle.written_dates.specs.Calendars.{place}
 use Rattle.written_dates.proofs.WordLemmas.{same_word_equiv}
-use Rattle.register_sheets.specs.DateStops.{NameStop}
-use Rattle.register_sheets.specs.UnknownNames.{AreNames, NameCount, counted, firsts, is_alike, is_other}
-use Rattle.register_sheets.specs.UnknownNames.{name_seen}
+use Rattle.register_sheets.specs.UnknownNames.{AreNames, counted, firsts, is_other}
 use Rattle.register_sheets.specs.UnknownViews.{named}
-use Rattle.register_sheets.specs.declared.stopped_names.UnknownName.{UnknownName}
 
 pub alike_equiv : IsEquivalence is_alike
 alike_equiv =
@@ -67,8 +66,7 @@ pub firsts_apart : (stops : List NameStop) → AreApart (firsts stops)
 firsts_apart [] = tt
 firsts_apart (x ∷ xs) = (none_alike x (firsts xs), apart_filtered _ (firsts xs) (firsts_apart xs))
 
-none_taken : (q : NameStop → Bool) (k : ℕ) (xs : List NameStop) → list_any q xs ≡ false
-    → list_any q (take k xs) ≡ false
+none_taken : (q : NameStop → Bool) (k : ℕ) (xs : List NameStop) → list_any q xs ≡ false → list_any q (take k xs) ≡ false
 none_taken q zero xs e = refl
 none_taken q (suc k) [] e = refl
 none_taken q (suc k) (x ∷ xs) e =
@@ -86,11 +84,9 @@ firsts_new [] stop e = refl
 firsts_new (x ∷ xs) stop e =
     let (differs, none) = or_parts (is_alike x stop) (has xs stop) e in
     ap (λ (all : List NameStop). x ∷ others x all) (firsts_new xs stop none)
-    ∙ ap (λ (all : List NameStop). x ∷ all) (filter-append _ (firsts xs) (stop ∷ []))
-    ∙ rw differs refl
+    ∙ ap (λ (all : List NameStop). x ∷ all) (filter-append _ (firsts xs) (stop ∷ [])) ∙ rw differs refl
 
-pub firsts_known : (xs : List NameStop) (stop : NameStop) → has xs stop ≡ true
-    → firsts (xs ++ stop ∷ []) ≡ firsts xs
+pub firsts_known : (xs : List NameStop) (stop : NameStop) → has xs stop ≡ true → firsts (xs ++ stop ∷ []) ≡ firsts xs
 firsts_known [] stop e = absurd (cc)
 firsts_known (x ∷ xs) stop e =
     elim (cases_Bool (has xs stop)) [
@@ -174,8 +170,7 @@ counted_at stops stop (x ∷ names) (suc k) d lt (none, apart) is =
     (counted_at stops stop names k d (omega arith) apart is))
 
 -- a stop that none is alike to is counted once
-counted_none : (stops : List NameStop) (stop : NameStop) → has stops stop ≡ false
-    → count_by (is_alike stop) stops ≡ 0
+counted_none : (stops : List NameStop) (stop : NameStop) → has stops stop ≡ false → count_by (is_alike stop) stops ≡ 0
 counted_none [] stop e = refl
 counted_none (x ∷ stops) stop e =
     let (differs, none) = or_parts (is_alike x stop) (has stops stop) e in
@@ -183,18 +178,15 @@ counted_none (x ∷ stops) stop e =
     sum_by-cons (λ y. cond (is_alike stop y) 1 0) x stops ∙ rw (not_it, counted_none stops stop none) refl
 
 pub counted_new : (stops : List NameStop) (stop : NameStop) (names : List NameStop) → has stops stop ≡ false
-    → has names stop ≡ false
-    → map (counted (stops ++ stop ∷ [])) (names ++ stop ∷ [])
+    → has names stop ≡ false → map (counted (stops ++ stop ∷ [])) (names ++ stop ∷ [])
     ≡ map (counted stops) names ++ (stop.0, stop.1, 1) ∷ []
 counted_new stops stop names none other =
     let one : count_by (is_alike stop) (stops ++ stop ∷ []) ≡ 1
     = counted_more stops stop stop ∙ rw (counted_none stops stop none, alike_equiv.refl stop) refl in
-    map-append (counted (stops ++ stop ∷ [])) names (stop ∷ [])
-    ∙ rw (counted_same stops stop names other, one) refl
+    map-append (counted (stops ++ stop ∷ [])) names (stop ∷ []) ∙ rw (counted_same stops stop names other, one) refl
 
 -- how many are of other names, with one more stop, and with one more name
-pub others_more : (names stops : List NameStop) (stop : NameStop)
-    → count_by (is_other names) (stops ++ stop ∷ [])
+pub others_more : (names stops : List NameStop) (stop : NameStop) → count_by (is_other names) (stops ++ stop ∷ [])
     ≡ count_by (is_other names) stops + cond (is_other names stop) 1 0
 others_more names stops stop = sum_by_push (λ x. cond (is_other names x) 1 0) stops stop
 
@@ -246,8 +238,7 @@ names_known most stops stop old new more k d are lt is made =
       names_are = made ∙ ap (λ (all : List NameCount). set all k (one_more (counted stops (get_or names k d)))) are.names_are
           ∙ counted_at stops stop names k d lt apart is
           ∙ ap (λ (all : List NameStop). map (counted (stops ++ stop ∷ [])) (take most all)) (sym same);
-      more_are = are.more_are
-          ∙ sym (rw same (others_more names stops stop ∙ rw there (omega arith)));
+      more_are = are.more_are ∙ sym (rw same (others_more names stops stop ∙ rw there (omega arith)));
     }
 
 -- a name that is new is listed
@@ -337,5 +328,4 @@ pub none_more : (stop : NameStop) (items : List UnknownName) (k : ℕ) (x : Unkn
 none_more stop items k x lt is differs none =
     let at : get_or (map named items) k (named x) ≡ named x = get_or-map named items k x (named x) lt ∙ ap named (sym is) in
     let in_names : k < length (map named items) = omega (arith, lt, length-map items named) in
-    list_any_more (λ name. is_alike name stop) (map named items) k (named x) in_names
-    ∙ rw (none, at, differs) refl
+    list_any_more (λ name. is_alike name stop) (map named items) k (named x) in_names ∙ rw (none, at, differs) refl

@@ -1,18 +1,11 @@
 -- Records that are noted, and whose lines are made, one after the other.
 use Rattle.std.proofs.Common.{◌≡◌, ◌∙◌, ◌++◌, ◌+◌, ℕ, zero, suc, List, [], ◌∷◌, Some, ap, append-nil, append_assoc}
-use Rattle.std.proofs.Common.{arith}
-use Rattle.std.proofs.Common.{inl, inr, length, length-append, refl, subst, sym}
-use Rattle.std.specs.Prelude.{◌⊎◌, slice_get}
-use Rattle.register_records.specs.Entries.{Fields}
+use Rattle.std.proofs.Common.{arith, inl, inr, length, length-append, refl, subst, sym, ◌⊎◌, slice_get}
+use Rattle.register_sheets.proofs.Common.{Fields, Waits, HasNotes, AreRegisterWriters, Takes, line_of_entry, RecordRead}
+use Rattle.register_sheets.proofs.Common.{SheetChoice, LineWriter, EntryLine}
 use Rattle.register_records.specs.declared.outputs.Output as outputs
-use Rattle.register_sheets.specs.LineWriters.{Waits}
 use Rattle.register_sheets.specs.Registers.{register_head}
-use Rattle.register_sheets.specs.SheetNotes.{HasNotes}
-use Rattle.register_sheets.specs.SheetReadings.{AreRegisterWriters, Takes, entry_maker, line_of_entry}
-use Rattle.register_sheets.specs.SheetRecords.{RecordRead}
-use Rattle.register_sheets.specs.declared.choices.SheetChoice.{SheetChoice}
-use Rattle.register_sheets.specs.declared.line_writers.LineWriter.{LineWriter}
-use Rattle.register_sheets.specs.declared.record_lines.EntryLine.{EntryLine}
+use Rattle.register_sheets.specs.SheetReadings.{entry_maker}
 use Rattle.register_sheets.specs.declared.sheet_writers.SheetWriters.{SheetWriters}
 use Rattle.register_sheets.proofs.EachLemmas.{each_more, each_none}
 use Rattle.register_sheets.proofs.LineWriterLemmas.{gathers_more, gathers_none}
@@ -23,8 +16,7 @@ module _ {M W : Type 0} (o : outputs.Ghosts W) (line : M → SheetChoice → Rec
         → Takes o line choice reads writers writers output output files files
     takes_none reads writers output files none =
         record {
-          notes = λ done most h.
-              subst (λ (all : List RecordRead). HasNotes choice all most writers.notes)
+          notes = λ done most h. subst (λ (all : List RecordRead). HasNotes choice all most writers.notes)
               (sym (ap (λ (xs : List RecordRead). done ++ xs) none ∙ append-nil done)) h;
           sheet = gathers_none o line choice reads writers.sheet output none;
           registers = each_none o line_of_entry choice reads writers.registers.items files none;
@@ -33,13 +25,11 @@ module _ {M W : Type 0} (o : outputs.Ghosts W) (line : M → SheetChoice → Rec
     pub takes_more : (reads all : List RecordRead) (one : RecordRead) (old mid new : SheetWriters M) (before middle after
         : W)
         (given between written : List W) → all ≡ reads ++ one ∷ [] → Takes o line choice reads old mid before middle
-        given between
-        → Takes o line choice (one ∷ []) mid new middle after between written
+        given between → Takes o line choice (one ∷ []) mid new middle after between written
         → Takes o line choice all old new before after given written
     takes_more reads all one old mid new before middle after given between written is a b =
         record {
-          notes = λ done most h.
-              subst (λ (xs : List RecordRead). HasNotes choice xs most new.notes)
+          notes = λ done most h. subst (λ (xs : List RecordRead). HasNotes choice xs most new.notes)
               (append_assoc done reads (one ∷ []) ∙ ap (λ (xs : List RecordRead). done ++ xs) (sym is))
               (b.notes (done ++ reads) most (a.notes done most h));
           sheet = gathers_more o line choice reads all one old.sheet mid.sheet new.sheet before middle after is a.sheet

@@ -1,12 +1,9 @@
 -- What stands in a sheet down to its names.
 use Rattle.std.proofs.Common.{◌≡◌, ◌≤◌, ◌<◌, ◌∙◌, ◌++◌, ◌+◌, ℕ, List, [], ◌∷◌, ap, append-nil, append_assoc, drop}
-use Rattle.std.proofs.Common.{get_or}
-use Rattle.std.proofs.Common.{length, map, refl, sym, take}
+use Rattle.std.proofs.Common.{get_or, length, map, refl, sym, take}
+use Rattle.register_sheets.proofs.Common.{Fields, top_records, SheetChoice}
 use Rattle.std.proofs.lemmas.List.{take-append-drop, take_more}
-use Rattle.register_records.specs.Entries.{Fields}
-use Rattle.register_sheets.specs.Sending.{top_records}
 use Rattle.register_sheets.specs.Sheets.{filled}
-use Rattle.register_sheets.specs.declared.choices.SheetChoice.{SheetChoice}
 use Rattle.register_sheets.proofs.RowLemmas.{same_head}
 use Rattle.register_sheets.proofs.SendingLemmas.{taken_twice}
 use Rattle.register_sheets.proofs.WidthLemmas.{none_filled}
@@ -15,8 +12,7 @@ use Rattle.register_sheets.proofs.WidthLemmas.{none_filled}
 pub top_line : (all left : List Fields) (k : ℕ) (lines : Fields) → lines ≡ [] → k < length all → left ≡ drop k all
     → take (k + 1) all ≡ take k all ++ (filled 0 (get_or left 0 []) ++ lines) ∷ []
 top_line all left k lines none low is =
-    take_more all k [] low
-    ∙ ap (λ (f : Fields). take k all ++ f ∷ [])
+    take_more all k [] low ∙ ap (λ (f : Fields). take k all ++ f ∷ [])
     (sym (ap (λ (xs : Fields). filled 0 (get_or left 0 []) ++ xs) none ∙ append-nil (filled 0 (get_or left 0 []))
     ∙ none_filled (get_or left 0 []) ∙ ap (λ (xs : List Fields). get_or xs 0 []) is ∙ same_head k all []))
 

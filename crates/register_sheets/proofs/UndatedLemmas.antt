@@ -1,13 +1,14 @@
 -- A text that says that no date is known has an empty first end, so that nothing stops it.
-use Rattle.std.proofs.Common.{◌≡◌, ◌∙◌, ◌&&◌, ◌||◌, ℕ, ℤ, Bool, true, false, List, [], None, Option, Some, ap}
-use Rattle.std.proofs.Common.{get_or, not, option_map, refl, sym}
-use Rattle.date_texts.specs.declared.calendar.Calendar.{Calendar}
+use Rattle.std.proofs.Common.{◌≡◌, ◌∙◌, ◌&&◌, ◌||◌, ℕ, ℤ, Bool, true, false, List, [], None, Option, Some, ap, get_or}
+use Rattle.std.proofs.Common.{not, option_map, refl, sym}
+use Rattle.register_sheets.proofs.Common.{Calendar, calendar_of, CalendarMeaning, Name, meaning_for, AreEndsIn}
+use Rattle.register_sheets.proofs.Common.{DateStop, IsStopBy, DateColumn, SheetChoice, Fields}
 use Rattle.date_spans.specs.Brackets.{without_brackets}
 use Rattle.date_spans.specs.Ends.{AreEnds as AreEndsSaid}
 use Rattle.date_spans.specs.Sayings.{kind_of}
 use Rattle.date_spans.specs.declared.ends.Numbers.{Numbers}
-use Rattle.date_spans.specs.Spans.{AreEndsOf, IsCivilSpan, IsDayOrText, IsInferred, IsPlainSpan, IsSpanByForm, IsSpanOfText}
-use Rattle.date_spans.specs.Spans.{has_about, is_date, kept_of, marks_of, said, said_in, unsaid}
+use Rattle.date_spans.specs.Spans.{AreEndsOf, IsCivilSpan, IsDayOrText, IsInferred, IsPlainSpan, IsSpanByForm}
+use Rattle.date_spans.specs.Spans.{IsSpanOfText, has_about, is_date, kept_of, marks_of, said, said_in, unsaid}
 use Rattle.date_spans.specs.Sides.{words_in}
 use Rattle.date_spans.specs.declared.sayings.Kind.{Kind}
 use Rattle.date_spans.specs.declared.sayings.Kind.TheVariants as kinds
@@ -15,25 +16,20 @@ use Rattle.date_spans.specs.declared.sayings.Said.{Said}
 use Rattle.date_spans.specs.declared.sayings.Said.TheVariants as sayings
 use Rattle.date_spans.specs.declared.spans.Marks.{Marks}
 use Rattle.written_dates.specs.Calendars.{form}
-use Rattle.written_dates.specs.Fields.{calendar_of, without_blanks}
+use Rattle.written_dates.specs.Fields.{without_blanks}
 use Rattle.written_dates.specs.Tokens.{tokens}
 use Rattle.written_dates.specs.declared.calendars.Form.{Form}
 use Rattle.written_dates.specs.declared.calendars.Form.TheVariants as forms
-use Rattle.written_dates.specs.declared.fields.CalendarMeaning.{CalendarMeaning}
 use Rattle.written_dates.specs.declared.fields.CalendarMeaning.TheVariants.{Both, Changed, One}
-use Rattle.written_dates.specs.declared.meanings.Name.{Name}
 use Rattle.written_dates.specs.declared.written.Choice.{Choice}
 use Rattle.register_sheets.specs.CalendarChanges.{EndText, IsAtChange, before, behind, left_out}
-use Rattle.register_sheets.specs.Choices.{date_text, meaning_for}
-use Rattle.register_sheets.specs.DateEnds.{AreEndsBy, AreEndsIn, marks_at_change}
-use Rattle.register_sheets.specs.DateStops.{DateStop, IsStopBy, IsStopIn}
+use Rattle.register_sheets.specs.Choices.{date_text}
+use Rattle.register_sheets.specs.DateEnds.{AreEndsBy, marks_at_change}
+use Rattle.register_sheets.specs.DateStops.{IsStopIn}
 use Rattle.register_sheets.specs.UndatedLaws.{UndatedIsNotUnread}
 use Rattle.register_sheets.specs.UnknownNames.{is_emptied, says_open}
-use Rattle.register_sheets.specs.declared.choices.DateColumn.{DateColumn}
-use Rattle.register_sheets.specs.declared.choices.SheetChoice.{SheetChoice}
 use Rattle.register_sheets.specs.declared.choices.Spans.{Spans}
 use Rattle.register_sheets.specs.declared.choices.Spans.TheVariants as spans
-use Rattle.register_records.specs.Entries.{Fields}
 
 -- ---- the kind of marks
 kind_as : (a b : Marks) → a ≡ b → a.kind ≡ kinds.Undated → b.kind ≡ kinds.Undated

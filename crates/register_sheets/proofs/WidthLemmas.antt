@@ -1,7 +1,7 @@
 -- The width of a sheet, record by record.
 use Rattle.std.proofs.Common.{◌≡◌, ◌≤◌, ◌<◌, ◌∙◌, ◌++◌, ◌-◌, ℕ, zero, suc, List, [], ◌∷◌, Option, None, Some, arith}
 use Rattle.std.proofs.Common.{append-nil, drop, length, length-append, max, refl, unwrap_or}
-use Rattle.register_records.specs.Entries.{Fields}
+use Rattle.register_sheets.proofs.Common.{Fields}
 use Rattle.register_sheets.specs.Sheets.{filled}
 use Rattle.register_sheets.specs.WidthViews.{IsWidth}
 use Rattle.register_sheets.proofs.SheetLemmas.{widest_more}

@@ -1,5 +1,5 @@
 -- What is asked of a sheet, and the choice that it makes with names and headings.
-use Rattle.std.specs.Prelude.{◌≡◌, ℕ, true, List, [], get_or, length, map}
+use Rattle.std.specs.Prelude.{◌≡◌, ◌≢◌, ℕ, true, false, List, [], get_or, length, map, nat_lt}
 use Rattle.register_records.specs.Entries.{Fields, text_records}
 use Rattle.register_records.specs.SetupRules.{is_delimiter}
 use Rattle.written_dates.specs.Fields.{bare_name, entries}
@@ -7,12 +7,14 @@ use Rattle.written_dates.specs.declared.fields.CalendarMeaning.{CalendarMeaning}
 use Rattle.written_dates.specs.declared.fields.CalendarName.{CalendarName}
 use Rattle.written_dates.specs.declared.meanings.Name.{Name}
 use Rattle.written_dates.specs.declared.written.Choice.{Choice}
-use Rattle.register_sheets.specs.Choices.{AsksOnce, HasDates, added}
+use Rattle.register_sheets.specs.Choices.{AsksOnce, HasDates, added, column_limit}
 use Rattle.register_sheets.specs.Headings.{AreHeadings, wanted_headings}
 use Rattle.register_sheets.specs.NameLists.{calendar_names_in, calendar_seen, name_seen, names_in_dates}
 use Rattle.register_sheets.specs.declared.asked_of_sheets.AskedByNames.{AskedByNames}
 use Rattle.register_sheets.specs.declared.asked_of_sheets.AskedOfSheet.{AskedOfSheet}
 use Rattle.register_sheets.specs.declared.choices.AskedColumn.{AskedColumn}
+use Rattle.register_sheets.specs.declared.choices.ChoiceFault.{ChoiceFault}
+use Rattle.register_sheets.specs.declared.choices.ChoiceFault.TheVariants as fault
 use Rattle.register_sheets.specs.declared.choices.DateColumn.{DateColumn}
 use Rattle.register_sheets.specs.declared.choices.IdField.{IdField}
 use Rattle.register_sheets.specs.declared.choices.SheetChoice.{SheetChoice}
@@ -66,6 +68,17 @@ pub record IsChoice (choice : SheetChoice) : Type 0 where
   pub once : AsksOnce choice
   pub delimited : is_delimiter choice.delimiter ≡ true
   pub headed : length choice.headings.now ≡ added choice
+
+-- the first fault of a choice is this
+abbrev pub HasFault : SheetChoice → ChoiceFault → Type 0
+HasFault choice fault.Dates = ¬ (HasDates choice)
+HasFault choice fault.TooManyColumns = HasDates choice × (nat_lt column_limit (length choice.columns.now) ≡ true)
+HasFault choice fault.ColumnTwice =
+    HasDates choice × (nat_lt column_limit (length choice.columns.now) ≡ false) × ¬ (AsksOnce choice)
+HasFault choice fault.Delimiter = HasDates choice × AsksOnce choice × (is_delimiter choice.delimiter ≡ false)
+HasFault choice fault.Headings =
+    HasDates choice × AsksOnce choice × (is_delimiter choice.delimiter ≡ true)
+    × (length choice.headings.now ≢ added choice)
 
 -- what a value asks
 abbrev pub asked_in : AskedOfSheet → SheetAsked

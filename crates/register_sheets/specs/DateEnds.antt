@@ -1,6 +1,6 @@
 -- The first and the last day of a date of a sheet.
-use Rattle.std.specs.Prelude.{◌≡◌, ℕ, ℤ, Bool, true, false, not, ◌&&◌, ◌||◌, ◌==◌, if◌then◌else◌, is_err, List, [], ◌∷◌}
-use Rattle.std.specs.Prelude.{◌++◌, Option, None, Some, codes, get_or, length}
+use Rattle.std.specs.Prelude.{◌≡◌, ℕ, ℤ, Bool, true, false, not, ◌&&◌, ◌==◌, if◌then◌else◌, is_err, List, [], ◌∷◌}
+use Rattle.std.specs.Prelude.{◌++◌, Option, None, Some, codes, length}
 use Rattle.std.specs.Result.{result_ok}
 use Rattle.date_texts.specs.declared.calendar.Calendar.{Calendar}
 use Rattle.date_spans.specs.Spans.{IsSpan, marks}
@@ -21,7 +21,7 @@ use Rattle.written_dates.specs.declared.fields.CalendarMeaning.TheVariants.{One,
 use Rattle.register_sheets.specs.CalendarChanges.{EndText, IsAtChange}
 use Rattle.register_sheets.specs.Choices.{asked_targets, date_text, meaning_for, row_entry}
 use Rattle.register_sheets.specs.declared.calendar_changes.EndCalendar.{EndCalendar}
-use Rattle.register_sheets.specs.declared.calendar_changes.EndCalendar.TheVariants.{OfRecord, OldStyle, Neither}
+use Rattle.register_sheets.specs.declared.calendar_changes.EndCalendar.TheVariants.{OfRecord, OldStyle}
 use Rattle.register_sheets.specs.declared.choices.DateColumn.{DateColumn}
 use Rattle.register_sheets.specs.declared.choices.End.{End}
 use Rattle.register_sheets.specs.declared.choices.End.TheVariants as ends

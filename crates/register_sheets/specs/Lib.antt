@@ -9,7 +9,6 @@ pub mod OwnCalendars
 pub mod OwnViews
 pub mod Choices
 pub mod ChurchNames
-pub mod ChoiceViews
 pub mod DateEnds
 pub mod AskedViews
 pub mod Laws

@@ -1,9 +1,10 @@
 -- What a writer of lines holds.
-use Rattle.std.specs.Prelude.{◌≡◌, ◌++◌, ⊤, [], ℕ, List, Option, None, Result, Some, length, map, slice_get, true}
+use Rattle.std.specs.Prelude.{◌≡◌, ◌++◌, ◌∷◌, ⊤, [], ℕ, List, OnOk, Option, None, Result, Some, length, map, slice_get}
+use Rattle.std.specs.Prelude.{true}
 use Rattle.register_records.specs.Entries.{Fields}
 use Rattle.register_records.specs.declared.outputs.Output as outputs
 use Rattle.register_sheets.specs.Produced.{Agrees, AreLines, Produced, ending_of}
-use Rattle.register_sheets.specs.Sending.{HasFront, HasMade}
+use Rattle.register_sheets.specs.Sending.{Ends, HasFront, HasMade}
 use Rattle.register_sheets.specs.SheetRecords.{RecordRead}
 use Rattle.register_sheets.specs.declared.choices.SheetChoice.{SheetChoice}
 use Rattle.register_sheets.specs.declared.line_writers.LineWriter.{LineWriter}
@@ -36,6 +37,17 @@ module _ {M : Type 0} where
       (made : List Fields) : Type 0 where
     pub stands : Stands o writer.sender.delimiter given output writer.sender.lines made writer.fault
     pub mark : o.own_mark output ≡ o.own_mark given
+
+  -- this line was made, or a fault was met
+  pub record Writes {W : Type 0} (o : outputs.Ghosts W) (line : Fields) (old new : LineWriter M) (before after : W)
+      (result : Result (Unit {0}) SheetCause) : Type 0 where
+    pub maker : new.maker ≡ old.maker
+    pub delimiter : new.sender.delimiter ≡ old.sender.delimiter
+    pub fault : new.fault ≡ old.fault
+    pub made : OnOk result ((begun : Option (List ℕ)) (made : List Fields)
+        → HasMade old.sender.delimiter begun (o.contents before) old.sender.lines made []
+        → HasMade old.sender.delimiter begun (o.contents after) new.sender.lines (made ++ line ∷ []) [])
+    pub output : Ends o result before after
 
   -- these lines were made behind others
   pub record Makes {W : Type 0} (o : outputs.Ghosts W) (lines : List Fields) (old new : LineWriter M) (before after : W)

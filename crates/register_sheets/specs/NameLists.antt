@@ -1,7 +1,6 @@
 -- Lists of names: a CSV text with the columns `name`, `means` and `in`, by a form of this project.
 use Rattle.std.specs.Prelude.{◌≡◌, ◌≢◌, ◌+◌, ◌==◌, ◌++◌, ℕ, Bool, true, false, List, [], ◌∷◌, ⊤, All, Any, codes}
-use Rattle.std.specs.Prelude.{get_or, length, map, Option, None, Some}
-use Rattle.std.specs.Prelude.{IsUtf8}
+use Rattle.std.specs.Prelude.{get_or, length, map, Option, None, Some, IsUtf8}
 use Rattle.std.specs.List.{flat_map, list_any, slice_split}
 use Rattle.std.specs.Str.{bytes_eq, str_to_ascii_lowercase}
 use Rattle.date_texts.specs.Calendars.{all_calendars, calendar_name}

@@ -1,12 +1,11 @@
 -- How far records are written to an output. No public contract cites this file.
-use Rattle.std.specs.Prelude.{◌≡◌, ◌⊎◌, ◌≤◌, ◌<◌, ◌++◌, ℕ, Bool, true, false, List, [], Option, Result, Ok, Err}
-use Rattle.std.specs.Prelude.{IfErr, IfOk, OnOk}
-use Rattle.std.specs.Prelude.{◌∷◌, None, Some, drop, get_or, length, map, take}
+use Rattle.std.specs.Prelude.{◌≡◌, ◌⊎◌, ◌++◌, ℕ, true, List, [], Option, Result, IfErr, OnOk, ◌∷◌, drop, get_or}
+use Rattle.std.specs.Prelude.{map, take}
 use Rattle.std.specs.Io.KnownBytes.{Appends}
-use Rattle.register_records.specs.Entries.{Fields, record_limit}
+use Rattle.register_records.specs.Entries.{Fields}
+use Rattle.register_records.specs.declared.outputs.Output as outputs
 use Rattle.register_sheets.specs.LineViews.{Begins}
 use Rattle.register_sheets.specs.Sheets.{filled, records_text}
-use Rattle.register_sheets.specs.declared.choices.DateColumn.{DateColumn}
 use Rattle.register_sheets.specs.declared.choices.SheetChoice.{SheetChoice}
 use Rattle.register_sheets.specs.declared.lines.SheetLines.{SheetLines}
 use Rattle.register_sheets.specs.declared.sheet_ends.SheetCause.{SheetCause}
@@ -31,13 +30,14 @@ pub record IsSent (delimiter : ℕ) (begun now : Option (List ℕ)) (lines : She
 abbrev pub HasFront : ℕ → Option (List ℕ) → Option (List ℕ) → List Fields → Type 0
 HasFront delimiter begun now records = (count : ℕ) × Appends begun now (records_text delimiter (take count records))
 
--- whether the output has failed by this answer, and that its mark stays
-pub record Ends {A : Type 0} (result : Result A SheetCause) (failed fails : Bool) (mark new_mark : ℕ) : Type 0 where
-  pub good : OnOk result (fails ≡ failed)
+-- what an output has come to by this answer
+pub record Ends {W A : Type 0} (o : outputs.Ghosts W) (result : Result A SheetCause) (before after : W) : Type 0 where
+  pub good : OnOk result (o.has_failed after ≡ o.has_failed before)
   pub causes : IfErr result (λ c. (c ≡ cause.NoMemory) ⊎ (c ≡ cause.SinkFault))
-  pub memory : IfErr result (λ c. c ≡ cause.NoMemory → fails ≡ failed)
-  pub sink : IfErr result (λ c. c ≡ cause.SinkFault → fails ≡ true)
-  pub marked : new_mark ≡ mark
+  -- for want of memory nothing was sent
+  pub memory : IfErr result (λ c. c ≡ cause.NoMemory → after ≡ before)
+  pub sink : IfErr result (λ c. c ≡ cause.SinkFault → o.has_failed after ≡ true)
+  pub marked : o.own_mark after ≡ o.own_mark before
 
 -- the records of the sheet that comes back down to the names
 abbrev pub top_records : SheetChoice → ℕ → List Fields → List Fields

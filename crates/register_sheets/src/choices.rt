@@ -1,14 +1,12 @@
 //! What is chosen of a sheet.
 
-ghost use Rattle.std.specs.Prelude.{◌≡◌, ◌≢◌, ◌≤◌, ◌<◌, ◌↔◌, ◌+◌, ◌++◌, ◌∷◌, [], true, false, count_by, length, nat_lt};
-ghost use Rattle.std.specs.Prelude.{option_to_list, take};
-ghost use Rattle.std.specs.Prelude.{Err, IfErr, IfOk};
-ghost use Rattle.register_records.specs.SetupRules.{NamesTwice, is_delimiter};
+ghost use Rattle.std.specs.Prelude.{◌≡◌, ◌≤◌, ◌<◌, ◌+◌, [], count_by, length};
+ghost use Rattle.std.specs.Prelude.{option_to_list, take, Err, IfErr, IfOk};
 ghost use Rattle.register_records.specs.Views.{targets_of};
-ghost use Rattle.register_sheets.specs.Choices.{AsksOnce, HasDates, added, added_each as added_spec, asked_targets};
-ghost use Rattle.register_sheets.specs.Choices.{asks_twice, column_limit};
-ghost use Rattle.register_sheets.specs.Choices.{date_limit, is_church, is_day_number, is_weekday, target_in};
-ghost use Rattle.register_sheets.specs.ChoiceViews.{HasFault};
+ghost use Rattle.register_sheets.specs.Choices.{AsksOnce, HasDates, added_each as added_spec, asked_targets};
+ghost use Rattle.register_sheets.specs.Choices.{asks_twice};
+ghost use Rattle.register_sheets.specs.Choices.{is_church, is_day_number, is_weekday, target_in};
+ghost use Rattle.register_sheets.specs.AskedOfSheets.{HasFault, IsChoice};
 
 use date_texts::{MAX_TARGETS, Target};
 use register_records::{Form, Setup, SetupFault};
@@ -242,8 +240,7 @@ fn added_each(spans: Spans, asked: usize) -> usize
 
 /// The setup of the targets asked, or the first fault that applies.
 fn setup_of(choice: &SheetChoice) -> Result<Setup, ChoiceFault>
-    ensures good { IfOk result (λ setup. HasDates choice.now × AsksOnce choice.now
-        × (is_delimiter choice.now.delimiter ≡ true) × (length choice.now.headings.now ≡ added choice.now)
+    ensures good { IfOk result (λ setup. IsChoice choice.now
         × (targets_of setup ≡ asked_targets choice.now.columns.now)) }
     ensures fault { IfErr result (HasFault choice.now) }
 {
@@ -277,19 +274,8 @@ impl<'a> SheetSetup<'a> {
     /// The first fault that applies, in the order of [`ChoiceFault`].
     pub fn new(choice: SheetChoice<'a>) -> Result<SheetSetup<'a>, ChoiceFault>
         ensures value { IfOk result (λ s. s.choice ≡ choice.entry) }
-        ensures good { IfOk result (λ s. HasDates choice.entry × AsksOnce choice.entry
-            × (is_delimiter choice.entry.delimiter ≡ true)
-            × (length choice.entry.headings.now ≡ added choice.entry)) }
-        ensures dates { (result ≡ Err ChoiceFault.Dates) ↔ ¬ (HasDates choice.entry) }
-        ensures many { (result ≡ Err ChoiceFault.TooManyColumns)
-            ↔ (HasDates choice.entry × (nat_lt column_limit (length choice.entry.columns.now) ≡ true)) }
-        ensures twice { (result ≡ Err ChoiceFault.ColumnTwice) ↔ (HasDates choice.entry
-            × (nat_lt column_limit (length choice.entry.columns.now) ≡ false) × ¬ (AsksOnce choice.entry)) }
-        ensures delimiter { (result ≡ Err ChoiceFault.Delimiter)
-            ↔ (HasDates choice.entry × AsksOnce choice.entry × (is_delimiter choice.entry.delimiter ≡ false)) }
-        ensures headings { (result ≡ Err ChoiceFault.Headings)
-            ↔ (HasDates choice.entry × AsksOnce choice.entry × (is_delimiter choice.entry.delimiter ≡ true)
-            × (length choice.entry.headings.now ≢ added choice.entry)) }
+        ensures good { IfOk result (λ s. IsChoice choice.entry) }
+        ensures fault { IfErr result (HasFault choice.entry) }
     {
         let setup = setup_of(&choice)?;
         Ok(SheetSetup { choice, setup })

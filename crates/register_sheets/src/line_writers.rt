@@ -3,12 +3,11 @@
 ghost use Rattle.std.specs.Prelude.{◌≡◌, ◌++◌, ◌∷◌, ◌⊎◌, [], ℕ, IfErr, List, None, OnOk, Option, Result, length, map};
 ghost use Rattle.register_sheets.specs.declared.sheet_ends.SheetCause.{SheetCause as SheetCauseValue};
 ghost use Rattle.csv.specs.Records.{fields_of};
-ghost use Rattle.register_sheets.specs.Produced.{Agrees, AreLines, Produced, ending_of, first_fault};
-ghost use Rattle.register_sheets.specs.Produced.{lacks_memory as memory_spec};
+ghost use Rattle.register_sheets.specs.Produced.{first_fault, lacks_memory as memory_spec};
 ghost use Rattle.register_sheets.specs.Sheets.{filled};
 ghost use Rattle.register_records.specs.Entries.{Fields};
-ghost use Rattle.register_sheets.specs.LineWriters.{FinishesEach, Gathers, GathersEach, Holds, Makes, Waits};
-ghost use Rattle.register_sheets.specs.Sending.{Ends, HasMade};
+ghost use Rattle.register_sheets.specs.LineWriters.{Finishes, FinishesEach, Gathers, GathersEach, Makes, Waits, Writes};
+ghost use Rattle.register_sheets.specs.Sending.{HasMade};
 ghost use Rattle.register_sheets.specs.SheetRecords.{record_read};
 
 use crate::choices::SheetSetup;
@@ -102,16 +101,8 @@ impl<M: RecordLine> LineWriter<M> {
         of_sheet: &SheetRecord,
         output: &mut W,
     ) -> Result<(), SheetCause>
-        ensures maker { self.new.maker ≡ self.old.maker }
-        ensures kept { self.new.sender.delimiter ≡ self.old.sender.delimiter }
-        ensures fault { self.new.fault ≡ self.old.fault }
-        ensures made { OnOk result ((begun : Option (List ℕ)) (made : List Fields)
-            → HasMade self.old.sender.delimiter begun (W.contents output.old) self.old.sender.lines made []
-            → HasMade self.old.sender.delimiter begun (W.contents output.new) self.new.sender.lines
-            (made ++ M.line self.old.maker setup.now.choice (record_read of_sheet.now) ∷ []) []) }
-        ensures memory { IfErr result (λ c. c ≡ SheetCause.NoMemory → output.new ≡ output.old) }
-        ensures output { Ends result (W.has_failed output.old) (W.has_failed output.new) (W.own_mark output.old)
-            (W.own_mark output.new) }
+        ensures { Writes W.Output (M.line self.old.maker setup.now.choice (record_read of_sheet.now)) self.old self.new
+            output.old output.new result }
     {
         self.maker.push(setup, of_sheet, &mut self.sender.lines)?;
         self.sender.end(output)
@@ -138,16 +129,8 @@ impl<M: RecordLine> LineWriter<M> {
         more: &[&[u8]],
         output: &mut W,
     ) -> Result<(), SheetCause>
-        ensures maker { self.new.maker ≡ self.old.maker }
-        ensures kept { self.new.sender.delimiter ≡ self.old.sender.delimiter }
-        ensures fault { self.new.fault ≡ self.old.fault }
-        ensures made { OnOk result ((begun : Option (List ℕ)) (made : List Fields)
-            → HasMade self.old.sender.delimiter begun (W.contents output.old) self.old.sender.lines made []
-            → HasMade self.old.sender.delimiter begun (W.contents output.new) self.new.sender.lines
-            (made ++ (filled fill (fields_of own.now) ++ map (λ field. field.now) more.now) ∷ []) []) }
-        ensures memory { IfErr result (λ c. c ≡ SheetCause.NoMemory → output.new ≡ output.old) }
-        ensures output { Ends result (W.has_failed output.old) (W.has_failed output.new) (W.own_mark output.old)
-            (W.own_mark output.new) }
+        ensures { Writes W.Output (filled fill (fields_of own.now) ++ map (λ field. field.now) more.now) self.old self.new
+            output.old output.new result }
     {
         push_own(&mut self.sender.lines, own, fill)?;
         self.sender.lines.push_all(more)?;
@@ -184,10 +167,7 @@ impl<M: RecordLine> LineWriter<M> {
         output: &mut W,
     ) -> Result<(), SheetCause>
         requires { IfErr read (λ c. (c ≡ SheetCause.NoMemory) ⊎ (c ≡ SheetCause.TooManyRecords)) }
-        ensures produced { (given : W) (made : List Fields) → Holds W.Output given output.old self.old made
-            → Produced W.Output given output.new (ending_of result) (AreLines self.old.sender.delimiter made result) }
-        ensures agrees { (given : W) (made : List Fields) → Holds W.Output given output.old self.old made
-            → Agrees read result }
+        ensures { Finishes W.Output read self.old output.old output.new result }
     {
         if let Some(cause) = self.fault {
             return Err(cause);

@@ -4,9 +4,8 @@ ghost use Rattle.std.specs.Prelude.{◌≡◌, ◌↔◌, ◌∷◌, [], IfOk, I
 ghost use Rattle.csv.specs.Records.{fields_of};
 ghost use Rattle.register_records.specs.Entries.{text_records};
 ghost use Rattle.register_sheets.specs.NameLists.{IsFaultOf, IsLine, IsListOf, IsRefused, columns};
-ghost use Rattle.register_sheets.specs.NameLists.{can_mean as can_mean_spec};
-ghost use Rattle.register_sheets.specs.NameLists.{calendar_in as calendar_spec, calendar_names_in, calendar_seen};
-ghost use Rattle.register_sheets.specs.NameLists.{name_seen, names_in_dates};
+ghost use Rattle.register_sheets.specs.NameLists.{can_mean as can_mean_spec, calendar_in as calendar_spec};
+ghost use Rattle.register_sheets.specs.NameLists.{calendar_names_in, calendar_seen, name_seen, names_in_dates};
 ghost use Rattle.register_sheets.specs.Reading.{IsReading, left_of};
 ghost use Rattle.register_sheets.specs.Sheets.{chosen};
 

@@ -8,8 +8,8 @@ ghost use Rattle.date_texts.specs.declared.calendar.Calendar.{Calendar as Calend
 ghost use Rattle.register_sheets.specs.MeaningViews.{is_bare, is_counted, is_named};
 ghost use Rattle.register_sheets.specs.NameMeanings.{AreMonths, IsPart, era_name};
 ghost use Rattle.register_sheets.specs.NameMeanings.{IsNumberIn, IsWordAndNumber, Says, SaysCalendar, SaysChange};
-ghost use Rattle.written_dates.specs.declared.fields.CalendarMeaning.{CalendarMeaning as CalendarMeaningValue};
 ghost use Rattle.register_sheets.specs.NameMeanings.{SaysMeaning, mark_name, relation_name, season_name, weekday_name, word_name};
+ghost use Rattle.written_dates.specs.declared.fields.CalendarMeaning.{CalendarMeaning as CalendarMeaningValue};
 ghost use Rattle.register_sheets.specs.declared.name_meanings.Means.{Means as MeansValue};
 ghost use Rattle.written_dates.specs.declared.meanings.Meaning.{Meaning as MeaningValue};
 

@@ -1,6 +1,6 @@
 //! No output.
 
-ghost use Rattle.std.specs.Prelude.{None, ℕ, List, true};
+ghost use Rattle.std.specs.Prelude.{None, true};
 
 use register_records::{Output, OutputFault};
 

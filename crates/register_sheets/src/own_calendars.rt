@@ -1,6 +1,6 @@
 //! A calendar that a date names at the end of its text, as `12. Mai 1706 n. St.`.
 
-ghost use Rattle.std.specs.Prelude.{◌≡◌, ◌≤◌, IfSome, length, map, option_map};
+ghost use Rattle.std.specs.Prelude.{◌≡◌, ◌≤◌, IfSome, length, option_map};
 ghost use Rattle.written_dates.specs.Sums.{found_items};
 ghost use Rattle.written_dates.specs.Tokens.{tokens};
 ghost use Rattle.std.specs.Char.{is_ascii_digit as digit_spec};

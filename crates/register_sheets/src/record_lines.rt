@@ -1,6 +1,6 @@
 //! Lines that are made of a sheet's records, by what is read of them.
 
-ghost use Rattle.std.specs.Prelude.{◌≡◌, ◌≤◌, OnOk, length};
+ghost use Rattle.std.specs.Prelude.{◌≤◌, OnOk, length};
 ghost use Rattle.register_records.specs.Entries.{Fields};
 ghost use Rattle.register_sheets.specs.LineViews.{GainsFields};
 ghost use Rattle.register_sheets.specs.RecordLines.{body_line, entry_line, entry_of};

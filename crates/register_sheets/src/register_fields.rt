@@ -4,9 +4,8 @@ ghost use Rattle.std.specs.Prelude.{◌≡◌, ℕ, option_map};
 ghost use Rattle.csv.specs.Records.{fields_of};
 ghost use Rattle.written_dates.specs.Fields.{calendar_of as meant_of, without_blanks as without_spec};
 ghost use Rattle.register_sheets.specs.Choices.{calendar_called as called_spec, calendar_for, calendar_text, date_text};
-ghost use Rattle.register_sheets.specs.Choices.{id_text, meaning_for, own_by as own_spec};
-ghost use Rattle.register_sheets.specs.Choices.{if_empty as empty_spec, meaning_in, meant_in as in_spec};
-ghost use Rattle.register_sheets.specs.Choices.{one_called as one_spec};
+ghost use Rattle.register_sheets.specs.Choices.{id_text, meaning_for, own_by as own_spec, if_empty as empty_spec};
+ghost use Rattle.register_sheets.specs.Choices.{meaning_in, meant_in as in_spec, one_called as one_spec};
 ghost use Rattle.register_sheets.specs.OwnViews.{own_seen};
 ghost use Rattle.std.specs.Fmt.{decimal};
 

@@ -1,6 +1,6 @@
 //! Lines on their way to an output.
 
-ghost use Rattle.std.specs.Prelude.{◌≡◌, ◌++◌, ◌∷◌, [], ℕ, List, Option, true, IfErr, OnOk};
+ghost use Rattle.std.specs.Prelude.{◌≡◌, ◌++◌, ◌∷◌, [], ℕ, List, Option, true, OnOk};
 ghost use Rattle.register_records.specs.Entries.{Fields};
 ghost use Rattle.register_sheets.specs.Sending.{Ends, HasMade, IsSent};
 
@@ -39,9 +39,7 @@ impl SheetSender {
             → HasMade self.old.delimiter begun (W.contents output.old) self.old.lines made []
             → IsSent self.old.delimiter begun (W.contents output.new) self.new.lines made) }
         ensures flushed { OnOk result (W.is_flushed output.new ≡ true) }
-        ensures memory { IfErr result (λ c. c ≡ SheetCause.NoMemory → output.new ≡ output.old) }
-        ensures output { Ends result (W.has_failed output.old) (W.has_failed output.new) (W.own_mark output.old)
-            (W.own_mark output.new) }
+        ensures output { Ends W.Output result output.old output.new }
     {
         send(output, self.lines.as_slice())?;
         self.lines.clear();
@@ -54,9 +52,7 @@ impl SheetSender {
         ensures made { OnOk result ((begun : Option (List ℕ)) (made : List Fields) (fields : Fields)
             → HasMade self.old.delimiter begun (W.contents output.old) self.old.lines made fields
             → HasMade self.old.delimiter begun (W.contents output.new) self.new.lines (made ++ fields ∷ []) []) }
-        ensures memory { IfErr result (λ c. c ≡ SheetCause.NoMemory → output.new ≡ output.old) }
-        ensures output { Ends result (W.has_failed output.old) (W.has_failed output.new) (W.own_mark output.old)
-            (W.own_mark output.new) }
+        ensures output { Ends W.Output result output.old output.new }
     {
         self.lines.end()?;
         if self.lines.written() >= BLOCK {

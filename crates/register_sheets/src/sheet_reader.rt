@@ -1,7 +1,6 @@
 //! The records of a sheet below its names, in order.
 
-ghost use Rattle.std.specs.Prelude.{◌≡◌, ◌≢◌, ◌≤◌, ◌<◌, ◌+◌, ◌⊎◌, ◌∷◌, [], IfErr, IfOk, Ok, drop, false, length};
-ghost use Rattle.std.specs.Prelude.{take, true};
+ghost use Rattle.std.specs.Prelude.{◌≡◌, ◌≤◌, ◌<◌, ◌+◌, ◌⊎◌, ◌∷◌, [], IfErr, IfOk, Ok, drop, false, length, take, true};
 ghost use Rattle.std.proofs.Props.{props};
 ghost use Rattle.csv.specs.Records.{fields_of};
 ghost use Rattle.register_records.specs.Entries.{record_limit};
@@ -75,7 +74,7 @@ fn read_record(
 }
 
 impl<'s> SheetReader<'s> {
-    ghost use Rattle.register_sheets.specs.SheetReaders.{ReadsRecord, choice_of, given_of, goes_on, records_under};
+    ghost use Rattle.register_sheets.specs.SheetReaders.{ReadsRecord, given_of, goes_on, records_under};
 
     /// A reader of the records that are left of a sheet.
     pub fn open(

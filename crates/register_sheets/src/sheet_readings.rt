@@ -86,8 +86,7 @@ pub(crate) fn read_below<M: RecordLine, W: Output>(
     requires none_noted { (most : ℕ) × HasNotes setup.now.choice [] most writers.old.notes }
     requires matched { length writers.old.registers.items ≡ length files.old }
     ensures { ReadsAll W.Output M.line setup.now.choice (left_of records.entry) result writers.old writers.new
-        output.old
-        output.new files.old files.new }
+        output.old output.new files.old files.new }
 {
     let mut reader = SheetReader::open(alloc, records, setup)?;
     read_all(&mut reader, setup, writers, output, files)
@@ -107,8 +106,7 @@ pub(crate) fn read_sheet<W: Output>(
     requires none_noted { (most : ℕ) × HasNotes setup.now.choice [] most writers.old.notes }
     requires matched { length writers.old.registers.items ≡ length files.old }
     ensures { ReadsSheet W.Output setup.now.choice (text_records setup.now.choice.delimiter sheet.now) result
-        writers.old
-        writers.new output.old output.new files.old files.new }
+        writers.old writers.new output.old output.new files.old files.new }
 {
     let mut records = records_of(alloc, sheet, setup.choice.delimiter);
     let mut record = ByteRecord::new(alloc);

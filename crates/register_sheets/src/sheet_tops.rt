@@ -28,8 +28,7 @@ fn copy_next<M: RecordLine, W: Output>(
     ensures reading { OnOk result (IsBegun records.new) }
     ensures left { OnOk result (left_of records.new ≡ drop 1 (left_of records.old)) }
     ensures made { Makes W.Output ((filled width (get_or (left_of records.old) 0 []) ++ map (λ field. field.now)
-        more.now) ∷ [])
-        writer.old writer.new output.old output.new }
+        more.now) ∷ []) writer.old writer.new output.old output.new }
 {
     match read_next(records, record) {
         Ok(true) => {

@@ -5,8 +5,7 @@ ghost use Rattle.register_records.specs.Entries.{record_limit, text_records};
 ghost use Rattle.register_sheets.specs.Converted.{below};
 ghost use Rattle.register_sheets.specs.SheetNotes.{unknown_of as unknown_spec};
 ghost use Rattle.register_sheets.specs.LineViews.{GainsFields};
-ghost use Rattle.register_sheets.specs.UnknownNames.{IsUnknown, list_head, list_text, name_record};
-ghost use Rattle.register_sheets.specs.UnknownNames.{name_seen};
+ghost use Rattle.register_sheets.specs.UnknownNames.{IsUnknown, list_head, list_text, name_record, name_seen};
 
 use crate::choices::SheetSetup;
 use crate::lines::SheetLines;

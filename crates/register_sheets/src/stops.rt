@@ -1,6 +1,6 @@
 //! What stops a date of a sheet.
 
-ghost use Rattle.std.specs.Prelude.{◌≡◌, ◌≢◌, ◌↔◌, [], true};
+ghost use Rattle.std.specs.Prelude.{◌≡◌, ◌↔◌, [], true};
 ghost use Rattle.csv.specs.Records.{fields_of};
 ghost use Rattle.written_dates.specs.Fields.{without_blanks as without_spec};
 ghost use Rattle.register_sheets.specs.Choices.{date_text};

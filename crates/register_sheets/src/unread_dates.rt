@@ -1,6 +1,6 @@
 //! The dates of a sheet that were not read.
 
-ghost use Rattle.std.specs.Prelude.{◌≡◌, if◌then◌else◌};
+ghost use Rattle.std.specs.Prelude.{◌≡◌};
 ghost use Rattle.register_sheets.specs.UnknownNames.{is_emptied, is_short_by, says_open as open_spec};
 
 use crate::reasons::ReasonCounts;

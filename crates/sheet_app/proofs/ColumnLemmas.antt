@@ -1,7 +1,6 @@
 -- The columns that words name, one after the other.
-use Rattle.std.proofs.Common.{◌≡◌, ◌↔◌, ◌∙◌, ◌+◌, ◌-◌, ◌<◌, ◌≤◌, ◌⊎◌, ◌∷◌, ◌++◌, ℕ, zero, suc, List, [], None, Some}
-use Rattle.std.proofs.Common.{ap, arith, get_or, inl, inr, length, length-append, refl, slice_get, sym, subst}
-use Rattle.std.proofs.Common.{map}
+use Rattle.std.proofs.Common.{◌≡◌, ◌↔◌, ◌∙◌, ◌+◌, ◌-◌, ◌<◌, ◌≤◌, ◌⊎◌, ◌∷◌, ◌++◌, ℕ, zero, suc, List, [], None, Some, ap}
+use Rattle.std.proofs.Common.{arith, get_or, inl, inr, length, length-append, refl, slice_get, sym, subst, map}
 use Rattle.std.specs.Borrow.{Bor}
 use Rattle.std.specs.Prelude.{Contains, Option, option_map}
 use Rattle.std.proofs.lemmas.List.Elements.{Contains-get_or}
@@ -14,7 +13,7 @@ use Rattle.clap.specs.Words.{Text}
 use Rattle.programs.specs.Values.{IsNumberWord}
 use Rattle.sheet_app.specs.CalendarWords.{SaysNothing, calendar_words}
 use Rattle.sheet_app.specs.Columns.{HoldsOfNone, IsBareWord, IsCalendarField, IsColumn, IsDateColumn, IsForWord}
-use Rattle.sheet_app.specs.Columns.{IsDateField, IsItsOwn, LacksDate}
+use Rattle.sheet_app.specs.Columns.{IsDateField, IsItsOwn}
 use Rattle.sheet_app.specs.Columns.{IsMissing, IsWord, NamesNoColumn, NamesNone, calendar_columns}
 use Rattle.sheet_app.specs.declared.columns.ColumnFault.{ColumnFault}
 use Rattle.sheet_app.specs.declared.columns.ColumnFault.TheVariants as column_fault

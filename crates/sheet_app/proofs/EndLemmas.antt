@@ -17,7 +17,7 @@ use Rattle.written_dates.specs.Fields.{bare_name}
 use Rattle.sheet_app.specs.SheetFaults.{fault_by}
 use Rattle.sheet_app.specs.SheetViews.{AsksFor, IsBrokenBehind, IsDoneBy, IsEndedBy, IsTask, MakesChoices}
 use Rattle.sheet_app.specs.Sheets.{HasMark, IsAskedList, IsAskedOf, IsAskedSheet, IsBroken, IsBrokenBy, IsChoiceFor, IsEnded}
-use Rattle.sheet_app.specs.Sheets.{IsListBy, IsMarked, IsSheetBy, names_of, records_by}
+use Rattle.sheet_app.specs.Sheets.{IsListBy, IsSheetBy, names_of, records_by}
 use Rattle.sheet_app.specs.declared.sheet_faults.SheetFault.TheVariants as fault
 use Rattle.sheet_app.specs.declared.sheet_faults.SheetFault.{SheetFault}
 use Rattle.sheet_app.specs.declared.sheets.ListedSheet.{ListedSheet}

@@ -1,5 +1,5 @@
 -- Which file a fault names.
-use Rattle.std.proofs.Common.{◌≡◌, ◌++◌, ◌<◌, ◌∙◌, ◌∷◌, ◌⊎◌, [], ℕ, List, arith, get_or, inl, length, map, subst, suc, sym, zero}
+use Rattle.std.proofs.Common.{◌≡◌, ◌++◌, ◌<◌, ◌∙◌, ◌∷◌, [], ℕ, List, arith, get_or, inl, length, map, subst, suc, sym, zero}
 use Rattle.std.specs.Prelude.{Contains, Err, IfErr, IsErrAnd, Ok, Result, flat_map}
 use Rattle.std.specs.String.{string_bytes}
 use Rattle.std.proofs.lemmas.List.{get_or-map, length-map}

@@ -1,16 +1,12 @@
 -- The sheet of a text with joined dates, and how it ends.
-use Rattle.std.proofs.Common.{◌≡◌, ℕ, List, None, Option, Some, inl, inr, refl, subst, sym}
+use Rattle.std.proofs.Common.{◌≡◌, ℕ, List, None, Option, Some, subst, sym}
 use Rattle.register_records.specs.declared.outputs.Output as outputs
 use Rattle.register_sheets.specs.declared.name_lists.NameLine.{NameLine}
 use Rattle.sheet_arguments.specs.Requests.{Task}
 use Rattle.sheet_arguments.specs.ThreeColumns.{ThreeWords}
-use Rattle.sheet_app.specs.JoinedTexts.{IsEndedBy, IsJoined, IsJoinedEnded, IsTextEnded, LacksThree}
-use Rattle.sheet_app.specs.Sheets.{IsEnded}
+use Rattle.sheet_app.specs.JoinedTexts.{IsEndedBy, IsJoinedEnded}
 use Rattle.sheet_app.specs.TreeTexts.{IsMadeEnded}
-use Rattle.sheet_app.specs.declared.sheet_faults.SheetFault.{SheetFault}
 use Rattle.sheet_app.specs.declared.sheets.SheetDone.{SheetDone}
-use Rattle.sheet_app.specs.declared.sheets.SheetDone.TheVariants as done
-use Rattle.sheet_app.specs.declared.sheets.TheConstants.{MOST_UNKNOWN}
 
 module _ {W : Type 0} (o : outputs.Ghosts W) (task : Task) (lines : List NameLine) where
   -- a text with three columns to be joined, and one without

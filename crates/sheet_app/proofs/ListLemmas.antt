@@ -1,7 +1,6 @@
 -- Items that are moved from the front of one list to the end of another.
-use Rattle.std.proofs.Common.{◌≡◌, ◌++◌, ◌∷◌, [], List, All, append_assoc, arith, length, map, subst, sym}
-use Rattle.std.proofs.Common.{◌≢◌, ◌∙◌, ◌⊎◌, ℕ, ap, ap₂, inl, inr, refl}
-use Rattle.std.proofs.Common.{◌<◌, ◌+◌, Bool, get_or, take, true}
+use Rattle.std.proofs.Common.{◌≡◌, ◌++◌, ◌∷◌, [], List, All, append_assoc, arith, length, map, subst, sym, ◌≢◌, ◌∙◌}
+use Rattle.std.proofs.Common.{◌⊎◌, ℕ, ap, ap₂, inl, inr, refl, ◌<◌, ◌+◌, Bool, get_or, take, true}
 use Rattle.std.specs.Prelude.{◌==◌}
 use Rattle.std.specs.Borrow.{Bor}
 use Rattle.std.specs.List.{AllZip}

@@ -1,8 +1,7 @@
 -- What arguments ask for is a choice.
-use Rattle.std.proofs.Common.{◌≡◌, ◌≤◌, ◌+◌, ◌*◌, ◌∙◌, ◌⊎◌, ◌++◌, ◌∷◌, ℕ, suc, Bool, List, [], Option, None}
-use Rattle.std.proofs.Common.{Some, Result, Ok, Err, ap}
-use Rattle.std.proofs.Common.{arith, false, get_or, inl, inr, length, length-append, map, refl, subst, sym, true}
-use Rattle.std.proofs.Common.{ap₂}
+use Rattle.std.proofs.Common.{◌≡◌, ◌≤◌, ◌+◌, ◌*◌, ◌∙◌, ◌⊎◌, ◌++◌, ◌∷◌, ℕ, suc, Bool, List, [], Option, None, Some}
+use Rattle.std.proofs.Common.{Result, Ok, Err, ap, arith, false, get_or, inl, inr, length, length-append, map, refl}
+use Rattle.std.proofs.Common.{subst, sym, true, ap₂}
 use Rattle.std.specs.Borrow.{Bor}
 use Rattle.std.specs.Prelude.{◌==◌, codes, count_by, if◌then◌else◌, nat_lt, unwrap_or}
 use Rattle.std.specs.Cmp.{IsEquivalence}

@@ -1,5 +1,5 @@
 -- The sheets of a command line, as their files are opened.
-use Rattle.std.specs.Prelude.{◌≡◌, ◌==◌, ◌&&◌, ◌++◌, ◌∷◌, [], ℕ, All, AllPairs, IfSome, List, codes, flat_map, if◌then◌else◌}
+use Rattle.std.specs.Prelude.{◌≡◌, ◌==◌, ◌&&◌, ◌++◌, ◌∷◌, [], ℕ, All, AllPairs, List, codes, flat_map, if◌then◌else◌}
 use Rattle.std.specs.Prelude.{length, map, not}
 use Rattle.std.specs.Fmt.{decimal}
 use Rattle.std.specs.List.{AllZip, range_with_len}

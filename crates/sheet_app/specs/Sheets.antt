@@ -1,7 +1,5 @@
 -- What a task asks of a sheet, and what comes of it.
-use Rattle.std.specs.Prelude.{◌≡◌, ◌≤◌, ◌<◌, ◌++◌, ◌⊎◌, ⊤, ℕ, List, [], Result, Ok, Err, get_or}
-use Rattle.std.specs.Prelude.{length}
-use Rattle.std.specs.Prelude.{false, true}
+use Rattle.std.specs.Prelude.{◌≡◌, ◌≤◌, ◌<◌, ◌++◌, ◌⊎◌, ⊤, ℕ, List, [], Result, Ok, Err, get_or, length, false, true}
 use Rattle.csv.specs.Reading.{strip_bom}
 use Rattle.register_records.specs.Entries.{Fields, record_limit, text_records}
 use Rattle.register_records.specs.Sources.{Gains}

@@ -3,11 +3,10 @@
 ghost use Rattle.std.specs.Prelude.{◌≡◌, ◌≢◌, ◌≤◌, ◌<◌, ◌+◌, IfErr, IfNone, IfOk, IfSome, Some, length, map, option_map};
 ghost use Rattle.csv.specs.Records.{fields_of};
 ghost use Rattle.sheet_arguments.specs.Requests.{task_of};
-ghost use Rattle.sheet_app.specs.Columns.{HasNoLast, IsDateField, LacksDate, is_joined as joined_spec};
-ghost use Rattle.sheet_app.specs.Columns.{AreDateColumns, HoldsOfNone, IsBareWord, IsCalendarField, IsColumn, IsFirst};
+ghost use Rattle.sheet_app.specs.Columns.{HasNoLast, IsDateField, LacksDate, is_joined as joined_spec, AreDateColumns};
+ghost use Rattle.sheet_app.specs.Columns.{HoldsOfNone, IsBareWord, IsCalendarField, IsColumn, IsFirst, IsForWord};
+ghost use Rattle.sheet_app.specs.Columns.{IsIdField, IsItsOwn, IsMissing, IsWord, NamesNoColumn, NamesNone, SaysElse};
 ghost use Rattle.sheet_app.specs.CalendarWords.{SaysBy, SaysNothing};
-ghost use Rattle.sheet_app.specs.Columns.{IsForWord, IsIdField, IsItsOwn, IsMissing, IsWord, NamesNoColumn, NamesNone};
-ghost use Rattle.sheet_app.specs.Columns.{SaysElse};
 
 use crate::calendar_words::calendar_by;
 use csv::ByteRecord;

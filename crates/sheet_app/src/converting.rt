@@ -1,7 +1,6 @@
 //! Reads the sheets of a command line, and converts each.
 
-ghost use Rattle.std.specs.Prelude.{◌≡◌, ◌≤◌, ◌↔◌, [], All, true, vec_capacity, vec_len};
-ghost use Rattle.std.specs.Prelude.{map};
+ghost use Rattle.std.specs.Prelude.{◌≡◌, ◌≤◌, ◌↔◌, [], All, true, vec_capacity, vec_len, map};
 ghost use Rattle.std.specs.List.{AllZip};
 ghost use Rattle.programs.specs.Places.{place_name};
 ghost use Rattle.sheet_arguments.specs.Requests.{task_of};

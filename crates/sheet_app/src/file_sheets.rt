@@ -1,7 +1,6 @@
 //! The sheets of a command line: opens the files, and makes the outputs of each.
 
-ghost use Rattle.std.specs.Prelude.{◌≡◌, ◌++◌, ◌∷◌, [], All, AllPairs, IfErr, IfOk, IfSome, OnOk, false, flat_map, map};
-ghost use Rattle.std.specs.Prelude.{codes, option_map};
+ghost use Rattle.std.specs.Prelude.{◌≡◌, ◌++◌, ◌∷◌, [], All, AllPairs, IfErr, IfOk, OnOk, false, flat_map, map, codes};
 ghost use Rattle.std.specs.List.{AllZip, range_with_len};
 ghost use Rattle.std.specs.String.{string_bytes};
 ghost use Rattle.programs.specs.OutputNames.{AreTwoOutputs, IsApartFrom};

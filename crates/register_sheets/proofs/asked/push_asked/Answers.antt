@@ -1,8 +1,6 @@
-use Rattle.std.proofs.Common.{ap, length, subst, sym}
-use Rattle.std.specs.Prelude.{OnOk}
-use Rattle.register_records.specs.Entries.{Fields}
-use Rattle.register_records.specs.Views.{row_seen, row_targets}
-use Rattle.register_sheets.specs.LineViews.{GainsFields}
+use Rattle.std.proofs.Common.{ap, length, subst, sym, OnOk}
+use Rattle.register_sheets.proofs.Common.{Fields, row_seen, GainsFields}
+use Rattle.register_records.specs.Views.{row_targets}
 use Rattle.register_sheets.proofs.asked.push_asked.Goals as goal
 
 pub returns-in-Some : goal.returns-in-Some

@@ -1,11 +1,8 @@
-use Rattle.std.proofs.Common.{◌∙◌, [], List, append-nil, arith, get_or, refl, subst, sym, ℕ}
-use Rattle.register_records.specs.Entries.{Fields}
-use Rattle.register_sheets.specs.LineViews.{GainsFields}
+use Rattle.std.proofs.Common.{◌∙◌, [], append-nil, arith, get_or, refl, subst, sym}
+use Rattle.register_sheets.proofs.Common.{Fields, GainsFields, row_seen, DayNumber}
 use Rattle.std.proofs.lemmas.List.{drop_all}
-use Rattle.register_records.specs.Views.{row_seen}
-use Rattle.register_sheets.specs.declared.choices.AskedColumn.TheVariants.{DayNumber}
 use Rattle.register_sheets.proofs.AskedLemmas.{asked_step, few_taken}
-use Rattle.register_sheets.proofs.LineLemmas.{both_gained, gained_at_last, none_gained}
+use Rattle.register_sheets.proofs.LineLemmas.{both_gained, none_gained}
 use Rattle.register_sheets.proofs.asked.push_cells.Goals as goal
 
 pub columns-init : goal.columns-init

@@ -1,7 +1,6 @@
 use Rattle.std.proofs.Common.{◌≡◌, ◌≤◌, ℕ, List, drop, ◌++◌}
-use Rattle.register_records.specs.Views.{row_seen}
+use Rattle.register_sheets.proofs.Common.{row_seen, GainsFields}
 use Rattle.register_sheets.specs.Converted.{asked_cells, asked_texts}
-use Rattle.register_sheets.specs.LineViews.{GainsFields}
 use Rattle.register_sheets.proofs.asked.push_cells.Given as goal
 
 abbrev pub invariant-columns : goal.invariant-columns

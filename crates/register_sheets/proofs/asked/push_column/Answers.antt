@@ -1,8 +1,6 @@
 use Rattle.std.proofs.Common.{ℕ, List, [], ◌∷◌, drop, get_or, subst, sym}
-use Rattle.register_records.specs.Views.{row_seen}
+use Rattle.register_sheets.proofs.Common.{row_seen, GainsFields, AskedColumn}
 use Rattle.register_sheets.specs.Converted.{asked_text}
-use Rattle.register_sheets.specs.LineViews.{GainsFields}
-use Rattle.register_sheets.specs.declared.choices.AskedColumn.{AskedColumn}
 use Rattle.register_sheets.proofs.RowLemmas.{same_head}
 use Rattle.register_sheets.proofs.asked.push_column.Goals as goal
 

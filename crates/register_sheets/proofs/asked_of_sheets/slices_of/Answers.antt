@@ -1,7 +1,6 @@
 use Rattle.std.proofs.Common.{◌∙◌, ◌++◌, Bor, Global, List, Vec, [], ◌∷◌, ap, map, sym, take, take_all, ℕ}
+use Rattle.register_sheets.proofs.Common.{Fields, items_of}
 use Rattle.std.proofs.lemmas.List.{map-append, take_more}
-use Rattle.register_records.specs.Entries.{Fields}
-use Rattle.register_sheets.specs.Headings.{items_of}
 use Rattle.register_sheets.proofs.asked_of_sheets.slices_of.Goals as goal
 
 pub texts-init : goal.texts-init

@@ -1,5 +1,5 @@
 use Rattle.std.proofs.Common.{◌≡◌, map, take}
-use Rattle.register_sheets.specs.Headings.{items_of}
+use Rattle.register_sheets.proofs.Common.{items_of}
 use Rattle.register_sheets.proofs.asked_of_sheets.slices_of.Given as goal
 
 abbrev pub invariant-texts : goal.invariant-texts

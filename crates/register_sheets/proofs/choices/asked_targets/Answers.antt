@@ -1,5 +1,5 @@
 use Rattle.std.proofs.Common.{◌<◌, ◌∙◌, arith, length, length-set}
-use Rattle.register_sheets.specs.declared.choices.AskedColumn.TheVariants.{DayNumber}
+use Rattle.register_sheets.proofs.Common.{DayNumber}
 use Rattle.register_sheets.proofs.AskedLemmas.{none_taken, target_taken}
 use Rattle.register_sheets.proofs.choices.asked_targets.Goals as goal
 use Rattle.register_sheets.proofs.choices.asked_targets.Goals.{in-Some, in-None}

@@ -1,5 +1,5 @@
 use Rattle.std.proofs.Common.{◌≡◌, ◌≤◌, length, take}
-use Rattle.register_sheets.specs.Choices.{asked_targets}
+use Rattle.register_sheets.proofs.Common.{asked_targets}
 use Rattle.register_sheets.specs.declared.choices.TheConstants.{MAX_COLUMNS}
 use Rattle.register_sheets.proofs.choices.asked_targets.Given as goal
 

@@ -1,13 +1,13 @@
-use Rattle.std.proofs.Common.{◌≡◌, ◌≤◌, ◌<◌, ◌∙◌, ◌==◌, ℕ, Bool, List, ap, arith, false, length, nat_lt, refl, subst, sym, take, true}
-use Rattle.std.specs.Prelude.{Err, Ok}
+use Rattle.std.proofs.Common.{◌≡◌, ◌≤◌, ◌<◌, ◌∙◌, ◌==◌, ℕ, Bool, List, ap, arith, false, length, nat_lt, refl, subst}
+use Rattle.std.proofs.Common.{sym, take, true, Err, Ok}
+use Rattle.register_sheets.proofs.Common.{asked_targets, SheetChoice}
 use Rattle.date_texts.specs.declared.target.Target.{Target}
 use Rattle.register_records.specs.SetupRules.{NamesTwice}
 use Rattle.register_records.specs.declared.setups.Setup.{Setup}
 use Rattle.register_records.specs.declared.setups.SetupFault.{SetupFault}
 use Rattle.std.proofs.lemmas.Bool.{true≢false}
 use Rattle.std.proofs.lemmas.Bool.Decides.{nat_tests}
-use Rattle.register_sheets.specs.Choices.{AsksOnce, HasDates, asked_targets, asks_twice, column_limit}
-use Rattle.register_sheets.specs.declared.choices.SheetChoice.{SheetChoice}
+use Rattle.register_sheets.specs.Choices.{AsksOnce, HasDates, asks_twice, column_limit}
 use Rattle.register_sheets.proofs.choices.setup_of.Goals as goal
 
 dated : (choice : SheetChoice) (none : Bool) → none ≡ (length choice.dates.now == 0) → none ≡ false
@@ -66,11 +66,13 @@ returns-clause-good c =
     let made = c.in-Ok.ensures in
     let once : ¬ (NamesTwice (take c.asked_targets-count.result.1 c.asked_targets-count.result.0))
     = λ twice. no_fault _ _ (made.twice.1 twice) in (
-      dated c.args.choice.now _ c.is_empty.ensures c.if-is_empty.false c.if-choice-gt-MAX_DATES.false,
-      asks_once c.args.choice.now _ _ c.if-choice-gt-MAX_COLUMNS.false c.asks_twice.ensures c.if-asks_twice.false
-          c.asked_targets-count.ensures.value once,
-      not_false _ (λ off. no_fault _ _ (made.delimiter.1 (once, refl, off))),
-      rw c.added_each-each.ensures at c.if-choice-each.false,
+      record {
+        dated = dated c.args.choice.now _ c.is_empty.ensures c.if-is_empty.false c.if-choice-gt-MAX_DATES.false;
+        once = asks_once c.args.choice.now _ _ c.if-choice-gt-MAX_COLUMNS.false c.asks_twice.ensures
+            c.if-asks_twice.false c.asked_targets-count.ensures.value once;
+        delimited = not_false _ (λ off. no_fault _ _ (made.delimiter.1 (once, refl, off)));
+        headed = rw c.added_each-each.ensures at c.if-choice-each.false;
+      },
       made.value.0 ∙ c.asked_targets-count.ensures.value,
     )
 

@@ -1,4 +1,4 @@
-use Rattle.register_records.specs.Entries.{text_records}
+use Rattle.register_sheets.proofs.Common.{text_records}
 use Rattle.register_sheets.proofs.OutputLemmas.{nothing_made, sheet_none}
 use Rattle.register_sheets.proofs.converting.convert_outputs.Goals as goal
 

@@ -1,8 +1,5 @@
 use Rattle.std.proofs.Common.{◌∙◌, ◌++◌, [], ℕ, map, subst}
-use Rattle.register_records.specs.Entries.{text_records}
-use Rattle.register_sheets.specs.Produced.{AreLines, Produced, ending_of}
-use Rattle.register_sheets.specs.RecordLines.{body_line}
-use Rattle.register_sheets.specs.Sending.{top_records}
+use Rattle.register_sheets.proofs.Common.{text_records, AreLines, Produced, ending_of, body_line, top_records}
 use Rattle.register_sheets.proofs.LineWriterLemmas.{holds_waiting}
 use Rattle.register_sheets.proofs.OutputLemmas.{registers_produced, sheet_produced}
 use Rattle.register_sheets.proofs.converting.convert_wide.Goals as goal
@@ -24,12 +21,10 @@ returns-clause-sheet g c =
     (holds_waiting o c.args.output.now start.sheet choice.delimiter [] new.sheet) in
     sheet_produced choice records all.reads c.requires.named c.read_sheet-read.result all.read o c.args.output.now
     c.finish-answer.new.output width new.wide c.read_sheet-read.new.writers.notes new.most (all.notes new.most
-    new.notes)
-    c.finish-answer.result (c.finish-answer.ensures.agrees c.args.output.now lines holds)
+    new.notes) c.finish-answer.result (c.finish-answer.ensures c.args.output.now lines holds).1
     (subst (λ (d : ℕ). Produced o c.args.output.now c.finish-answer.new.output (ending_of c.finish-answer.result)
-    (AreLines d lines c.finish-answer.result)) (all.sheet.delimiter ∙ new.sheet.by) (c.finish-answer.ensures.produced
-    c.args.output.now lines holds))
-    c.sheet_end.result c.sheet_end.ensures
+    (AreLines d lines c.finish-answer.result)) (all.sheet.delimiter ∙ new.sheet.by)
+    (c.finish-answer.ensures c.args.output.now lines holds).0) c.sheet_end.result c.sheet_end.ensures
 
 pub returns-clause-registers : goal.returns-clause-registers
 returns-clause-registers g c =
@@ -39,5 +34,4 @@ returns-clause-registers g c =
     let (answers, many, first, finished) = rw c.as_mut_slice.ensures.value at c.finish_each.ensures in
     registers_produced g.W.Output choice records c.read_sheet-read.result c.finish_each.result
     c.args.writers.now.registers.items _ _ c.args.registers.now _ c.finish_each.new.files all.reads answers
-    c.requires.named
-    all.read c.requires.new.registers all.registers many first finished
+    c.requires.named all.read c.requires.new.registers all.registers many first finished

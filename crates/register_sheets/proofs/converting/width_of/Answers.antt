@@ -1,6 +1,5 @@
-use Rattle.std.proofs.Common.{◌≡◌, ◌∙◌, [], ◌∷◌, ◌++◌, append_assoc, ap, arith, length-append, refl, rules, true}
-use Rattle.std.specs.Prelude.{Ok}
-use Rattle.csv.specs.Records.{fields_of}
+use Rattle.std.proofs.Common.{◌≡◌, ◌∙◌, [], ◌∷◌, ◌++◌, append_assoc, ap, arith, length-append, refl, rules, true, Ok}
+use Rattle.register_sheets.proofs.Common.{fields_of}
 use Rattle.register_sheets.proofs.WidthLemmas.{width_above, width_below}
 use Rattle.register_sheets.proofs.converting.width_of.Goals as goal
 

@@ -1,6 +1,5 @@
 use Rattle.std.proofs.Common.{◌≡◌, ◌++◌, List, length, min}
-use Rattle.register_records.specs.Entries.{Fields, text_records}
-use Rattle.register_sheets.specs.Reading.{IsReading, left_of}
+use Rattle.register_sheets.proofs.Common.{Fields, text_records, IsReading, left_of}
 use Rattle.register_sheets.specs.WidthViews.{IsWidth}
 use Rattle.register_sheets.proofs.converting.width_of.Given as goal
 

@@ -1,6 +1,6 @@
 use Rattle.std.proofs.Common.{◌≡◌, take, true}
+use Rattle.register_sheets.proofs.Common.{fields_of}
 use Rattle.std.specs.List.{list_all}
-use Rattle.csv.specs.Records.{fields_of}
 use Rattle.register_sheets.specs.DateCounts.{is_blank}
 use Rattle.register_sheets.proofs.date_counts.is_blank_record.Given as goal
 

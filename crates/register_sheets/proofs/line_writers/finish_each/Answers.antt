@@ -1,11 +1,7 @@
-use Rattle.std.proofs.Common.{◌≡◌, ◌≤◌, ◌<◌, ◌+◌, ◌∙◌, ◌++◌, [], ◌∷◌, List, Some, ap, arith, get_or, length}
-use Rattle.std.proofs.Common.{length-append}
-use Rattle.std.proofs.Common.{length-set, refl, sym, ℕ}
-use Rattle.std.specs.Prelude.{Result, slice_get}
+use Rattle.std.proofs.Common.{◌≡◌, ◌<◌, ◌+◌, ◌++◌, [], ◌∷◌, List, Some, arith, get_or, length, length-append}
+use Rattle.std.proofs.Common.{length-set, refl, ℕ, Result, slice_get}
+use Rattle.register_sheets.proofs.Common.{Finishes, LineWriter, SheetCause}
 use Rattle.std.proofs.lemmas.Option.{slice_get-get_or}
-use Rattle.register_sheets.specs.LineWriters.{Finishes}
-use Rattle.register_sheets.specs.declared.line_writers.LineWriter.{LineWriter}
-use Rattle.register_sheets.specs.declared.sheet_ends.SheetCause.{SheetCause}
 use Rattle.register_sheets.proofs.EachLemmas.{answer_kept, answer_last, first_more, up_to_all, up_to_as, up_to_more}
 use Rattle.register_sheets.proofs.EachLemmas.{up_to_none}
 use Rattle.register_sheets.proofs.line_writers.finish_each.Goals as goal
@@ -21,8 +17,7 @@ writers-preserved g c =
     let room : i < length c.writers.files = omega (arith, c.writers-test.true, inv.files, c.requires.matched) in
     let more = answers ++ c.finish-answer.result ∷ [] in
     let Did : List (Result (Unit {0}) SheetCause) → ℕ → LineWriter g.row.M.Denot → LineWriter g.row.M.Denot →
-    g.row.W.Denot
-    → g.row.W.Denot → Type 0
+    g.row.W.Denot → g.row.W.Denot → Type 0
     = λ xs place w v b a. (answer : Result (Unit {0}) SheetCause) × (slice_get xs place ≡ Some answer)
     × Finishes g.W.Output c.args.read w b a answer in (
       more,
@@ -39,10 +34,8 @@ writers-preserved g c =
           (slice_get-get_or c.writers.files i c.index-files-place.result room) (
             c.finish-answer.result,
             answer_last answers c.finish-answer.result i many,
-            λ given made h.
-                (c.finish-answer.ensures.produced given made h, c.finish-answer.ensures.agrees given made h),
-          )
-          (length-set c.writers.writers i c.finish-answer.new.self) (length-set c.writers.files i
+            c.finish-answer.ensures,
+          ) (length-set c.writers.writers i c.finish-answer.new.self) (length-set c.writers.files i
           c.finish-answer.new.output),
     )
 

@@ -1,8 +1,5 @@
-use Rattle.std.proofs.Common.{◌≡◌, List, Some, length}
-use Rattle.std.specs.Prelude.{Result, slice_get}
-use Rattle.register_sheets.specs.LineWriters.{Finishes}
-use Rattle.register_sheets.specs.Produced.{first_fault}
-use Rattle.register_sheets.specs.declared.sheet_ends.SheetCause.{SheetCause}
+use Rattle.std.proofs.Common.{◌≡◌, List, Some, length, Result, slice_get}
+use Rattle.register_sheets.proofs.Common.{Finishes, first_fault, SheetCause}
 use Rattle.register_sheets.proofs.EachLemmas.{UpTo}
 use Rattle.register_sheets.proofs.line_writers.finish_each.Given as goal
 

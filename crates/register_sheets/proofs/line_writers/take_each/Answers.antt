@@ -1,7 +1,6 @@
 use Rattle.std.proofs.Common.{◌<◌, [], ◌∷◌, arith, get_or, length, length-set}
+use Rattle.register_sheets.proofs.Common.{Gathers, record_read}
 use Rattle.std.proofs.lemmas.Option.{slice_get-get_or}
-use Rattle.register_sheets.specs.LineWriters.{Gathers}
-use Rattle.register_sheets.specs.SheetRecords.{record_read}
 use Rattle.register_sheets.proofs.EachLemmas.{up_to_all, up_to_more}
 use Rattle.register_sheets.proofs.line_writers.take_each.Goals as goal
 

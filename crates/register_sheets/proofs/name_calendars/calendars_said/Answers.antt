@@ -1,10 +1,11 @@
-use Rattle.std.proofs.Common.{rules, ◌∙◌, sym, ap, arith, map, slice_set, true}
+use Rattle.std.proofs.Common.{rules, ◌∙◌, sym, ap, arith, map, slice_set, true, Bor, List, ℕ, [], ◌∷◌, ◌≡◌, ◌==◌, Bool}
+use Rattle.std.proofs.Common.{None, Some, length, refl}
+use Rattle.register_sheets.proofs.Common.{named_by}
 use Rattle.std.proofs.lemmas.List.{map-append}
 use Rattle.std.proofs.lemmas.List.Elements.{All-append}
 use Rattle.std.proofs.lemmas.Iterator.Consumers.{YieldsList-end, YieldsList-turn}
 use Rattle.written_dates.specs.Calendars.{place}
-use Rattle.register_sheets.specs.NameLists.{IsCalendar, named_by}
-use Rattle.std.proofs.Common.{Bor, List, ℕ, [], ◌∷◌, ◌≡◌, ◌==◌, Bool, None, Some, length, refl}
+use Rattle.register_sheets.specs.NameLists.{IsCalendar}
 use Rattle.std.proofs.lemmas.Bool.Decides.{nat_tests}
 use Rattle.register_sheets.proofs.NameListLemmas.{named_more, names_of_split}
 use Rattle.register_sheets.proofs.name_calendars.calendars_said.Goals as goal

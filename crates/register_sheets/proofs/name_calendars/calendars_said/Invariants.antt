@@ -1,5 +1,6 @@
 use Rattle.std.proofs.Common.{◌≡◌, All, map}
-use Rattle.register_sheets.specs.NameLists.{IsCalendar, named_by}
+use Rattle.register_sheets.proofs.Common.{named_by}
+use Rattle.register_sheets.specs.NameLists.{IsCalendar}
 use Rattle.register_sheets.proofs.name_calendars.calendars_said.Given as goal
 
 abbrev pub invariant-names : goal.invariant-names

@@ -1,6 +1,4 @@
-use Rattle.std.proofs.Common.{◌≡◌, ◌∙◌, ◌++◌, ℕ, FitsSigned, List, arith, codes, refl, w64, rules, subst, sym, to_z-of_z}
-use Rattle.date_texts.specs.DateText.{IsDateText}
-use Rattle.register_sheets.specs.NameMeanings.{SaysChange}
+use Rattle.std.proofs.Common.{◌∙◌, FitsSigned, arith, refl, w64, rules, to_z-of_z}
 use Rattle.register_sheets.proofs.name_meanings.change_said.Goals as goal
 
 pub returns-in_err-text-clause-none : goal.returns-in_err-text-clause-none

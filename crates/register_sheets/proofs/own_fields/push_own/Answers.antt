@@ -1,6 +1,7 @@
-use Rattle.std.proofs.Common.{◌≡◌, ◌<◌, ◌-◌, ◌∙◌, ◌++◌, List, [], ◌∷◌, ap, arith, length, replicate, sym, take, take_all, ℕ}
+use Rattle.std.proofs.Common.{◌≡◌, ◌<◌, ◌-◌, ◌∙◌, ◌++◌, List, [], ◌∷◌, ap, arith, length, replicate, sym, take}
+use Rattle.std.proofs.Common.{take_all, ℕ}
+use Rattle.register_sheets.proofs.Common.{fields_of}
 use Rattle.std.proofs.lemmas.List.{take_more}
-use Rattle.csv.specs.Records.{fields_of}
 use Rattle.register_sheets.proofs.LineLemmas.{gained_at_last, next_gained, none_gained}
 use Rattle.register_sheets.proofs.own_fields.push_own.Goals as goal
 

@@ -1,6 +1,5 @@
 use Rattle.std.proofs.Common.{take}
-use Rattle.csv.specs.Records.{fields_of}
-use Rattle.register_sheets.specs.LineViews.{GainsFields}
+use Rattle.register_sheets.proofs.Common.{fields_of, GainsFields}
 use Rattle.register_sheets.proofs.own_fields.push_own.Given as goal
 
 abbrev pub invariant-own : goal.invariant-own

@@ -1,7 +1,5 @@
-use Rattle.std.proofs.Common.{◌≡◌, ◌∙◌, [], ap, arith, refl, rules, sym, true, false}
-use Rattle.std.specs.Prelude.{Bool, Ok, Result}
-use Rattle.csv.specs.Records.{fields_of}
-use Rattle.register_sheets.specs.Reading.{left_of}
+use Rattle.std.proofs.Common.{◌≡◌, ◌∙◌, [], ap, arith, refl, rules, sym, true, false, Bool, Ok, Result}
+use Rattle.register_sheets.proofs.Common.{fields_of, left_of}
 use Rattle.register_sheets.proofs.ListLemmas.{none_below, one_taken, stands_below}
 use Rattle.register_sheets.proofs.ReadingLemmas.{reads_begun}
 use Rattle.register_sheets.proofs.reading.pass_names.Goals as goal
@@ -38,8 +36,7 @@ returns-then-not-branch c =
       named = λ there. absurd (not_both _ refl there);
       left = λ there. absurd (not_both _ refl there);
       found = λ there. absurd (not_both _ refl there);
-      none = λ end.
-          none_below (left_of c.args.records.now) c.records.counter c.args.above (omega arith)
+      none = λ end. none_below (left_of c.args.records.now) c.records.counter c.args.above (omega arith)
           (sym c.records.invariant.left ∙ none);
     }
 

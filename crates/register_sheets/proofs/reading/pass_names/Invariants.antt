@@ -1,5 +1,5 @@
 use Rattle.std.proofs.Common.{◌≡◌, drop}
-use Rattle.register_sheets.specs.Reading.{IsReading, left_of}
+use Rattle.register_sheets.proofs.Common.{IsReading, left_of}
 use Rattle.register_sheets.proofs.reading.pass_names.Given as goal
 
 abbrev pub invariant-records : goal.invariant-records

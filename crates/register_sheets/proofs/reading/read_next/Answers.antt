@@ -1,5 +1,5 @@
 use Rattle.std.proofs.Common.{◌≡◌, ℕ, List, Bor, true, false, Some}
-use Rattle.csv.specs.Records.{fields_of}
+use Rattle.register_sheets.proofs.Common.{fields_of}
 use Rattle.register_records.proofs.EntryStepLemmas.{reads}
 use Rattle.register_sheets.proofs.SheetLemmas.{first_left, none_left}
 use Rattle.register_sheets.proofs.reading.read_next.Goals as goal
@@ -11,8 +11,7 @@ returns-clause-found c e = elim c.match-read_byte_record.branch [
       let found : w.in-Ok.found ≡ true = cc (e, w.result-is) in
       first_left _ _ _ c.requires.1
       (rw found at (reads (λ (sheet : Bor (List ℕ)). Some sheet.now) c.args.records.now c.read_byte_record.new.self
-      w.in-Ok.found (fields_of c.read_byte_record.new.row)
-      (w.in-Ok.ensures.reads c.requires.0.0 c.requires.0.1)))
+      w.in-Ok.found (fields_of c.read_byte_record.new.row) (w.in-Ok.ensures.reads c.requires.0.0 c.requires.0.1)))
   | in-Err w ↦ cc (e, w.result-is)
 ]
 
@@ -22,7 +21,6 @@ returns-clause-none c e = elim c.match-read_byte_record.branch [
       let found : w.in-Ok.found ≡ false = cc (e, w.result-is) in
       none_left _
       (rw found at (reads (λ (sheet : Bor (List ℕ)). Some sheet.now) c.args.records.now c.read_byte_record.new.self
-      w.in-Ok.found (fields_of c.read_byte_record.new.row)
-      (w.in-Ok.ensures.reads c.requires.0.0 c.requires.0.1)))
+      w.in-Ok.found (fields_of c.read_byte_record.new.row) (w.in-Ok.ensures.reads c.requires.0.0 c.requires.0.1)))
   | in-Err w ↦ cc (e, w.result-is)
 ]

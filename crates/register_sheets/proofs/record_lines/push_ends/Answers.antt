@@ -1,14 +1,10 @@
-use Rattle.std.proofs.Common.{◌≡◌, ◌∙◌, ◌++◌, ◌∷◌, [], ℕ, Bool, List, ap, append-nil, append_assoc, codes, false, rules, subst}
-use Rattle.std.proofs.Common.{true}
-use Rattle.std.specs.Prelude.{OnOk}
-use Rattle.register_records.specs.Entries.{Fields}
+use Rattle.std.proofs.Common.{◌≡◌, ◌∙◌, ◌++◌, ◌∷◌, [], ℕ, Bool, List, ap, append-nil, append_assoc, codes, false, rules}
+use Rattle.std.proofs.Common.{subst, true, OnOk}
+use Rattle.register_sheets.proofs.Common.{Fields, row_seen, Dated, DatedEnd, GainsFields, dated_seen}
 use Rattle.register_records.specs.Outcomes.{TableRow}
-use Rattle.register_records.specs.Views.{row_seen}
 use Rattle.register_sheets.specs.Converted.{asked_cells, shown_in}
-use Rattle.register_sheets.specs.DateEnds.{Dated, DatedEnd, mark_text, told}
+use Rattle.register_sheets.specs.DateEnds.{mark_text, told}
 use Rattle.register_sheets.specs.DateViews.{edtf_field, fields_behind}
-use Rattle.register_sheets.specs.LineViews.{GainsFields}
-use Rattle.register_sheets.specs.SheetRecords.{dated_seen}
 use Rattle.register_sheets.proofs.LineLemmas.{both_gained, gained_at_last}
 use Rattle.register_sheets.proofs.record_lines.push_ends.Goals as goal
 
@@ -29,8 +25,7 @@ returns c =
     let columns = c.args.columns.now in
     let dated = dated_seen c.args.dates.now in
     let old = c.args.lines.now in
-    let last : row_seen c.last.result.now.row ≡ dated.last.row
-    = ap (λ (end : DatedEnd). end.row) c.last.ensures in
+    let last : row_seen c.last.result.now.row ≡ dated.last.row = ap (λ (end : DatedEnd). end.row) c.last.ensures in
     let cells = subst (λ (row : TableRow). GainsFields (asked_cells columns row) c.push_cells.new.lines
     c.push_cells-2.new.lines) last c.in_ok-push_cells-2.ensures in
     let text : c.as_bytes.result.now ≡ mark_text dated.marks = search rules in
@@ -39,8 +34,7 @@ returns c =
     let refusal = subst (λ (row : TableRow). OnOk c.push_refusal.result (GainsFields (shown_in (codes "refusal") row ∷ [])
     c.push.new.self c.push_refusal.new.lines)) c.told.ensures c.push_refusal.ensures in
     gained_at_last c.push_refusal.result _ (shown_in (codes "refusal") (told dated) ∷ []) _ old c.push.new.self
-    c.push_refusal.new.lines
-    (both_gained _ _ old c.push_edtf.new.lines c.push.new.self
+    c.push_refusal.new.lines (both_gained _ _ old c.push_edtf.new.lines c.push.new.self
     (both_gained _ _ old c.push_cells-2.new.lines c.push_edtf.new.lines
     (both_gained _ _ old c.push_cells.new.lines c.push_cells-2.new.lines c.in_ok-push_cells.ensures cells)
     c.in_ok-push_edtf.ensures) mark) refusal

@@ -1,8 +1,6 @@
 use Rattle.std.proofs.Common.{map, take}
-use Rattle.std.specs.List.{flat_map}
+use Rattle.register_sheets.proofs.Common.{flat_map, GainsFields, dated_seen}
 use Rattle.register_sheets.specs.Converted.{dated_fields}
-use Rattle.register_sheets.specs.LineViews.{GainsFields}
-use Rattle.register_sheets.specs.SheetRecords.{dated_seen}
 use Rattle.register_sheets.proofs.record_lines.push_rows.Given as goal
 
 abbrev pub invariant-columns : goal.invariant-columns

@@ -1,8 +1,5 @@
-use Rattle.std.proofs.Common.{◌≡◌, ◌∙◌, List, Some, ap, subst, sym}
-use Rattle.std.specs.Prelude.{slice_get}
-use Rattle.register_records.specs.Entries.{Fields, text_records}
-use Rattle.register_sheets.specs.SheetReadings.{HasReadSheet}
-use Rattle.register_sheets.specs.declared.record_lines.EntryLine.{EntryLine}
+use Rattle.std.proofs.Common.{◌∙◌, List, ap, subst, slice_get}
+use Rattle.register_sheets.proofs.Common.{Fields, text_records, HasReadSheet, EntryLine}
 use Rattle.register_sheets.proofs.OutputLemmas.{register_none, register_produced}
 use Rattle.register_sheets.proofs.registers.write_register.Goals as goal
 
@@ -22,13 +19,10 @@ returns g c column there =
     register_produced g.W.Output choice records c.read_below-read.result c.finish.result
     c.of_register-writers.result.sheet
     c.read_below-read.new.writers.sheet (column, c.args.end) c.args.output.now c.read_below-read.new.output
-    c.finish.new.output
-    all.reads c.in-Ok.ensures.named
+    c.finish.new.output all.reads c.in-Ok.ensures.named
     (subst (λ (xs : List Fields). HasReadSheet choice xs all.reads c.read_below-read.result) c.in-Ok.ensures.left
-    all.read)
-    (ap (λ (maker : EntryLine). slice_get choice.dates.now maker.place) start.maker ∙ there)
-    (ap (λ (maker : EntryLine). maker.end) start.maker) start.waits all.takes.sheet
-    (λ given made h. (c.finish.ensures.produced given made h, c.finish.ensures.agrees given made h))
+    all.read) (ap (λ (maker : EntryLine). slice_get choice.dates.now maker.place) start.maker ∙ there)
+    (ap (λ (maker : EntryLine). maker.end) start.maker) start.waits all.takes.sheet c.finish.ensures
 
 pub read_below-read-requires-clause-none_noted : goal.read_below-read-requires-clause-none_noted
 read_below-read-requires-clause-none_noted g c = (0, c.of_register-writers.ensures.notes c.args.setup.now.choice)

@@ -1,8 +1,6 @@
-use Rattle.std.proofs.Common.{◌∙◌, ◌∷◌, [], ap, arith, length, length-append, refl, subst, sym}
-use Rattle.std.specs.Prelude.{Ok}
-use Rattle.register_sheets.specs.SheetReaders.{given_of}
-use Rattle.register_sheets.specs.SheetReadings.{Takes}
-use Rattle.register_sheets.specs.SheetRecords.{AreRecordsRead, IsRecordRead, record_read}
+use Rattle.std.proofs.Common.{◌∙◌, ◌∷◌, [], ap, arith, length, length-append, refl, subst, sym, Ok}
+use Rattle.register_sheets.proofs.Common.{given_of, Takes, AreRecordsRead, record_read}
+use Rattle.register_sheets.specs.SheetRecords.{IsRecordRead}
 use Rattle.register_sheets.specs.declared.choices.SheetSetup.{SheetSetup}
 use Rattle.register_sheets.specs.declared.sheet_records.SheetRecord.{SheetRecord}
 use Rattle.register_sheets.proofs.ReadingLemmas.{reads_more}

@@ -1,8 +1,5 @@
-use Rattle.std.proofs.Common.{◌≡◌, [], List, refl, subst}
-use Rattle.register_records.specs.Entries.{Fields}
-use Rattle.register_sheets.specs.Reading.{left_of}
-use Rattle.register_sheets.specs.SheetReaders.{given_of}
-use Rattle.register_sheets.specs.SheetReadings.{HasReadSheet}
+use Rattle.std.proofs.Common.{[], List, refl, subst}
+use Rattle.register_sheets.proofs.Common.{Fields, left_of, given_of, HasReadSheet}
 use Rattle.register_sheets.proofs.OutputLemmas.{none_read}
 use Rattle.register_sheets.proofs.TakeLemmas.{takes_none}
 use Rattle.register_sheets.proofs.sheet_readings.read_below.Goals as goal

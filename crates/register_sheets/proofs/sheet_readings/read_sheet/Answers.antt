@@ -1,10 +1,6 @@
 use Rattle.std.proofs.Common.{◌∙◌, ◌++◌, [], List, ap, append-nil, drop, map, refl, subst, sym}
-use Rattle.register_records.specs.Entries.{Fields, text_records}
-use Rattle.register_sheets.specs.Converted.{below}
-use Rattle.register_sheets.specs.LineWriters.{Makes}
-use Rattle.register_sheets.specs.RecordLines.{body_line}
-use Rattle.register_sheets.specs.Sending.{top_records}
-use Rattle.register_sheets.specs.SheetReadings.{HasReadSheet, line_of_entry}
+use Rattle.register_sheets.proofs.Common.{Fields, text_records, below, Makes, body_line, top_records, HasReadSheet}
+use Rattle.register_sheets.proofs.Common.{line_of_entry}
 use Rattle.register_sheets.specs.declared.record_lines.BodyLine.{BodyLine}
 use Rattle.register_sheets.proofs.EachLemmas.{each_none}
 use Rattle.register_sheets.proofs.LineWriterLemmas.{makes_both}

@@ -1,6 +1,5 @@
 use Rattle.std.proofs.Common.{◌≡◌, ◌∙◌, ◌+◌, ap, arith, drop, refl, take}
-use Rattle.register_sheets.specs.Reading.{left_of}
-use Rattle.register_sheets.specs.Sending.{top_records}
+use Rattle.register_sheets.proofs.Common.{left_of, top_records}
 use Rattle.register_sheets.proofs.LineWriterLemmas.{makes_both}
 use Rattle.register_sheets.proofs.ReadingLemmas.{begun_reads}
 use Rattle.register_sheets.proofs.RowLemmas.{drop_both}
@@ -16,11 +15,9 @@ above-preserved g c =
       reading = begun_reads c.copy_next.new.records c.in_default.ensures.reading;
       left = c.in_default.ensures.left ∙ ap (drop 1) inv.left ∙ drop_both k 1 (k + 1) all refl;
       made = makes_both g.W.Output (take k all) _ (take (k + 1) all) c.args.writer.now c.above.writer
-          c.copy_next.new.writer
-          c.args.output.now c.above.output c.copy_next.new.output
+          c.copy_next.new.writer c.args.output.now c.above.output c.copy_next.new.output
           (top_line all (left_of c.above.records) k _ refl (omega (arith, c.above-test.true, c.requires.named))
-          inv.left)
-          inv.made c.copy_next.ensures.made;
+          inv.left) inv.made c.copy_next.ensures.made;
     }
 
 pub returns-in-Err-clause-made : goal.returns-in-Err-clause-made
@@ -34,8 +31,7 @@ returns-in-Err-clause-made g c =
     c.copy_next.new.output c.copy_next.new.output (top_cut choice c.args.width (k + 1) all (omega (
       arith,
       c.above-test.true,
-    )))
-    (makes_both g.W.Output (take k all) _ (take (k + 1) all) c.args.writer.now c.above.writer c.copy_next.new.writer
+    ))) (makes_both g.W.Output (take k all) _ (take (k + 1) all) c.args.writer.now c.above.writer c.copy_next.new.writer
     c.args.output.now c.above.output c.copy_next.new.output
     (top_line all (left_of c.above.records) k _ refl (omega (arith, c.above-test.true, c.requires.named)) inv.left)
     inv.made c.copy_next.ensures.made) (c.cut.ensures (rest_of_top choice c.args.width (k + 1) all))

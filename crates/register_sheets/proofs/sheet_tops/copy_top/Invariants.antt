@@ -1,6 +1,5 @@
 use Rattle.std.proofs.Common.{◌≡◌, drop, take}
-use Rattle.register_sheets.specs.LineWriters.{Makes}
-use Rattle.register_sheets.specs.Reading.{IsReading, left_of}
+use Rattle.register_sheets.proofs.Common.{Makes, IsReading, left_of}
 use Rattle.register_sheets.proofs.sheet_tops.copy_top.Given as goal
 
 abbrev pub invariant-above : goal.invariant-above

@@ -1,5 +1,4 @@
 use Rattle.std.proofs.Common.{◌∙◌}
-use Rattle.register_sheets.specs.SheetReadings.{AreRegisterWriters}
 use Rattle.register_sheets.proofs.TakeLemmas.{no_writers, one_writer_more}
 use Rattle.register_sheets.proofs.sheet_writers.register_writers.Goals as goal
 
@@ -9,5 +8,4 @@ columns-init c = no_writers _ _ _ c.new-writers.ensures.items
 pub columns-preserved : goal.columns-preserved
 columns-preserved c =
     one_writer_more _ _ _ _ _ _ c.columns.invariant c.in_ok-push.ensures.items
-    (c.register_writer.ensures.maker ∙ c.entry_maker.ensures)
-    c.register_writer.ensures.waits
+    (c.register_writer.ensures.maker ∙ c.entry_maker.ensures) c.register_writer.ensures.waits

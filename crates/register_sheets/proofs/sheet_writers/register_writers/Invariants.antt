@@ -1,4 +1,4 @@
-use Rattle.register_sheets.specs.SheetReadings.{AreRegisterWriters}
+use Rattle.register_sheets.proofs.Common.{AreRegisterWriters}
 use Rattle.register_sheets.proofs.sheet_writers.register_writers.Given as goal
 
 abbrev pub invariant-columns : goal.invariant-columns

@@ -1,6 +1,7 @@
 use Rattle.std.proofs.Common.{◌≡◌, ◌∙◌, ◌∷◌, [], ℕ, List, rules}
+use Rattle.register_sheets.proofs.Common.{name_record, name_seen}
 use Rattle.std.specs.Fmt.{decimal}
-use Rattle.register_sheets.specs.UnknownNames.{in_text, name_record, name_seen}
+use Rattle.register_sheets.specs.UnknownNames.{in_text}
 use Rattle.register_sheets.proofs.LineLemmas.{both_gained, gained_at_last}
 use Rattle.register_sheets.proofs.stopped_dates.push_name.Goals as goal
 use Rattle.register_sheets.proofs.stopped_dates.push_name.Goals.{in-None, in-Some}

@@ -1,5 +1,5 @@
 use Rattle.std.proofs.Common.{◌∙◌, []}
-use Rattle.register_records.specs.Entries.{text_records}
+use Rattle.register_sheets.proofs.Common.{text_records}
 use Rattle.register_sheets.proofs.NoteLemmas.{unknown_found}
 use Rattle.register_sheets.proofs.stopped_dates.unknown_names.Goals as goal
 

@@ -1,5 +1,5 @@
 -- The words of all columns are those of the job.
-use Rattle.std.proofs.Common.{IfErr, map, subst, sym}
+use Rattle.std.proofs.Common.{IfErr, subst, sym}
 use Rattle.sheet_arguments.specs.Requests.{wanted_by}
 use Rattle.sheet_arguments.specs.declared.requests.CalendarsAsked.{CalendarsAsked}
 use Rattle.sheet_app.specs.CalendarWords.{calendar_words}

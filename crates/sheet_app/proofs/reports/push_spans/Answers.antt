@@ -1,5 +1,5 @@
 -- Each turn adds the next number.
-use Rattle.std.proofs.Common.{◌≡◌, ◌<◌, ◌∙◌, [], ◌++◌, ℕ, List, ap, append_assoc, arith, codes, get_or, length, map, min, rules, sym}
+use Rattle.std.proofs.Common.{◌≡◌, ◌<◌, ◌∙◌, [], ◌++◌, ℕ, List, ap, append_assoc, arith, codes, length, map, min, rules, sym}
 use Rattle.std.specs.Fmt.{decimal}
 use Rattle.std.proofs.lemmas.List.{get_or-map, length-map}
 use Rattle.register_sheets.specs.DateCounts.{no_counts}

@@ -1,5 +1,3 @@
-use Rattle.std.proofs.Common.{refl, rules, ◌≡◌}
-use Rattle.sheet_app.specs.SheetFaults.{fault_by}
 use Rattle.sheet_app.specs.declared.sheets.WholeSheet.{WholeSheet}
 use Rattle.sheet_app.proofs.EndLemmas.{broken_by, whole_by}
 use Rattle.sheet_app.proofs.sheets.write_outputs.Goals as goal

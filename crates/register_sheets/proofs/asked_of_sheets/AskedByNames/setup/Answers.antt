@@ -1,11 +1,11 @@
 use Rattle.std.proofs.Common.{rules}
-use Rattle.register_sheets.proofs.AskedOfSheetLemmas.{refused_choice, taken_choice}
+use Rattle.register_sheets.proofs.AskedOfSheetLemmas.{chosen_by}
 use Rattle.register_sheets.proofs.asked_of_sheets.AskedByNames.setup.Goals as goal
 
-pub returns-clause-none : goal.returns-clause-none
-returns-clause-none c =
+pub returns : goal.returns
+returns c =
     let setup = c.new.ensures in
-    refused_choice c.args.self.now _ c.new.result setup.dates setup.many setup.twice setup.delimiter setup.headings (record {
+    let made = chosen_by c.args.self.now _ c.new.result setup.value setup.good setup.fault (record {
       delimiter = search rules;
       above = search rules;
       id = search rules;
@@ -16,19 +16,5 @@ returns-clause-none c =
       spans = search rules;
       names_are = search rules;
       calendars_are = search rules;
-    })
-
-pub returns-clause-choice : goal.returns-clause-choice
-returns-clause-choice c =
-    taken_choice c.args.self.now _ c.new.result c.new.ensures.value c.new.ensures.good (record {
-      delimiter = search rules;
-      above = search rules;
-      id = search rules;
-      dates = search rules;
-      columns = search rules;
-      headings_are = search rules;
-      reading = search rules;
-      spans = search rules;
-      names_are = search rules;
-      calendars_are = search rules;
-    })
+    }) in
+    record { choice = made.0; none = made.1 }

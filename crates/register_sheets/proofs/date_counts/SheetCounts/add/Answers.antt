@@ -1,11 +1,6 @@
 use Rattle.std.proofs.Common.{None, ◌<◌, ◌∷◌, [], arith, get_or, length, map, rules, subst, sym}
-use Rattle.register_sheets.specs.CountViews.{CountsDates}
-use Rattle.register_sheets.specs.DateCounts.{no_counts}
-use Rattle.register_sheets.specs.declared.sheet_records.ColumnDates.{ColumnDates}
-use Rattle.csv.specs.Records.{fields_of}
-use Rattle.register_sheets.specs.SheetRecords.{dated_seen}
+use Rattle.register_sheets.proofs.Common.{CountsDates, no_counts, ColumnDates, fields_of, dated_seen, DateColumn}
 use Rattle.register_sheets.specs.declared.choices.CalendarField.TheVariants.{Column}
-use Rattle.register_sheets.specs.declared.choices.DateColumn.{DateColumn}
 use Rattle.register_sheets.proofs.CountLemmas.{place_counted, place_left, seen_slot, slot_of}
 use Rattle.register_sheets.proofs.date_counts.SheetCounts.add.Goals as goal
 

@@ -1,8 +1,6 @@
 use Rattle.std.proofs.Common.{◌≡◌, ◌≤◌, ◌<◌, ℕ, get_or, map}
-use Rattle.csv.specs.Records.{fields_of}
-use Rattle.register_sheets.specs.SheetRecords.{dated_seen}
-use Rattle.register_sheets.specs.CountViews.{CountsDates}
-use Rattle.register_sheets.specs.DateCounts.{date_at, no_counts}
+use Rattle.register_sheets.proofs.Common.{fields_of, dated_seen, CountsDates, no_counts}
+use Rattle.register_sheets.specs.DateCounts.{date_at}
 use Rattle.register_sheets.proofs.date_counts.SheetCounts.add.Given as goal
 
 -- the dates before this place are counted, the others not yet

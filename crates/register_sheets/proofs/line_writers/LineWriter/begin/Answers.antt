@@ -1,5 +1,5 @@
+use Rattle.std.proofs.Common.{[]}
 use Rattle.std.proofs.lemmas.Result.{on_ok_weaker}
-use Rattle.std.proofs.Common.{[], refl}
 use Rattle.register_sheets.proofs.SendingLemmas.{fields_made, record_made}
 use Rattle.register_sheets.proofs.line_writers.LineWriter.begin.Goals as goal
 

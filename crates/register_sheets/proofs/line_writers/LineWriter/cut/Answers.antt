@@ -1,20 +1,11 @@
 use Rattle.std.proofs.Common.{◌∙◌, refl, subst, sym}
 use Rattle.register_sheets.specs.LineWriters.{Stands}
-use Rattle.register_sheets.proofs.LineWriterLemmas.{no_fault, stands_cut, stands_longer}
+use Rattle.register_sheets.proofs.LineWriterLemmas.{makes_after, no_fault, stands_cut}
 use Rattle.register_sheets.proofs.line_writers.LineWriter.cut.Goals as goal
 
 pub returns-then-is_some : goal.returns-then-is_some
 returns-then-is_some g c lines =
-    record {
-      maker = refl;
-      delimiter = refl;
-      holds = λ given made h.
-          record {
-            stands = stands_longer g.W.Output _ given _ _ made lines _ (sym c.is_some.ensures ∙ c.if-is_some.true)
-                h.stands;
-            mark = h.mark;
-          };
-    }
+    makes_after g.W.Output lines c.args.self.now c.args._output.now (sym c.is_some.ensures ∙ c.if-is_some.true)
 
 pub returns : goal.returns
 returns g c lines =

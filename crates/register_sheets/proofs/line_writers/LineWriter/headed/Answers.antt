@@ -1,2 +1,0 @@
-use Rattle.std.proofs.Common.{Some, refl, sym, subst}
-use Rattle.register_sheets.proofs.line_writers.LineWriter.headed.Goals as goal

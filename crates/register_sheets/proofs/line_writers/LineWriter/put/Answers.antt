@@ -1,44 +1,12 @@
-use Rattle.std.proofs.Common.{◌∙◌, ◌++◌, ◌∷◌, [], ℕ, Some, map, refl, subst, sym}
-use Rattle.register_sheets.specs.LineWriters.{Stands}
-use Rattle.csv.specs.Records.{fields_of}
-use Rattle.register_sheets.specs.Sheets.{filled}
-use Rattle.register_sheets.proofs.LineWriterLemmas.{no_fault, stands_longer, stands_stopped}
+use Rattle.std.proofs.Common.{◌∙◌, sym}
+use Rattle.register_sheets.proofs.LineWriterLemmas.{makes_after, makes_stopped, no_fault}
 use Rattle.register_sheets.proofs.line_writers.LineWriter.put.Goals as goal
 
 pub returns-then-is_some : goal.returns-then-is_some
 returns-then-is_some g c =
-    record {
-      maker = refl;
-      delimiter = refl;
-      holds = λ given made h.
-          record {
-            stands = stands_longer g.W.Output _ given _ _ made _ _ (sym c.is_some.ensures ∙ c.if-is_some.true) h.stands;
-            mark = h.mark;
-          };
-    }
+    makes_after g.W.Output _ c.args.self.now c.args.output.now (sym c.is_some.ensures ∙ c.if-is_some.true)
 
 pub returns-in-Err : goal.returns-in-Err
 returns-in-Err g c =
-    let wrote = c.in-Err.ensures in
-    let self = c.args.self.now in
-    let none = no_fault self.fault (sym c.is_some.ensures ∙ c.if-is_some.false) in
-    record {
-      maker = wrote.maker;
-      delimiter = wrote.kept;
-      holds = λ given made h.
-          record {
-            stands = let more = (filled c.args.fill (fields_of c.args.own.now) ++ map (λ field. field.now)
-                c.args.more.now) ∷ [] in
-                subst (λ (d : ℕ). Stands g.W.Output d given c.write_fields.new.output
-                c.write_fields.new.self.sender.lines (made ++ more)
-                (Some c.in-Err.cause)) (sym wrote.kept)
-                (stands_stopped g.W.Output self.sender.delimiter given c.args.output.now c.write_fields.new.output
-                self.sender.lines
-                c.write_fields.new.self.sender.lines made more c.in-Err.cause (g.W.Output.own_mark c.args.output.now)
-                (g.W.Output.own_mark c.write_fields.new.output)
-                (subst (Stands g.W.Output self.sender.delimiter given c.args.output.now self.sender.lines made) none
-                h.stands)
-                wrote.memory wrote.output);
-            mark = wrote.output.marked ∙ h.mark;
-          };
-    }
+    makes_stopped g.W.Output _ c.args.self.now c.write_fields.new.self c.args.output.now c.write_fields.new.output
+    c.in-Err.cause (no_fault c.args.self.now.fault (sym c.is_some.ensures ∙ c.if-is_some.false)) c.in-Err.ensures

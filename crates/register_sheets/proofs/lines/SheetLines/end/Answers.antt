@@ -1,5 +1,5 @@
 use Rattle.std.proofs.Common.{false, refl}
-use Rattle.register_sheets.specs.declared.lines.SheetLines.{SheetLines}
+use Rattle.register_sheets.proofs.Common.{SheetLines}
 use Rattle.register_sheets.proofs.LineLemmas.{line_ended}
 use Rattle.register_sheets.proofs.lines.SheetLines.end.Goals as goal
 

@@ -1,5 +1,5 @@
 use Rattle.std.proofs.Common.{map, take}
-use Rattle.register_sheets.specs.LineViews.{GainsFields}
+use Rattle.register_sheets.proofs.Common.{GainsFields}
 use Rattle.register_sheets.proofs.lines.SheetLines.push_all.Given as goal
 
 abbrev pub invariant-fields : goal.invariant-fields

@@ -1,5 +1,5 @@
-use Rattle.std.specs.Prelude.{[], replicate}
-use Rattle.register_sheets.specs.LineViews.{GainsFields}
+use Rattle.std.proofs.Common.{[], replicate}
+use Rattle.register_sheets.proofs.Common.{GainsFields}
 use Rattle.register_sheets.proofs.lines.SheetLines.push_empty.Given as goal
 
 abbrev pub invariant-fields : goal.invariant-fields

@@ -1,11 +1,9 @@
-use Rattle.std.proofs.Common.{rules, ◌≡◌, ◌∙◌, ◌++◌, ◌+◌, ◌∷◌, [], is_ok, ap, sym, append_assoc, Ok, true}
-use Rattle.std.proofs.Common.{List, append-nil, false, subst}
+use Rattle.std.proofs.Common.{rules, ◌≡◌, ◌∙◌, ◌++◌, ◌+◌, ◌∷◌, [], is_ok, ap, sym, append_assoc, Ok, true, List}
+use Rattle.std.proofs.Common.{append-nil, false, subst}
+use Rattle.register_sheets.proofs.Common.{Fields, fields_of, left_of}
 use Rattle.register_records.proofs.StepLemmas.{passed_on}
-use Rattle.register_records.specs.Entries.{Fields}
 use Rattle.register_sheets.proofs.SendingLemmas.{no_value}
-use Rattle.csv.specs.Records.{fields_of}
 use Rattle.register_sheets.specs.NameLists.{IsFaultOf, IsListOf}
-use Rattle.register_sheets.specs.Reading.{left_of}
 use Rattle.register_sheets.proofs.NameListLemmas.{first_fault, lines_more}
 use Rattle.register_sheets.proofs.name_lists.NameList.add_lines.Goals as goal
 

@@ -1,10 +1,8 @@
-use Rattle.std.proofs.Common.{◌≡◌, ◌++◌, List, length}
-use Rattle.register_records.specs.Entries.{Fields}
+use Rattle.std.proofs.Common.{◌≡◌, ◌++◌, List, length, ◌∷◌, []}
+use Rattle.register_sheets.proofs.Common.{Fields, IsReading, left_of}
 use Rattle.register_sheets.specs.NameLists.{AreLines, columns}
-use Rattle.register_sheets.specs.Reading.{IsReading, left_of}
 use Rattle.register_sheets.specs.Sheets.{chosen}
 use Rattle.register_sheets.proofs.name_lists.NameList.add_lines.Given as goal
-use Rattle.std.proofs.Common.{◌∷◌, []}
 
 -- the records so far are lines
 abbrev pub invariant-records : goal.invariant-records

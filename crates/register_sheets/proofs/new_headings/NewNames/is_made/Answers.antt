@@ -1,5 +1,5 @@
 use Rattle.std.proofs.Common.{◌≡◌, ◌∙◌, ◌<◌, arith, false, get_or, length, refl, rules, sym}
-use Rattle.std.specs.Str.{bytes_eq}
+use Rattle.register_sheets.proofs.Common.{bytes_eq}
 use Rattle.std.proofs.lemmas.Slice.Eq.{bytes_eq-Decides}
 use Rattle.register_sheets.proofs.HeadingLemmas.{bytes_alike, made_next}
 use Rattle.register_sheets.proofs.new_headings.NewNames.is_made.Goals as goal

@@ -1,5 +1,5 @@
 use Rattle.std.proofs.Common.{◌≡◌, drop}
-use Rattle.register_sheets.specs.Headings.{is_taken, items_of}
+use Rattle.register_sheets.proofs.Common.{is_taken, items_of}
 use Rattle.register_sheets.proofs.new_headings.NewNames.is_made.Given as goal
 
 abbrev pub invariant-made : goal.invariant-made

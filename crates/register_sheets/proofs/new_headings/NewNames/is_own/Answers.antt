@@ -1,7 +1,6 @@
 use Rattle.std.proofs.Common.{◌≡◌, ◌∙◌, [], arith, false, get_or, refl, rules, sym}
-use Rattle.std.specs.Str.{bytes_eq}
+use Rattle.register_sheets.proofs.Common.{bytes_eq, fields_of}
 use Rattle.std.proofs.lemmas.Slice.Eq.{bytes_eq-Decides}
-use Rattle.csv.specs.Records.{fields_of}
 use Rattle.register_sheets.proofs.HeadingLemmas.{bytes_alike, taken_next}
 use Rattle.register_sheets.proofs.new_headings.NewNames.is_own.Goals as goal
 

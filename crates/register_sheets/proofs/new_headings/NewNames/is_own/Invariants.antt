@@ -1,6 +1,5 @@
 use Rattle.std.proofs.Common.{◌≡◌, drop}
-use Rattle.csv.specs.Records.{fields_of}
-use Rattle.register_sheets.specs.Headings.{is_taken}
+use Rattle.register_sheets.proofs.Common.{fields_of, is_taken}
 use Rattle.register_sheets.proofs.new_headings.NewNames.is_own.Given as goal
 
 abbrev pub invariant-own : goal.invariant-own

@@ -1,5 +1,5 @@
 use Rattle.std.proofs.Common.{◌≡◌, arith, append_assoc}
-use Rattle.register_sheets.specs.HeadingViews.{taken_by}
+use Rattle.register_sheets.proofs.Common.{taken_by}
 use Rattle.register_sheets.proofs.HeadingLemmas.{first_free}
 use Rattle.register_sheets.proofs.new_headings.NewNames.numbered.Goals as goal
 

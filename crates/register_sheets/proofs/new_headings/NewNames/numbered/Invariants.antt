@@ -1,6 +1,6 @@
 use Rattle.std.proofs.Common.{◌≡◌, ◌<◌, ◌+◌, ℕ, true}
-use Rattle.register_sheets.specs.HeadingViews.{taken_by}
-use Rattle.register_sheets.specs.Headings.{is_taken, numbered}
+use Rattle.register_sheets.proofs.Common.{taken_by, is_taken}
+use Rattle.register_sheets.specs.Headings.{numbered}
 use Rattle.register_sheets.proofs.new_headings.NewNames.numbered.Given as goal
 
 -- each of these was tried

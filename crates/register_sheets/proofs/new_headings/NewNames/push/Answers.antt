@@ -1,5 +1,5 @@
 use Rattle.std.proofs.Common.{◌∙◌, ap, refl}
-use Rattle.register_sheets.specs.Headings.{items_of}
+use Rattle.register_sheets.proofs.Common.{items_of}
 use Rattle.register_sheets.proofs.HeadingLemmas.{made_named, one_named}
 use Rattle.register_sheets.proofs.new_headings.NewNames.push.Goals as goal
 

@@ -1,11 +1,8 @@
 use Rattle.std.proofs.Common.{None, ◌+◌, get_or, length, nat_lt, subst, sym, take}
+use Rattle.register_sheets.proofs.Common.{Fields, NamesMore, fields_of, DateColumn}
 use Rattle.std.proofs.lemmas.List.{take_more}
-use Rattle.register_records.specs.Entries.{Fields}
-use Rattle.register_sheets.specs.HeadingViews.{NamesMore}
 use Rattle.register_sheets.specs.Headings.{wanted_for}
-use Rattle.csv.specs.Records.{fields_of}
 use Rattle.register_sheets.specs.declared.choices.CalendarField.TheVariants as calendar
-use Rattle.register_sheets.specs.declared.choices.DateColumn.{DateColumn}
 use Rattle.register_sheets.proofs.HeadingLemmas.{then_named}
 use Rattle.register_sheets.proofs.RowLemmas.{flat_more}
 use Rattle.register_sheets.proofs.new_headings.NewNames.push_dates.Goals as goal

@@ -1,7 +1,5 @@
 use Rattle.std.proofs.Common.{take}
-use Rattle.std.specs.List.{flat_map}
-use Rattle.csv.specs.Records.{fields_of}
-use Rattle.register_sheets.specs.HeadingViews.{NamesMore}
+use Rattle.register_sheets.proofs.Common.{flat_map, fields_of, NamesMore}
 use Rattle.register_sheets.specs.Headings.{wanted_for}
 use Rattle.register_sheets.proofs.new_headings.NewNames.push_dates.Given as goal
 

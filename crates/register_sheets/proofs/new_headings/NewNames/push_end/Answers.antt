@@ -1,9 +1,6 @@
 use Rattle.std.proofs.Common.{◌≡◌, ◌∙◌, ◌∷◌, [], ap, get_or, map, subst, take, take_all}
-use Rattle.csv.specs.Records.{fields_of}
-use Rattle.register_records.specs.Entries.{Fields}
-use Rattle.register_sheets.specs.HeadingViews.{NamesMore, wanted_all}
-use Rattle.register_sheets.specs.Headings.{asked_behind, behind}
-use Rattle.register_sheets.specs.declared.choices.AskedColumn.TheVariants.{DayNumber}
+use Rattle.register_sheets.proofs.Common.{fields_of, Fields, NamesMore, wanted_all, asked_behind, DayNumber}
+use Rattle.register_sheets.specs.Headings.{behind}
 use Rattle.register_sheets.proofs.HeadingLemmas.{name_more, then_all}
 use Rattle.register_sheets.proofs.new_headings.NewNames.push_end.Goals as goal
 

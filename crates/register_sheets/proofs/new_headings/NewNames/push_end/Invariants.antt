@@ -1,7 +1,5 @@
 use Rattle.std.proofs.Common.{map, take}
-use Rattle.csv.specs.Records.{fields_of}
-use Rattle.register_sheets.specs.HeadingViews.{NamesMore, wanted_all}
-use Rattle.register_sheets.specs.Headings.{asked_behind}
+use Rattle.register_sheets.proofs.Common.{fields_of, NamesMore, wanted_all, asked_behind}
 use Rattle.register_sheets.proofs.new_headings.NewNames.push_end.Given as goal
 
 abbrev pub invariant-columns : goal.invariant-columns

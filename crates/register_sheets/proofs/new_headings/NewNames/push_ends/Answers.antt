@@ -1,6 +1,6 @@
-use Rattle.std.proofs.Common.{◌++◌, codes, map, refl}
+use Rattle.std.proofs.Common.{codes, map, refl}
+use Rattle.register_sheets.proofs.Common.{asked_behind}
 use Rattle.std.proofs.lemmas.Result.{on_ok_weaker}
-use Rattle.register_sheets.specs.Headings.{asked_behind}
 use Rattle.register_sheets.proofs.HeadingLemmas.{then_all}
 use Rattle.register_sheets.proofs.new_headings.NewNames.push_ends.Goals as goal
 

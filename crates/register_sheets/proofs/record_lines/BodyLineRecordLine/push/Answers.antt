@@ -1,5 +1,5 @@
-use Rattle.register_sheets.proofs.LineLemmas.{gained_at_last}
 use Rattle.std.proofs.Common.{refl}
+use Rattle.register_sheets.proofs.LineLemmas.{gained_at_last}
 use Rattle.register_sheets.proofs.record_lines.BodyLineRecordLine.push.Goals as goal
 
 pub returns : goal.returns

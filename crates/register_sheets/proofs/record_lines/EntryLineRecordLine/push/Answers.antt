@@ -1,12 +1,8 @@
-use Rattle.std.proofs.Common.{◌≡◌, ◌≤◌, ◌∙◌, ℕ, List, None, Option, Some, ap, length, map, rules, subst, sym}
+use Rattle.std.proofs.Common.{◌≡◌, ◌≤◌, ◌∙◌, None, Some, ap, length, rules, subst, sym, OnOk, slice_get}
+use Rattle.register_sheets.proofs.Common.{Fields, GainsFields, date_seen, record_read, ColumnDates}
 use Rattle.std.proofs.lemmas.Option.{slice_get-get_or}
-use Rattle.std.specs.Prelude.{OnOk, slice_get}
-use Rattle.register_records.specs.Entries.{Fields}
-use Rattle.register_sheets.specs.LineViews.{GainsFields}
-use Rattle.register_sheets.specs.RecordLines.{entry_line, if_dated}
-use Rattle.register_sheets.specs.SheetRecords.{DateRead, date_seen, record_read}
-use Rattle.register_sheets.specs.declared.sheet_records.ColumnDates.{ColumnDates}
-use Rattle.register_sheets.proofs.LineLemmas.{gained_as, none_gained}
+use Rattle.register_sheets.specs.RecordLines.{if_dated}
+use Rattle.register_sheets.proofs.LineLemmas.{none_gained}
 use Rattle.register_sheets.proofs.RowLemmas.{none_behind, none_seen, seen_at}
 use Rattle.register_sheets.proofs.record_lines.EntryLineRecordLine.push.Goals as goal
 

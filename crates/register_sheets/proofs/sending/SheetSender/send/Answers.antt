@@ -1,5 +1,5 @@
 use Rattle.std.proofs.Common.{[]}
-use Rattle.register_sheets.specs.Sheets.{records_text}
+use Rattle.register_sheets.proofs.Common.{records_text}
 use Rattle.register_sheets.proofs.SendingLemmas.{all_sent}
 use Rattle.register_sheets.proofs.sending.SheetSender.send.Goals as goal
 

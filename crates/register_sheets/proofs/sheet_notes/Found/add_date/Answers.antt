@@ -1,9 +1,6 @@
-use Rattle.std.proofs.Common.{◌≡◌, Bool, refl, rules, subst}
-use Rattle.csv.specs.Records.{fields_of}
-use Rattle.register_sheets.specs.Choices.{called_for}
-use Rattle.register_sheets.specs.DateEnds.{as_text}
+use Rattle.std.proofs.Common.{rules}
+use Rattle.register_sheets.proofs.Common.{fields_of, as_text, date_seen}
 use Rattle.register_sheets.specs.DateStops.{IsStopOf}
-use Rattle.register_sheets.specs.SheetRecords.{date_seen}
 use Rattle.register_sheets.specs.UnknownNames.{IsShort}
 use Rattle.register_sheets.proofs.NoteLemmas.{date_found, found_place, found_room}
 use Rattle.register_sheets.proofs.sheet_notes.Found.add_date.Goals as goal

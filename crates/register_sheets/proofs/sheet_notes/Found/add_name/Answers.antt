@@ -1,2 +1,0 @@
-use Rattle.std.proofs.Common.{sym}
-use Rattle.register_sheets.proofs.sheet_notes.Found.add_name.Goals as goal

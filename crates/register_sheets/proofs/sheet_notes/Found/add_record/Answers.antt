@@ -1,15 +1,8 @@
-use Rattle.std.proofs.Common.{None, ◌≡◌, ◌<◌, ◌∙◌, ◌++◌, ℕ, Some, append-nil, arith, get_or, length, length-append}
-use Rattle.std.proofs.Common.{length-take, List, map, refl}
-use Rattle.std.proofs.Common.{subst, sym, take, take_all}
-use Rattle.std.specs.Prelude.{slice_get}
+use Rattle.std.proofs.Common.{None, ◌≡◌, ◌++◌, append-nil, arith, length-append, length-take, List, map, subst, sym}
+use Rattle.std.proofs.Common.{take, take_all}
+use Rattle.register_sheets.proofs.Common.{fields_of, HasFound, SheetDate, DateColumn}
 use Rattle.std.proofs.lemmas.List.{length-map}
-use Rattle.std.proofs.lemmas.Option.{slice_get-get_or}
-use Rattle.csv.specs.Records.{fields_of}
-use Rattle.register_sheets.specs.SheetNotes.{HasFound}
-use Rattle.register_sheets.specs.SheetRecords.{IsDateRead, date_seen}
-use Rattle.register_sheets.specs.DateStops.{SheetDate}
 use Rattle.register_sheets.specs.declared.choices.CalendarField.TheVariants as calendar
-use Rattle.register_sheets.specs.declared.choices.DateColumn.{DateColumn}
 use Rattle.register_sheets.proofs.FoundLemmas.{dates_taken}
 use Rattle.register_sheets.proofs.NoteLemmas.{columns_count, date_at_place}
 use Rattle.register_sheets.proofs.sheet_notes.Found.add_record.Goals as goal
@@ -61,8 +54,7 @@ add_date-requires c =
     let done = map f (take c.dates.place columns) in
     let same = columns_count choice of_sheet.number fields columns of_sheet.columns.items c.requires.read in
     let is = date_at_place choice of_sheet.number fields columns of_sheet.columns.items c.dates.place none
-    c.index.result.now
-    c.requires.read c.dates-test.true (omega (arith, same, c.dates-test.true)) c.index.ensures in
+    c.index.result.now c.requires.read c.dates-test.true (omega (arith, same, c.dates-test.true)) c.index.ensures in
     record {
       space = record {
         dates = space.dates ++ done;

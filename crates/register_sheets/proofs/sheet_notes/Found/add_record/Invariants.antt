@@ -1,7 +1,5 @@
 use Rattle.std.proofs.Common.{◌++◌, ℕ, List, map, take}
-use Rattle.csv.specs.Records.{fields_of}
-use Rattle.register_sheets.specs.DateStops.{SheetDate}
-use Rattle.register_sheets.specs.SheetNotes.{HasFound}
+use Rattle.register_sheets.proofs.Common.{fields_of, SheetDate, HasFound}
 use Rattle.register_sheets.proofs.sheet_notes.Found.add_record.Given as goal
 
 abbrev pub invariant-dates : goal.invariant-dates

@@ -1,8 +1,5 @@
-use Rattle.std.proofs.Common.{◌∙◌, List, ap, length, map, refl, subst, sym}
-use Rattle.csv.specs.Records.{fields_of}
-use Rattle.register_records.specs.Outcomes.{TableRow}
-use Rattle.register_sheets.specs.CountViews.{CountsRecord}
-use Rattle.register_sheets.specs.SheetRecords.{record_read}
+use Rattle.std.proofs.Common.{◌∙◌, ap, length, refl}
+use Rattle.register_sheets.proofs.Common.{fields_of, record_read}
 use Rattle.register_sheets.proofs.NoteLemmas.{columns_count, notes_more, notes_space, notes_up_to}
 use Rattle.register_sheets.proofs.ReadingLemmas.{rows_in}
 use Rattle.register_sheets.proofs.sheet_notes.SheetNotes.add.Goals as goal
@@ -24,5 +21,4 @@ pub add-requires-clause-room : goal.add-requires-clause-room
 add-requires-clause-room c = notes_up_to c.args.choice.now c.args.self.now c.requires.space
 
 pub add_record-requires-clause-space : goal.add_record-requires-clause-space
-add_record-requires-clause-space c =
-    notes_space c.args.choice.now c.args.self.now c.requires.few c.requires.space
+add_record-requires-clause-space c = notes_space c.args.choice.now c.args.self.now c.requires.few c.requires.space

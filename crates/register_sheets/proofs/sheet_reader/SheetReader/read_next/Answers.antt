@@ -1,7 +1,5 @@
-use Rattle.std.proofs.Common.{◌≡◌, ◌∙◌, ap, arith, false, refl, rules, true}
-use Rattle.std.specs.Prelude.{Bool, Ok, Err, Result}
-use Rattle.register_sheets.specs.SheetRecords.{record_read}
-use Rattle.register_sheets.specs.declared.sheet_ends.SheetCause.{SheetCause}
+use Rattle.std.proofs.Common.{◌≡◌, ◌∙◌, ap, arith, false, refl, rules, true, Bool, Ok, Err, Result}
+use Rattle.register_sheets.proofs.Common.{record_read, SheetCause}
 use Rattle.register_sheets.proofs.ReadingLemmas.{all_given, given_more, more_than}
 use Rattle.register_sheets.proofs.sheet_reader.SheetReader.read_next.Goals as goal
 

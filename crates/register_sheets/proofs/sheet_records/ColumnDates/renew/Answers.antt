@@ -1,12 +1,8 @@
-use Rattle.std.proofs.Common.{◌≡◌, ◌∙◌, [], ℕ, List, Option, ap, get_or, option_map, rules, subst, sym}
-use Rattle.std.specs.Prelude.{IsSome, None}
+use Rattle.std.proofs.Common.{◌≡◌, ◌∙◌, [], ℕ, List, Option, ap, rules, subst, sym, None}
+use Rattle.register_sheets.proofs.Common.{fields_of, Calendar, calendar_for, id_text, AreEndsIn, as_text, IsStopBy}
+use Rattle.register_sheets.proofs.Common.{dated_seen}
 use Rattle.std.proofs.lemmas.Result.{on_ok_weaker}
-use Rattle.csv.specs.Records.{fields_of}
-use Rattle.date_texts.specs.declared.calendar.Calendar.{Calendar}
-use Rattle.register_sheets.specs.Choices.{calendar_for, id_text}
-use Rattle.register_sheets.specs.DateEnds.{AreEndsIn, as_text}
-use Rattle.register_sheets.specs.DateStops.{IsStopBy}
-use Rattle.register_sheets.specs.SheetRecords.{dated_seen, stop_read}
+use Rattle.register_sheets.specs.SheetRecords.{stop_read}
 use Rattle.register_sheets.specs.UnknownViews.{if_stop}
 use Rattle.register_sheets.proofs.AcceptedLemmas.{accepted_date}
 use Rattle.register_sheets.proofs.DateLemmas.{date_is_read}
@@ -20,8 +16,7 @@ stop_beside-stop-requires-clause-stop c has some =
     let meant = c.date_said-said.result.meant in
     let rows = c.convert.ensures.rows in
     let end = (dated_seen c.convert.new.self).first in
-    let named : c.put_ends.new.self.calendar.items ≡ calendar_for choice column fields
-    = search rules in
+    let named : c.put_ends.new.self.calendar.items ≡ calendar_for choice column fields = search rules in
     subst (λ (called : Option Calendar). IsStopBy choice column fields end.text called None) (sym c.called_by.ensures)
     (accepted_date c.one_calendar.ensures choice column c.args.number fields c.id_of-id.result.now
     c.put_ends.new.self.calendar.items meant end named c.date_said-said.ensures.meant rows.first has
@@ -43,9 +38,7 @@ returns c =
     let stops = subst (λ (called : Option Calendar). IsStopBy choice column fields (dated_seen rows).first.text called
     (if_stop c.stop_beside-stop.result)) c.called_by.ensures c.stop_beside-stop.ensures in
     let last = c.put_edtf.ensures in
-    on_ok_weaker c.put_edtf.result
-    (λ edtf. date_is_read choice column c.args.number fields c.id_of-id.result.now meant
+    on_ok_weaker c.put_edtf.result (λ edtf. date_is_read choice column c.args.number fields c.id_of-id.result.now meant
     (if_stop c.stop_beside-stop.result) put rows c.put_edtf.new.self named c.date_said-said.ensures.meant id ends
     c.convert.ensures.rows stops (ap stop_read last.stop ∙ c.in_ok-renew.ensures) last.calendar last.first last.last
-    last.marks edtf)
-    last.edtf
+    last.marks edtf) last.edtf

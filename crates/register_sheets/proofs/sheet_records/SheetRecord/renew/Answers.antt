@@ -1,10 +1,6 @@
 use Rattle.std.proofs.Common.{None, ◌<◌, ◌∙◌, ◌+◌, List, arith, length, length-set, subst, sym, take}
-use Rattle.std.specs.List.{AllZip}
-use Rattle.csv.specs.Records.{fields_of}
-use Rattle.register_sheets.specs.SheetRecords.{DateRead, IsDateRead, date_seen}
+use Rattle.register_sheets.proofs.Common.{AllZip, fields_of, DateRead, IsDateRead, date_seen, DateColumn, ColumnDates}
 use Rattle.register_sheets.specs.declared.choices.CalendarField.TheVariants.{Column}
-use Rattle.register_sheets.specs.declared.choices.DateColumn.{DateColumn}
-use Rattle.register_sheets.specs.declared.sheet_records.ColumnDates.{ColumnDates}
 use Rattle.register_sheets.proofs.ReadingLemmas.{set_more}
 use Rattle.register_sheets.proofs.RowLemmas.{zip_at}
 use Rattle.register_sheets.proofs.sheet_records.SheetRecord.renew.Goals as goal

@@ -1,7 +1,5 @@
 use Rattle.std.proofs.Common.{◌≡◌, length, map, take}
-use Rattle.std.specs.List.{AllZip}
-use Rattle.csv.specs.Records.{fields_of}
-use Rattle.register_sheets.specs.SheetRecords.{IsDateRead, date_seen}
+use Rattle.register_sheets.proofs.Common.{AllZip, fields_of, IsDateRead, date_seen}
 use Rattle.register_sheets.proofs.sheet_records.SheetRecord.renew.Given as goal
 
 abbrev pub invariant-dates : goal.invariant-dates

@@ -1,9 +1,10 @@
-use Rattle.std.proofs.Common.{◌≡◌, ◌<◌, ◌≤◌, ◌∙◌, ◌++◌, ◌∷◌, [], List, ap, arith, false, length, map, rules, set, subst, sym}
+use Rattle.std.proofs.Common.{◌≡◌, ◌<◌, ◌≤◌, ◌∙◌, ◌++◌, ◌∷◌, [], List, ap, arith, false, length, map, rules, set, subst}
+use Rattle.std.proofs.Common.{sym}
+use Rattle.register_sheets.proofs.Common.{NameStop, NameCount}
 use Rattle.std.proofs.lemmas.List.{get_or-map, length-map, map-set}
 use Rattle.std.proofs.lemmas.Option.{slice_get_within}
 use Rattle.std.proofs.lemmas.Result.{on_ok_weaker}
-use Rattle.register_sheets.specs.DateStops.{NameStop}
-use Rattle.register_sheets.specs.UnknownNames.{AreNames, NameCount, name_seen as count_seen}
+use Rattle.register_sheets.specs.UnknownNames.{AreNames, name_seen as count_seen}
 use Rattle.register_sheets.specs.UnknownViews.{name_seen, named}
 use Rattle.register_sheets.proofs.StopLemmas.{has, name_counted, named_are, names_full, names_new, one_more}
 use Rattle.register_sheets.proofs.stopped_names.StoppedNames.count.Goals as goal
@@ -17,8 +18,7 @@ returns-in-Some c = λ stops are.
     let lt : k < length items = omega (arith, slice_get_within _ k name found, length-map items named) in
     let at = get_or-map count_seen items k x (count_seen x) lt ∙ ap count_seen (sym c.index_mut.ensures.value) in
     name_counted c.args.most stops (name_seen c.args.stop) items _ c.args.self.now.more k name (count_seen x) are found alike
-    (map-set count_seen items k _
-    ∙ ap (λ (n : NameCount). set (map count_seen items) k (one_more n)) (sym at))
+    (map-set count_seen items k _ ∙ ap (λ (n : NameCount). set (map count_seen items) k (one_more n)) (sym at))
 
 pub returns-then-len-most : goal.returns-then-len-most
 returns-then-len-most c = λ stops are.

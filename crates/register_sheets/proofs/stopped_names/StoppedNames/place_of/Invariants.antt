@@ -1,6 +1,5 @@
 use Rattle.std.proofs.Common.{◌≡◌, false, map, take}
-use Rattle.std.specs.List.{list_any}
-use Rattle.register_sheets.specs.UnknownNames.{is_alike}
+use Rattle.register_sheets.proofs.Common.{list_any, is_alike}
 use Rattle.register_sheets.specs.UnknownViews.{name_seen, named}
 use Rattle.register_sheets.proofs.stopped_names.StoppedNames.place_of.Given as goal
 

@@ -1,0 +1,47 @@
+-- The names that many proofs speak of.
+pub use Rattle.csv.specs.Records.{fields_of}
+pub use Rattle.date_texts.specs.Calendars.{all_calendars, calendar_name}
+pub use Rattle.date_texts.specs.Names.{IsNamed}
+pub use Rattle.date_texts.specs.declared.calendar.Calendar.{Calendar}
+pub use Rattle.date_texts.specs.declared.calendar.Calendar.TheVariants.{Gregorian}
+pub use Rattle.date_texts.specs.declared.refusal.Refusal.{Refusal}
+pub use Rattle.register_records.specs.Entries.{Fields, record_limit, text_records}
+pub use Rattle.register_records.specs.Lines.{line_text}
+pub use Rattle.register_records.specs.Views.{row_seen}
+pub use Rattle.register_sheets.specs.Choices.{asked_targets, calendar_for, id_text, meaning_for}
+pub use Rattle.register_sheets.specs.Converted.{below}
+pub use Rattle.register_sheets.specs.CountViews.{CountsDates}
+pub use Rattle.register_sheets.specs.DateCounts.{AreSheetCounts, no_counts}
+pub use Rattle.register_sheets.specs.DateEnds.{AreEndsIn, Dated, DatedEnd, as_text}
+pub use Rattle.register_sheets.specs.DateStops.{DateStop, IsStopBy, NameStop, SheetDate}
+pub use Rattle.register_sheets.specs.HeadingViews.{NamesMore, taken_by, wanted_all}
+pub use Rattle.register_sheets.specs.Headings.{asked_behind, is_taken, items_of}
+pub use Rattle.register_sheets.specs.LineViews.{GainsFields}
+pub use Rattle.register_sheets.specs.LineWriters.{Finishes, Gathers, Makes, Waits}
+pub use Rattle.register_sheets.specs.NameLists.{named_by}
+pub use Rattle.register_sheets.specs.Produced.{AreLines, Produced, ending_of, first_fault}
+pub use Rattle.register_sheets.specs.Reading.{IsReading, left_of}
+pub use Rattle.register_sheets.specs.RecordLines.{body_line}
+pub use Rattle.register_sheets.specs.Sending.{top_records}
+pub use Rattle.register_sheets.specs.SheetNotes.{HasFound, HasNotes}
+pub use Rattle.register_sheets.specs.SheetReaders.{given_of}
+pub use Rattle.register_sheets.specs.SheetReadings.{AreRegisterWriters, HasReadSheet, Takes, line_of_entry}
+pub use Rattle.register_sheets.specs.SheetRecords.{AreRecordsRead, DateRead, IsDateRead, RecordRead, date_seen}
+pub use Rattle.register_sheets.specs.SheetRecords.{dated_seen, fields_read, record_read}
+pub use Rattle.register_sheets.specs.Sheets.{records_text, widest}
+pub use Rattle.register_sheets.specs.UnknownNames.{NameCount, all_dates, is_alike, list_head, name_record, name_seen}
+pub use Rattle.register_sheets.specs.declared.choices.AskedColumn.{AskedColumn}
+pub use Rattle.register_sheets.specs.declared.choices.AskedColumn.TheVariants.{DayNumber}
+pub use Rattle.register_sheets.specs.declared.choices.DateColumn.{DateColumn}
+pub use Rattle.register_sheets.specs.declared.choices.SheetChoice.{SheetChoice}
+pub use Rattle.register_sheets.specs.declared.line_writers.LineWriter.{LineWriter}
+pub use Rattle.register_sheets.specs.declared.lines.SheetLines.{SheetLines}
+pub use Rattle.register_sheets.specs.declared.record_lines.EntryLine.{EntryLine}
+pub use Rattle.register_sheets.specs.declared.sheet_ends.SheetCause.{SheetCause}
+pub use Rattle.register_sheets.specs.declared.sheet_records.ColumnDates.{ColumnDates}
+pub use Rattle.register_sheets.specs.declared.stopped_names.UnknownName.{UnknownName}
+pub use Rattle.std.specs.List.{AllZip, flat_map, list_any}
+pub use Rattle.std.specs.Str.{bytes_eq}
+pub use Rattle.written_dates.specs.Fields.{calendar_of}
+pub use Rattle.written_dates.specs.declared.fields.CalendarMeaning.{CalendarMeaning}
+pub use Rattle.written_dates.specs.declared.meanings.Name.{Name}

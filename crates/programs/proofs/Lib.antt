@@ -3,10 +3,12 @@
 --   FileLemmas: files have one fault at most.
 --   MeaningLemmas, upon these: arguments mean one thing.
 --   MatchLemmas: `opened`, `made`, `placed`, `kept` and `apart` of `open_files`.
+--   RefusedLemmas: when arguments are refused, and what is reported then, for `answer` of both programs.
 --   AppendsLemmas: the contract of `write` of `LoggedWriter`.
 mod Common
 pub mod KindLemmas
 pub mod FileLemmas
 pub mod MeaningLemmas
+pub mod RefusedLemmas
 pub mod AppendsLemmas
 pub mod MatchLemmas

@@ -2,12 +2,17 @@
 use Rattle.std.proofs.Common.{◌≡◌, ◌∙◌, List, [], ◌∷◌, sym, ap, refl, subst, arith, rules, inl, inr, Option, Some, None, ℕ}
 use Rattle.std.specs.Prelude.{◌≢◌, ⊤, IfSome, IsSomeAnd}
 use Rattle.clap.specs.Values.{kind_of}
-use Rattle.clap.specs.Words.{HasKind, IsAmong, Row, Text, fault_of, matches_of}
+use Rattle.clap.specs.Words.{App, IsAmong, Row, Text, fault_of, found_of, matches_of, rows_of}
 use Rattle.clap.specs.declared.error.Error.{Error}
 use Rattle.clap.specs.declared.error.kind.ErrorKind.{ErrorKind}
-use Rattle.clap.specs.declared.error.kind.ErrorKind.TheVariants.{DisplayHelp, DisplayVersion, OutOfMemory}
+use Rattle.clap.specs.declared.parser.matches.ArgMatches.{ArgMatches}
+use Rattle.clap.specs.declared.error.kind.ErrorKind.TheVariants.{DisplayHelp, DisplayVersion}
 use Rattle.programs.specs.Meanings.{AreTaken, Check, CommandLine, FailFirst, IsFaultOf, Mean, MeanJust, Meaning}
 use Rattle.programs.specs.Meanings.{file_check, help, option_check, usage_check, version, work, wrong}
+use Rattle.programs.specs.Requests.{AreRead, AreUnread}
+use Rattle.programs.specs.declared.requests.Request.{Request}
+use Rattle.programs.specs.declared.requests.Request.TheVariants.{Convert, Help, Version}
+use Rattle.programs.specs.declared.requests.UsageFault.TheVariants.{Usage}
 use Rattle.programs.specs.Values.{IsDelimiterWord, IsNumberWord, IsValueOf, ValueOption}
 use Rattle.programs.proofs.FileLemmas.{fit_no_fault, one_file_fault}
 
@@ -123,22 +128,41 @@ module _ {T F : Type 0} (line : CommandLine T F) (arguments : List Text) where
         absurd (search (rules, help_no_version, not_taken, help_no_fault, version_no_fault, work_no_fault))
 
     -- what the arguments mean is all that they mean
-    pub mean_just : (meaning : Meaning T F) → Mean line arguments meaning → MeanJust line arguments meaning
+    mean_just : (meaning : Meaning T F) → Mean line arguments meaning → MeanJust line arguments meaning
     mean_just meaning means other = grind (arith, one_meaning)
 
-    -- a fault that a check finds is all that the arguments mean
-    pub found_just : (found : Option F) (fails : F → Type 0) → IfSome found fails
-        → ((fault : F) → fails fault → IsFaultOf line arguments fault)
-        → IfSome found (λ fault. MeanJust line arguments (wrong fault))
-    found_just None fails is first = tt
-    found_just (Some fault) fails is first = mean_just (wrong fault) (first fault is)
+    -- so they mean what is read of them, by a command that is the line's
+    module _ (app : App) (is_its : app ≡ line.command) where
+      pub usage_just : (error : Error) → AreUnread app arguments (Usage error)
+          → MeanJust line arguments (wrong (line.usage (kind_of error)))
+      usage_just error unread =
+          let is = subst (λ (a : App). AreUnread a arguments (Usage error)) is_its unread in
+          mean_just (wrong (line.usage (kind_of error))) (inl (kind_of error, refl, is.0, is.1, is.2))
 
-  -- the kind of an error, unless memory ran out, is one that the arguments have
-  pub is_among : (error : Error) (kind : ErrorKind) → HasKind (fault_of line.command arguments) error
-      → kind_of error ≡ kind → kind ≢ OutOfMemory → IsAmong kind (fault_of line.command arguments)
-  is_among error kind has is other = grind arith
+      module _ (found : Request ArgMatches) (read : AreRead app arguments found) where
+        read_as : (other : Request ArgMatches) → found ≡ other → AreRead line.command arguments other
+        read_as other is =
+            subst (λ (a : App). AreRead a arguments other) is_its
+            (subst (λ (r : Request ArgMatches). AreRead app arguments r) is read)
 
-  pub misuses : (error : Error) → HasKind (fault_of line.command arguments) error → kind_of error ≢ OutOfMemory
-      → kind_of error ≢ DisplayHelp → kind_of error ≢ DisplayVersion
-      → IsFaultOf line arguments (line.usage (kind_of error))
-  misuses error has memory helps versions = grind arith
+        pub help_just : found ≡ Help → MeanJust line arguments help
+        help_just is = mean_just help (read_as Help is)
+
+        pub version_just : found ≡ Version → MeanJust line arguments version
+        version_just is = mean_just version (read_as Version is)
+
+        -- a fault that a check of their values finds, or what these ask for
+        module _ (matches : ArgMatches) (is : found ≡ Convert matches) where
+          pub fault_just : (fault : Option F) → IfSome fault (FailFirst (line.checks (rows_of (found_of matches))))
+              → IfSome fault (λ f. MeanJust line arguments (wrong f))
+          fault_just None fails = tt
+          fault_just (Some fault) fails =
+              let taken = read_as (Convert matches) is in
+              mean_just (wrong fault)
+              (inr (taken.0, subst (λ (rows : List Row). FailFirst (line.checks rows) fault) taken.1 fails))
+
+          pub work_just : (task : T) → line.asks (rows_of (found_of matches)) task
+              → MeanJust line arguments (work task)
+          work_just task asks =
+              let taken = read_as (Convert matches) is in
+              mean_just (work task) (taken.0, subst (λ (rows : List Row). line.asks rows task) taken.1 asks)

@@ -8,3 +8,7 @@ pub mod Places
 pub mod Openings
 pub mod Sides
 pub mod LoggedWriters
+pub mod OwnLines
+pub mod Pages
+pub mod Refusals
+pub mod Requests

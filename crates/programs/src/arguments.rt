@@ -100,6 +100,18 @@ pub fn empty_command<'a>(alloc: Global, name: &'a str, version: &'a str) -> Comm
         .no_binary_name(true)
 }
 
+/// The text of clap on arguments that are not taken, which ends its last line.
+///
+/// # Errors
+///
+/// Memory ran out.
+pub fn clap_text(alloc: Global, error: &clap::Error) -> Result<String, AllocError> {
+    match format!(in alloc; "{error}") {
+        Ok(text) => Ok(text),
+        Err(_) => Err(AllocError),
+    }
+}
+
 /// The value of an option, where the arguments give one.
 pub fn value_given<'a>(matches: &ArgMatches<'a>, name: &str) -> Option<&'a str>
     ensures { option_map (λ v. v.now) result ≡ first_of name.now (rows_of (found_of matches.now)) }

@@ -9,21 +9,29 @@ mod file_store;
 mod files;
 mod logged_writer;
 mod opening;
+mod own_lines;
+mod pages;
 mod places;
+mod refusals;
+mod requests;
 mod statuses;
 mod terminal;
 mod values;
 
 pub use arguments::{
-    Argument, command_with, empty_command, files_argument, flag, is_given, option, repeated_option,
-    value_given, values_given,
+    Argument, clap_text, command_with, empty_command, files_argument, flag, is_given, option,
+    repeated_option, value_given, values_given,
 };
 pub use disk::{Destination, Disk, Exclusive, Source};
 pub use file_store::{FileStore, is_of_output, share_file};
 pub use files::{FilesFault, MAX_FILES, check_files};
 pub use logged_writer::LoggedWriter;
 pub use opening::{FileFault, Opened, open_files, output_name};
+pub use own_lines::{own_line, report_out_of_memory, short_line, version_line};
+pub use pages::print_page;
 pub use places::Place;
-pub use statuses::{COMPLETE, INCOMPLETE};
+pub use refusals::{Refusal, report_refusal};
+pub use requests::{Request, UsageFault, read_arguments};
+pub use statuses::{COMPLETE, INCOMPLETE, NOT_BEGUN, REFUSED};
 pub use terminal::{Lines, lines_to};
 pub use values::{Delimiter, OptionValue, chosen, number_named};

@@ -4,9 +4,9 @@
 //! the calendars that the arguments ask for.
 #![tactic(auto)]
 
-use programs::{Destination, Disk, LoggedWriter, Source, lines_to};
+use programs::{Destination, Disk, LoggedWriter, NOT_BEGUN, REFUSED, Source, lines_to, short_line};
 use register_app::answer;
-use register_arguments::MEMORY_FAULT;
+use register_arguments::NAME;
 use register_records::PlainOutput;
 use std::fs::OpenOptions;
 use std::io::Write;
@@ -24,14 +24,20 @@ fn arguments_of<R: Env + AllocGlobal>(rt: &R) -> io::Result<Vec<String>> {
     Ok(arguments)
 }
 
+/// Reports that memory ran out, and returns the status.
+fn out_of_memory(rt: &impl Eprint) -> ExitCode {
+    let line = short_line(NAME, "out of memory");
+    let _ = eprint!(rt; "{}", line.as_str());
+    ExitCode::from(NOT_BEGUN)
+}
+
 /// Reports why the arguments could not be read: memory ran out, status 3, or one is not UTF-8, status 2.
 fn unread_arguments(rt: &impl Eprint, error: &io::Error) -> ExitCode {
     if error.kind() == io::ErrorKind::OutOfMemory {
-        let _ = eprint!(rt; "{MEMORY_FAULT}");
-        return ExitCode::from(3);
+        return out_of_memory(rt);
     }
     let _ = eprintln!(rt; "register: an argument is not UTF-8");
-    ExitCode::from(2)
+    ExitCode::from(REFUSED)
 }
 
 /// Opens a file that has no bytes. The system gives it the first free number.

@@ -13,31 +13,25 @@ use Rattle.register_records.specs.declared.setups.Setup.{Setup}
 use Rattle.register_run.specs.declared.reports.Verdict.TheVariants.{Complete}
 use Rattle.programs.specs.Openings.{AreMade, AreNotSources, AreOpened, AreTwoFiles, output_names}
 use Rattle.register_app.specs.Namings.{AreNamed}
-use Rattle.register_app.specs.ProgramFaults.{IsOfAsked, fault_line, fault_status, request_fault_in}
+use Rattle.register_app.specs.ProgramFaults.{IsFaultOfAsked, fault_line, fault_status}
 use Rattle.register_app.specs.Reports.{lines_from}
 use Rattle.programs.specs.Meanings.{help, version, work}
-use Rattle.register_arguments.specs.Requests.{IsFaultOf, IsSetupOf, MeanJust, Task}
-use Rattle.register_arguments.specs.declared.help.TheConstants.{HELP, PRINT_FAULT}
-use Rattle.register_app.specs.declared.program_faults.ProgramFault.{ProgramFault}
+use Rattle.programs.specs.OwnLines as lines
+use Rattle.programs.specs.Pages.{IsPrinted}
+use Rattle.programs.specs.Refusals as refusals
+use Rattle.register_arguments.specs.Faults.{name}
+use Rattle.register_arguments.specs.Requests.{IsSetupOf, MeanJust, Task}
+use Rattle.register_arguments.specs.declared.help.TheConstants.{HELP}
 use Rattle.register_arguments.specs.declared.requests.TheConstants.{VERSION}
 
 -- the line on the version
 abbrev pub version_line : List ℕ
-version_line = codes "register " ++ (VERSION.now ++ 10 ∷ [])
+version_line = lines.version_line name VERSION.now
 
 -- the arguments ask for this page
 abbrev pub AskForPage : List (List ℕ) → List ℕ → Type 0
 AskForPage arguments page =
     (MeanJust arguments help × (page ≡ HELP.now)) ⊎ (MeanJust arguments version × (page ≡ version_line))
-
--- a page was printed: with status 0 the output has gained it and handed it on, and standard error has gained nothing;
--- else the output has failed, and standard error has gained one line, unless that failed too
-pub record IsPrinted {W E : Type 0} (o : outputs.Ghosts W) (e : outputs.Ghosts E)
-    (page : List ℕ) (status : ℕ) (given written : W) (before after : E) : Type 0 where
-  pub printed : status ≡ 0 → Appends (o.contents given) (o.contents written) page × (o.is_flushed written ≡ true)
-      × (after ≡ before)
-  pub failed : status ≢ 0 → (o.has_failed written ≡ true)
-      × (e.has_failed after ≡ false → Appends (e.contents before) (e.contents after) PRINT_FAULT.now)
 
 -- tables were made: the threads of each source, which ran as is handed on, were started by the task's setup, with its
 -- ring and its stripes, those that are written, or else those that fit a machine of some number of processors, which the
@@ -84,7 +78,7 @@ pub record AreConverted {R W E : Type 0} (r : reads.Ghosts R) (o : outputs.Ghost
 abbrev pub IsPageAnswered : {W E : Type 0} → outputs.Ghosts W → outputs.Ghosts E → List (List ℕ) → ℕ → W → W → List W
     → E → E → Type 0
 IsPageAnswered o e arguments status given written outputs before after =
-    (page : List ℕ) × AskForPage arguments page × IsPrinted o e page status given written before after × (outputs ≡ [])
+    (page : List ℕ) × AskForPage arguments page × IsPrinted o e name page status given written before after × (outputs ≡ [])
 
 -- the arguments ask for the table of standard input; no output was made
 abbrev pub IsInputAnswered : {R W E : Type 0} → reads.Ghosts R → outputs.Ghosts W → outputs.Ghosts E → List (List ℕ) → ℕ
@@ -103,9 +97,5 @@ AreFilesAnswered r o e IsOpened IsMade IsNamed AreApart arguments status given w
 
 -- standard error has gained the line on why nothing is done, with this status: something is wrong with the arguments,
 -- or memory ran out, or a file was missing; of arguments that are not taken, clap says more than the definitions
-pub record IsReported (arguments : List (List ℕ)) (status : ℕ) (before after : Option (List ℕ)) : Type 0 where
-  pub why : ProgramFault
-  pub status_of : fault_status why ≡ status
-  pub fault : IfSome (request_fault_in why) (IsFaultOf arguments)
-  pub file : IsOfAsked arguments why
-  pub line : IfSome (fault_line why) (Appends before after)
+abbrev pub IsReported : List (List ℕ) → ℕ → Option (List ℕ) → Option (List ℕ) → Type 0
+IsReported arguments = refusals.IsReported fault_status fault_line (IsFaultOfAsked arguments)

@@ -3,7 +3,7 @@ use Rattle.std.specs.Prelude.{◌≡◌, ◌++◌, ℕ, List, codes, IfSome, Opt
 use Rattle.register_arguments.specs.Faults.{Fault, error_line, fault_of_error, memory_line, program_line}
 use Rattle.register_arguments.specs.Faults.{status_of_fault}
 use Rattle.programs.specs.Meanings.{work}
-use Rattle.register_arguments.specs.Requests.{MeanJust, Task}
+use Rattle.register_arguments.specs.Requests.{IsFaultOf, MeanJust, Task}
 use Rattle.programs.specs.Openings.{missing_file}
 use Rattle.programs.specs.declared.opening.FileFault.TheVariants as file_fault
 use Rattle.register_app.specs.declared.program_faults.ProgramFault.{ProgramFault}
@@ -36,3 +36,7 @@ fault_line (program_fault.Files file_fault.OutOfMemory) = Some memory_line
 abbrev pub IsOfAsked : List (List ℕ) → ProgramFault → Type 0
 IsOfAsked arguments why = IfSome (missing_file_in why) (λ file.
     (task : Task) × MeanJust arguments (work task) × (i : ℕ) × (slice_get task.files i ≡ Some file))
+
+-- nothing is done for this reason: something is wrong with the arguments, or memory ran out, or a file is missing
+abbrev pub IsFaultOfAsked : List (List ℕ) → ProgramFault → Type 0
+IsFaultOfAsked arguments why = IfSome (request_fault_in why) (IsFaultOf arguments) × IsOfAsked arguments why

@@ -5,9 +5,8 @@ ghost use Rattle.std.specs.Io.KnownBytes.{Appends};
 ghost use Rattle.register_app.specs.Namings.{AreNamed, IsUnnamedLine};
 ghost use Rattle.programs.specs.Places.{place_name};
 
-use crate::program_faults::OUT_OF_MEMORY;
-use programs::{FileStore, INCOMPLETE, Place};
-use register_arguments::{MEMORY_FAULT, own_line};
+use programs::{FileStore, INCOMPLETE, NOT_BEGUN, Place, own_line, report_out_of_memory};
+use register_arguments::NAME;
 use register_records::{Output, send};
 use std::alloc::Global;
 
@@ -18,13 +17,11 @@ fn report_unnamed<E: Output>(alloc: Global, errors: &mut E, name: &str)
         → (E.has_failed errors.old ≡ false) × Appends (E.contents errors.old) (E.contents errors.new) line) }
     ensures mark { E.own_mark errors.new ≡ E.own_mark errors.old }
 {
-    match own_line(alloc, "cannot name ", name) {
+    match own_line(alloc, NAME, "cannot name ", name) {
         Ok(line) => {
             let _ = send(errors, line.as_bytes());
         }
-        Err(_) => {
-            let _ = send(errors, MEMORY_FAULT.as_bytes());
-        }
+        Err(_) => report_out_of_memory(NAME, errors),
     }
 }
 
@@ -65,8 +62,8 @@ pub fn name_tables<R, W: Output, P: FileStore<R, W>, E: Output>(
     ensures statuses { (result ≡ ended) ⊎ (result ≡ 1) }
     ensures mark { E.own_mark errors.new ≡ E.own_mark errors.old }
 {
-    if ended == OUT_OF_MEMORY {
-        return OUT_OF_MEMORY;
+    if ended == NOT_BEGUN {
+        return NOT_BEGUN;
     }
     if give_names(alloc, store, errors, places) {
         ended

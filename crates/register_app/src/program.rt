@@ -1,29 +1,29 @@
 //! What the program does with its arguments: it prints a page, or converts, and returns how that ended.
 
 ghost use Rattle.std.specs.Prelude.{◌≡◌, ◌≢◌, ◌≤◌, ◌⊎◌, ◌↔◌, ℕ, List, [], ◌∷◌, All, true, false, map, length, vec_len};
-ghost use Rattle.std.specs.Prelude.{IfSome};
 ghost use Rattle.std.specs.Io.KnownBytes.{Appends};
 ghost use Rattle.std.specs.String.{string_bytes};
 ghost use Rattle.register_app.specs.Answers.{AreConverted, AreFilesAnswered, IsConverted, IsInputAnswered};
-ghost use Rattle.register_app.specs.Answers.{IsPageAnswered, IsPrinted, IsReported, version_line};
+ghost use Rattle.register_app.specs.Answers.{IsPageAnswered, IsReported};
 ghost use Rattle.register_records.specs.Sources.{is_whole_end};
 ghost use Rattle.programs.specs.Openings.{AreMade, IsFresh, IsNewlyMade};
-ghost use Rattle.register_app.specs.ProgramFaults.{IsOfAsked, fault_status, request_fault_in};
+ghost use Rattle.register_app.specs.ProgramFaults.{IsFaultOfAsked, fault_status};
 ghost use Rattle.register_app.specs.Reports.{lines_from};
-ghost use Rattle.register_arguments.specs.Faults.{memory_line};
+ghost use Rattle.register_arguments.specs.Faults.{name};
+ghost use Rattle.programs.specs.Pages.{IsPrinted};
 ghost use Rattle.programs.specs.FileLists.{most_files};
 ghost use Rattle.programs.specs.Meanings.{work};
-ghost use Rattle.register_arguments.specs.Requests.{AreWrong, IsFaultOf, MeanJust, Task, task_of};
+ghost use Rattle.register_arguments.specs.Requests.{AreWrong, MeanJust, Task, task_of};
 
 use crate::naming::name_tables;
-use crate::program_faults::{OUT_OF_MEMORY, ProgramFault};
+use crate::program_faults::ProgramFault;
 use crate::reporting::report_ends;
-use arrayvec::ArrayString;
-use programs::{COMPLETE, FileStore, INCOMPLETE, Opened, open_files};
-use register_arguments::{
-    HELP, Job, MAX_FILES, MEMORY_FAULT, PRINT_FAULT, Request, RequestFault, VERSION, read_request,
+use programs::{
+    COMPLETE, FileStore, INCOMPLETE, NOT_BEGUN, Opened, Request, open_files, print_page,
+    report_out_of_memory, report_refusal, version_line,
 };
-use register_records::{Output, send};
+use register_arguments::{HELP, Job, MAX_FILES, NAME, RequestFault, VERSION, read_request};
+use register_records::Output;
 use register_run::{MAX_SOURCES, Ran, Report, Verdict, run};
 use std::alloc::Global;
 use std::io::Read;
@@ -55,46 +55,6 @@ struct JobEnd<W> {
     ran: Vec<Ran>,
 }
 
-/// The line on the version.
-fn version_line_text() -> ArrayString<32>
-    ensures { result.bytes ≡ version_line }
-{
-    let mut line = ArrayString::new();
-    line.push_str("register ");
-    line.push_str(VERSION);
-    line.push_str("\n");
-    line
-}
-
-/// Reports that memory ran out. A fault of `errors` is let go: there is nowhere else to report it.
-fn report_out_of_memory<E: Output>(errors: &mut E)
-    ensures line { E.has_failed errors.new ≡ false
-        → Appends (E.contents errors.old) (E.contents errors.new) memory_line }
-    ensures mark { E.own_mark errors.new ≡ E.own_mark errors.old }
-{
-    let _ = send(errors, MEMORY_FAULT.as_bytes());
-}
-
-/// Reports why nothing is done, and returns the exit status. A fault of `errors` is let go, as above.
-fn report_fault<E: Output>(alloc: Global, errors: &mut E, why: &ProgramFault<'_>) -> u8
-    ensures status { (result ≡ 3) ⊎ (result ≡ fault_status why.now) }
-    ensures reported { (arguments : List (List ℕ)) → IfSome (request_fault_in why.now) (IsFaultOf arguments)
-        → IsOfAsked arguments why.now → E.has_failed errors.new ≡ false
-        → IsReported arguments result (E.contents errors.old) (E.contents errors.new) }
-    ensures mark { E.own_mark errors.new ≡ E.own_mark errors.old }
-{
-    match why.text(alloc) {
-        Ok(text) => {
-            let _ = send(errors, text.as_bytes());
-            why.status()
-        }
-        Err(_) => {
-            report_out_of_memory(errors);
-            OUT_OF_MEMORY
-        }
-    }
-}
-
 /// Does nothing but report why.
 fn refuse<W: Output, E: Output>(
     alloc: Global,
@@ -103,15 +63,14 @@ fn refuse<W: Output, E: Output>(
     why: &ProgramFault<'_>,
 ) -> Outcome<W>
     ensures status { (result.status ≡ 3) ⊎ (result.status ≡ fault_status why.now) }
-    ensures reported { (arguments : List (List ℕ)) → IfSome (request_fault_in why.now) (IsFaultOf arguments)
-        → IsOfAsked arguments why.now → E.has_failed errors.new ≡ false
+    ensures reported { (arguments : List (List ℕ)) → IsFaultOfAsked arguments why.now → E.has_failed errors.new ≡ false
         → IsReported arguments result.status (E.contents errors.old) (E.contents errors.new) }
     ensures untouched { result.output ≡ output }
     ensures none { result.outputs.items ≡ [] }
     ensures mark { E.own_mark errors.new ≡ E.own_mark errors.old }
 {
     Outcome {
-        status: report_fault(alloc, errors, why),
+        status: report_refusal(alloc, NAME, errors, why),
         output,
         outputs: Vec::new(alloc),
         ran: Vec::new(alloc),
@@ -119,13 +78,13 @@ fn refuse<W: Output, E: Output>(
 }
 
 /// Prints a page.
-fn print_page<W: Output, E: Output>(
+fn answer_page<W: Output, E: Output>(
     alloc: Global,
     page: &str,
     output: W,
     errors: &mut E,
 ) -> Outcome<W>
-    ensures printed { IsPrinted W.Output E.Output page.now result.status
+    ensures printed { IsPrinted W.Output E.Output name page.now result.status
         output result.output errors.old errors.new }
     ensures statuses { (result.status ≡ 0) ⊎ (result.status ≡ 1) }
     ensures none { result.outputs.items ≡ [] }
@@ -133,14 +92,8 @@ fn print_page<W: Output, E: Output>(
     ensures errors_mark { E.own_mark errors.new ≡ E.own_mark errors.old }
 {
     let mut output = output;
-    let status = if send(&mut output, page.as_bytes()).is_ok() {
-        COMPLETE
-    } else {
-        let _ = send(errors, PRINT_FAULT.as_bytes());
-        INCOMPLETE
-    };
     Outcome {
-        status,
+        status: print_page(NAME, page, &mut output, errors),
         output,
         outputs: Vec::new(alloc),
         ran: Vec::new(alloc),
@@ -216,9 +169,9 @@ fn run_job<
             ran: report.ran,
         },
         Err(fault) => {
-            report_out_of_memory(errors);
+            report_out_of_memory(NAME, errors);
             JobEnd {
-                status: OUT_OF_MEMORY,
+                status: NOT_BEGUN,
                 outputs: fault.outputs,
                 ran: Vec::new(alloc),
             }
@@ -377,8 +330,11 @@ pub fn answer<
     ensures errors_mark { E.own_mark errors.new ≡ E.own_mark errors.old }
 {
     match read_request(alloc, arguments) {
-        Ok(Request::Help) => print_page(alloc, HELP, output, errors),
-        Ok(Request::Version) => print_page(alloc, version_line_text().as_str(), output, errors),
+        Ok(Request::Help) => answer_page(alloc, HELP, output, errors),
+        Ok(Request::Version) => {
+            let line = version_line(NAME, VERSION);
+            answer_page(alloc, line.as_str(), output, errors)
+        }
         Ok(Request::Convert(job)) => {
             if job.files.is_empty() {
                 convert_input(rt, alloc, input, output, errors, &job)

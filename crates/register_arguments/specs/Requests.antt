@@ -13,7 +13,9 @@ use Rattle.register_records.specs.declared.setups.Form.TheVariants.{Plain, Seale
 use Rattle.register_records.specs.declared.setups.Setup.{Setup}
 use Rattle.programs.specs.FileLists.{AreFilesToConvert}
 use Rattle.programs.specs.Meanings as lines
-use Rattle.programs.specs.Meanings.{Check, CommandLine, Meaning, file_check, help, option_check, version, work}
+use Rattle.programs.specs.Meanings.{Check, CommandLine, Meaning, file_check, option_check}
+use Rattle.programs.specs.Requests.{meaning_by}
+use Rattle.programs.specs.declared.requests.Request.{Request}
 use Rattle.programs.specs.Values.{IsValueOf, byte_of, delimiter_option}
 use Rattle.register_arguments.specs.CommandLine.{Values, command_line, values_of}
 use Rattle.register_arguments.specs.Faults.{Fault, bad_ring, bad_stripes, file_twice, too_many_files}
@@ -22,8 +24,6 @@ use Rattle.register_arguments.specs.Fittings.{fitting_for}
 use Rattle.register_arguments.specs.OptionValues.{AsksForTargets, IsListFault, IsWritten, number_check}
 use Rattle.register_arguments.specs.declared.jobs.Job.{Job}
 use Rattle.register_arguments.specs.declared.requests.Options.{Options}
-use Rattle.register_arguments.specs.declared.requests.Request.{Request}
-use Rattle.register_arguments.specs.declared.requests.Request.TheVariants as request
 
 -- what arguments can ask of a run: how its registers are read and how its tables are written, the size of its rings and
 -- the converters of a source where they are written, whether a summary is wanted, and the files
@@ -117,10 +117,8 @@ IsSetupOf task processors setup =
     × (setup.stripes ≡ unwrap_or task.stripes (fitting_for processors (length task.files)).stripes)
 
 -- what a request stands for
-abbrev pub meaning_of : Request → Meaning Task Fault
-meaning_of request.Help = help
-meaning_of request.Version = version
-meaning_of (request.Convert job) = work (task_of job)
+abbrev pub meaning_of : Request Job → Meaning Task Fault
+meaning_of = meaning_by task_of
 
 -- the values that the options hold
 abbrev pub values_by : Options → Values

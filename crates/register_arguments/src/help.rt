@@ -102,6 +102,3 @@ gives by register --to gregorian the table
     row,id,calendar,date,rd,weekday,gregorian,refusal
     1,b,julian,1582-10-05,577736,Friday,1582-10-15,
 ";
-
-/// The line on standard error where a page could not be printed.
-pub const PRINT_FAULT: &str = "register: cannot write to standard output\n";

@@ -9,9 +9,9 @@ mod request_faults;
 mod requests;
 
 pub use fittings::{Fit, fitting};
-pub use help::{HELP, PRINT_FAULT};
+pub use help::HELP;
 pub use jobs::Job;
 pub use option_values::{NO_TARGET, Ring, Stripes};
 pub use programs::MAX_FILES;
-pub use request_faults::{MEMORY_FAULT, RequestFault, own_line};
-pub use requests::{Request, VERSION, command, read_request};
+pub use request_faults::RequestFault;
+pub use requests::{NAME, VERSION, command, read_request};

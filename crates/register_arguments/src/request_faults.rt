@@ -4,12 +4,10 @@ ghost use Rattle.std.specs.Prelude.{◌≡◌, ◌++◌, IfOk, IfSome};
 ghost use Rattle.std.specs.String.{string_bytes};
 ghost use Rattle.register_arguments.specs.Faults.{program_line};
 
+use crate::requests::NAME;
 use date_texts::Target;
-use programs::FilesFault;
+use programs::{FilesFault, NOT_BEGUN, REFUSED, UsageFault, clap_text, own_line};
 use std::alloc::{AllocError, Global};
-
-/// The line on standard error where memory ran out.
-pub const MEMORY_FAULT: &str = "register: out of memory\n";
 
 /// Why the arguments ask for nothing: what is wrong with them, or that memory ran out.
 #[derive(Debug, Drop)]
@@ -47,6 +45,19 @@ impl<'a> From<FilesFault<'a>> for RequestFault<'a> {
     }
 }
 
+impl<'a> From<UsageFault> for RequestFault<'a> {
+    ghost use Rattle.register_arguments.specs.Faults.{fault_of_usage};
+
+    ghost from_gives = { λ fault error. error ≡ fault_of_usage fault };
+
+    fn from(fault: UsageFault) -> RequestFault<'a> {
+        match fault {
+            UsageFault::OutOfMemory => RequestFault::OutOfMemory,
+            UsageFault::Usage(error) => RequestFault::Usage(error),
+        }
+    }
+}
+
 impl RequestFault<'_> {
     ghost use Rattle.register_arguments.specs.Faults.{error_line, status_of_fault};
 
@@ -55,8 +66,8 @@ impl RequestFault<'_> {
         ensures { result ≡ status_of_fault self.now }
     {
         match self {
-            RequestFault::OutOfMemory => 3,
-            _ => 2,
+            RequestFault::OutOfMemory => NOT_BEGUN,
+            _ => REFUSED,
         }
     }
 
@@ -69,31 +80,27 @@ impl RequestFault<'_> {
         ensures { IfOk result (λ text. IfSome (error_line self.now) (λ line. string_bytes text ≡ line)) }
     {
         match self {
-            RequestFault::OutOfMemory => String::from_str(alloc, MEMORY_FAULT),
-            RequestFault::Usage(error) => match format!(in alloc; "{error}") {
-                Ok(text) => Ok(text),
-                Err(_) => Err(AllocError),
-            },
-            RequestFault::UnknownTarget(word) => own_line(alloc, "unknown target: ", word),
-            RequestFault::TargetTwice(target) => {
-                own_line(alloc, "target named twice: ", target.name())
+            RequestFault::Usage(error) => clap_text(alloc, error),
+            _ => {
+                let (message, word) = self.said();
+                own_line(alloc, NAME, message, word)
             }
-            RequestFault::BadRing(word) => own_line(alloc, "bad ring size: ", word),
-            RequestFault::UnknownDelimiter(word) => own_line(alloc, "unknown delimiter: ", word),
-            RequestFault::BadStripes(word) => own_line(alloc, "bad stripes: ", word),
-            RequestFault::TooManyFiles => own_line(alloc, "more than 32 files", ""),
-            RequestFault::FileTwice(file) => own_line(alloc, "file named twice: ", file),
         }
     }
-}
 
-/// A line of the program's own: its name, what is wrong, and the word with which it is wrong.
-pub fn own_line(alloc: Global, message: &str, word: &str) -> Result<String, AllocError>
-    ensures { IfOk result (λ line. string_bytes line ≡ program_line (message.now ++ word.now)) }
-{
-    let mut line = String::from_str(alloc, "register: ")?;
-    line.push_str(message)?;
-    line.push_str(word)?;
-    line.push_str("\n")?;
-    Ok(line)
+    /// What the line of a fault says behind the program's name, and the word with which something is wrong.
+    fn said(&self) -> (&str, &str)
+        ensures { IfSome (error_line self.now) (λ line. program_line (result.0.now ++ result.1.now) ≡ line) }
+    {
+        match self {
+            RequestFault::OutOfMemory | RequestFault::Usage(_) => ("out of memory", ""),
+            RequestFault::UnknownTarget(word) => ("unknown target: ", *word),
+            RequestFault::TargetTwice(target) => ("target named twice: ", target.name()),
+            RequestFault::BadRing(word) => ("bad ring size: ", *word),
+            RequestFault::UnknownDelimiter(word) => ("unknown delimiter: ", *word),
+            RequestFault::BadStripes(word) => ("bad stripes: ", *word),
+            RequestFault::TooManyFiles => ("more than 32 files", ""),
+            RequestFault::FileTwice(file) => ("file named twice: ", *file),
+        }
+    }
 }

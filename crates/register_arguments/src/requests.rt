@@ -2,9 +2,9 @@
 
 ghost use Rattle.std.specs.Prelude.{◌≡◌, IfOk, IfErr, IfSome, IsSomeAnd, OnOk, map, option_map, if◌then◌else◌};
 ghost use Rattle.std.specs.String.{string_bytes};
-ghost use Rattle.clap.specs.Words.{FailsBy, HasKind, app_of, fault_of, found_of, matches_of, rows_of};
+ghost use Rattle.clap.specs.Words.{app_of, found_of, rows_of};
 ghost use Rattle.programs.specs.FileLists.{AreFilesToConvert, IsFileFault};
-ghost use Rattle.programs.specs.Meanings.{AreTaken, FailFirst, wrong};
+ghost use Rattle.programs.specs.Meanings.{FailFirst, wrong};
 ghost use Rattle.register_arguments.specs.CommandLine.{command_line, values_of};
 ghost use Rattle.register_arguments.specs.Faults.{fault_of_error, file_twice, too_many_files};
 ghost use Rattle.register_arguments.specs.Requests.{AreTargetsOf, Ask, IsTargetFault, MeanJust, meaning_of};
@@ -13,13 +13,18 @@ ghost use Rattle.register_arguments.specs.Requests.{register_line, task_of, valu
 use crate::jobs::Job;
 use crate::option_values::{chosen_delimiter, chosen_ring, chosen_stripes, read_targets};
 use crate::request_faults::RequestFault;
-use clap::error::ErrorKind;
 use clap::{ArgMatches, Command};
 use date_texts::Target;
 use date_texts::laws::{default_targets, one_target};
-use programs::{Argument, check_files, command_with, is_given, value_given, values_given};
+use programs::{
+    Argument, Request, check_files, command_with, is_given, read_arguments, value_given,
+    values_given,
+};
 use register_records::Form;
 use std::alloc::{AllocError, Global};
+
+/// The name of the program.
+pub const NAME: &str = "register";
 
 /// The version of the program.
 pub const VERSION: &str = "1.2.0";
@@ -34,17 +39,6 @@ const ARGUMENTS: [Argument<'static>; 7] = [
     Argument::Flag("summary"),
     Argument::Files("file", "FILE"),
 ];
-
-/// What the arguments ask for.
-#[derive(Drop)]
-pub enum Request<'a> {
-    /// The page of help.
-    Help,
-    /// The version of the program.
-    Version,
-    /// A conversion.
-    Convert(Job<'a>),
-}
 
 /// The values of the options and the files, as the arguments have them.
 #[derive(Drop)]
@@ -66,7 +60,7 @@ struct Options<'a> {
 pub fn command<'a>(alloc: Global) -> Result<Command<'a>, AllocError>
     ensures { IfOk result (λ c. app_of c ≡ command_line) }
 {
-    command_with(alloc, "register", VERSION, &ARGUMENTS)
+    command_with(alloc, NAME, VERSION, &ARGUMENTS)
 }
 
 /// The values of the options that clap found, and the files.
@@ -83,22 +77,6 @@ fn options_found<'a>(alloc: Global, matches: &ArgMatches<'a>) -> Result<Options<
         summary: is_given(matches, "summary"),
         files,
     })
-}
-
-/// The values of the options that the arguments give, and the files.
-///
-/// # Errors
-///
-/// What clap refuses, a request for help or for the version, and running out of memory.
-fn read_options<'a>(alloc: Global, arguments: &'a [String]) -> Result<Options<'a>, clap::Error>
-    ensures taken { IfOk result (λ options. AreTaken register_line (map string_bytes arguments.entry.now)) }
-    ensures values { IfOk result (λ options. values_by options
-        ≡ values_of (matches_of command_line (map string_bytes arguments.entry.now))) }
-    ensures kinds { IfErr result (HasKind (fault_of command_line (map string_bytes arguments.entry.now))) }
-{
-    let matches = command(alloc)?.try_get_matches_from(arguments)?;
-    let options = options_found(alloc, &matches)?;
-    Ok(options)
 }
 
 /// The targets that the value of `--to` asks for, or the default ones where there is none.
@@ -154,6 +132,18 @@ fn chosen_job<'a>(alloc: Global, options: Options<'a>) -> Result<Job<'a>, Reques
     })
 }
 
+/// The conversion that the values which clap found ask for.
+fn job_found<'a>(alloc: Global, matches: &ArgMatches<'a>) -> Result<Job<'a>, RequestFault<'a>>
+    ensures asked { IfOk result (λ job. Ask (values_of (rows_of (found_of matches.now))) (task_of job)) }
+    ensures fault { IfErr result (λ error. IfSome (fault_of_error error)
+        (FailFirst (value_checks (values_of (rows_of (found_of matches.now)))))) }
+{
+    match options_found(alloc, matches) {
+        Ok(options) => chosen_job(alloc, options),
+        Err(_) => Err(RequestFault::OutOfMemory),
+    }
+}
+
 /// What the arguments ask for.
 ///
 /// # Errors
@@ -165,21 +155,18 @@ fn chosen_job<'a>(alloc: Global, options: Options<'a>) -> Result<Job<'a>, Reques
 pub fn read_request<'a>(
     alloc: Global,
     arguments: &'a [String],
-) -> Result<Request<'a>, RequestFault<'a>>
+) -> Result<Request<Job<'a>>, RequestFault<'a>>
     ensures asked { IfOk result (λ request. MeanJust (map string_bytes arguments.entry.now) (meaning_of request)) }
     ensures refused { IfErr result (λ error. IfSome (fault_of_error error)
         (λ fault. MeanJust (map string_bytes arguments.entry.now) (wrong fault))) }
 {
     one_target();
-    let options = match read_options(alloc, arguments) {
-        Ok(options) => options,
-        Err(error) => match error.kind() {
-            ErrorKind::DisplayHelp => return Ok(Request::Help),
-            ErrorKind::DisplayVersion => return Ok(Request::Version),
-            ErrorKind::OutOfMemory => return Err(RequestFault::OutOfMemory),
-            _ => return Err(RequestFault::Usage(error)),
-        },
+    let Ok(command) = command(alloc) else {
+        return Err(RequestFault::OutOfMemory);
     };
-    let job = chosen_job(alloc, options)?;
-    Ok(Request::Convert(job))
+    match read_arguments(command, arguments)? {
+        Request::Help => Ok(Request::Help),
+        Request::Version => Ok(Request::Version),
+        Request::Convert(matches) => Ok(Request::Convert(job_found(alloc, &matches)?)),
+    }
 }

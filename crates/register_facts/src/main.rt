@@ -13,8 +13,8 @@ use calendars::{calendar_facts, target_facts};
 use fits::fit_facts;
 use named::Named;
 use options::{option_facts, sheet_option_facts};
-use programs::{COMPLETE, INCOMPLETE};
-use register_arguments::{MAX_FILES, RequestFault, VERSION};
+use programs::{COMPLETE, INCOMPLETE, NOT_BEGUN, REFUSED};
+use register_arguments::{MAX_FILES, VERSION};
 use register_records::{CALENDAR_LIMIT, DATE_LIMIT, ID_LIMIT, MAX_RECORDS, NOTE_LIMIT};
 use serde::{Described, Serialize, Serializer};
 use std::alloc::{AllocError, Global};
@@ -41,8 +41,8 @@ fn known_statuses(alloc: Global) -> Result<Named<u8>, AllocError> {
     let statuses = [
         ("complete", COMPLETE),
         ("incomplete", INCOMPLETE),
-        ("refused", RequestFault::TooManyFiles.status()),
-        ("not_begun", RequestFault::OutOfMemory.status()),
+        ("refused", REFUSED),
+        ("not_begun", NOT_BEGUN),
     ];
     Ok(Named(Vec::from_array(alloc, statuses)?))
 }

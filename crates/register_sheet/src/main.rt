@@ -7,10 +7,10 @@
 mod built_names;
 
 use built_names::{FIRST_NAMES, SECOND_NAMES, THIRD_NAMES};
-use programs::{Destination, Disk, LoggedWriter, Source, lines_to};
+use programs::{Destination, Disk, LoggedWriter, NOT_BEGUN, REFUSED, Source, lines_to, short_line};
 use register_records::PlainOutput;
 use sheet_app::{Outcome, answer};
-use sheet_arguments::MEMORY_FAULT;
+use sheet_arguments::NAME;
 use std::alloc::AllocError;
 use std::fs::OpenOptions;
 use std::process::ExitCode;
@@ -23,14 +23,20 @@ fn arguments_of<R: Env + AllocGlobal>(rt: &R) -> io::Result<Vec<String>> {
     Ok(arguments)
 }
 
+/// Reports that memory ran out, and returns the status.
+fn out_of_memory(rt: &impl Eprint) -> ExitCode {
+    let line = short_line(NAME, "out of memory");
+    let _ = eprint!(rt; "{}", line.as_str());
+    ExitCode::from(NOT_BEGUN)
+}
+
 /// Reports why the arguments could not be read: memory ran out, status 3, or one is not UTF-8, status 2.
 fn unread_arguments(rt: &impl Eprint, error: &io::Error) -> ExitCode {
     if error.kind() == io::ErrorKind::OutOfMemory {
-        let _ = eprint!(rt; "{MEMORY_FAULT}");
-        return ExitCode::from(3);
+        return out_of_memory(rt);
     }
     let _ = eprintln!(rt; "register-sheet: an argument is not UTF-8");
-    ExitCode::from(2)
+    ExitCode::from(REFUSED)
 }
 
 /// The built-in list of names.
@@ -56,8 +62,7 @@ fn main(rt: HostRuntime) -> ExitCode {
         Err(error) => return unread_arguments(&rt, &error),
     };
     let Ok(names) = whole_list(&rt) else {
-        let _ = eprint!(rt; "{MEMORY_FAULT}");
-        return ExitCode::from(3);
+        return out_of_memory(&rt);
     };
     let input = Source::Input(rt.stdin());
     let output = PlainOutput::new(LoggedWriter::new(Destination::Output(rt.stdout())), 1);

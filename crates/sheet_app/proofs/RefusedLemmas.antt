@@ -1,45 +1,26 @@
--- When arguments are refused, and what is reported then.
-use Rattle.std.proofs.Common.{◌≡◌, ◌≢◌, ◌⊎◌, arith, inl, inr, List, Option, Some, None, ℕ, refl, IfSome}
-use Rattle.std.specs.Option.{option_map_or}
+-- What is reported where arguments are refused.
+use Rattle.std.proofs.Common.{◌≡◌, List, Option, ℕ, refl, false}
 use Rattle.std.specs.Io.KnownBytes.{Appends}
 use Rattle.clap.specs.Words.{Text}
-use Rattle.sheet_arguments.specs.Faults.{Fault, memory_line}
-use Rattle.programs.specs.Meanings.{Meaning, wrong}
-use Rattle.sheet_arguments.specs.Requests.{AreWrong, IsFaultOf, MeanJust, Task}
+use Rattle.register_records.specs.declared.outputs.Output as outputs
+use Rattle.programs.specs.Refusals.{IsTold}
+use Rattle.programs.proofs.RefusedLemmas.{cause_told}
+use Rattle.sheet_arguments.specs.Faults.{memory_line, name}
 use Rattle.sheet_app.specs.Answers.{IsReported}
+use Rattle.sheet_app.specs.ProgramFaults.{IsFaultOfAsked, fault_line, fault_status}
+use Rattle.sheet_app.specs.declared.program_faults.ProgramFault.{ProgramFault}
 use Rattle.sheet_app.specs.declared.program_faults.ProgramFault.TheVariants as program_fault
 
--- nothing is wrong with arguments that ask for something
-pub never_wrong : (arguments : List Text) (meaning : Meaning Task Fault) → MeanJust arguments meaning
-    → ((fault : Fault) → wrong fault ≢ meaning) → AreWrong arguments → ⊥
-never_wrong arguments meaning just differs is = differs is.0 ((just (wrong is.0)).1 is.1)
-
--- arguments that are wrong are refused, unless there was no memory
-pub is_refused : (found : Option Fault) (status : ℕ)
-    → (status ≡ 3) ⊎ (status ≡ option_map_or (λ fault. 2) found 3) → status ≢ 3 → status ≡ 2
-is_refused found status (inl three) had = absurd (had three)
-is_refused None status (inr three) had = absurd (had three)
-is_refused (Some fault) status (inr two) had = two
-
-pub are_wrong : (arguments : List Text) (found : Option Fault) (status : ℕ)
-    → IfSome found (λ fault. MeanJust arguments (wrong fault))
-    → (status ≡ 3) ⊎ (status ≡ option_map_or (λ fault. 2) found 3) → status ≡ 2 → AreWrong arguments
-are_wrong arguments found status just (inl three) two = absurd (omega (arith, three, two))
-are_wrong arguments None status just (inr three) two = absurd (omega (arith, three, two))
-are_wrong arguments (Some fault) status just (inr is) two = (fault, (just (wrong fault)).0 refl)
-
--- and then they have the fault that is reported
-pub is_wrong : (arguments : List Text) (found : Option Fault) → IfSome found (λ fault. MeanJust arguments (wrong fault))
-    → IfSome found (IsFaultOf arguments)
-is_wrong arguments None just = tt
-is_wrong arguments (Some fault) just = (just (wrong fault)).0 refl
-
 -- where memory ran out, that is why
-pub out_of_memory : (arguments : List Text) (before after : Option (List ℕ))
-    → Appends before after memory_line → IsReported arguments 3 before after
-out_of_memory arguments before after line = record {
-  why = program_fault.OutOfMemory;
-  status_of = refl;
-  cause = tt;
-  line = line;
-}
+out_of_memory : (arguments : List Text) (before after : Option (List ℕ)) → Appends before after memory_line
+    → IsReported arguments 3 before after
+out_of_memory arguments before after line =
+    record { why = program_fault.OutOfMemory; is_its = refl; cause = tt; line = line }
+
+-- why nothing is done is reported
+pub is_reported : {E : Type 0} (arguments : List Text) (e : outputs.Ghosts E) (why : ProgramFault) (status : ℕ)
+    (before after : E) → IsTold fault_status fault_line e name why status before after → IsFaultOfAsked arguments why
+    → e.has_failed after ≡ false → IsReported arguments status (e.contents before) (e.contents after)
+is_reported arguments e why status before after told =
+    cause_told fault_status fault_line e name why status before after told (IsFaultOfAsked arguments)
+    (out_of_memory arguments _ _)

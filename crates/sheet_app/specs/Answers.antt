@@ -4,10 +4,14 @@ use Rattle.std.specs.Io.KnownBytes.{Appends}
 use Rattle.std.specs.declared.io.traits.Read as reads
 use Rattle.clap.specs.Words.{Text}
 use Rattle.programs.specs.Meanings.{help, version, work}
+use Rattle.programs.specs.OwnLines as lines
+use Rattle.programs.specs.Pages.{IsPrinted}
+use Rattle.programs.specs.Refusals as refusals
+use Rattle.sheet_arguments.specs.Faults.{name}
 use Rattle.register_records.specs.declared.outputs.Output as outputs
 use Rattle.register_sheets.specs.declared.name_lists.NameLine.{NameLine}
 use Rattle.sheet_arguments.specs.Requests.{MeanJust, Task}
-use Rattle.sheet_arguments.specs.declared.help.TheConstants.{HELP, PRINT_FAULT}
+use Rattle.sheet_arguments.specs.declared.help.TheConstants.{HELP}
 use Rattle.sheet_arguments.specs.declared.requests.TheConstants.{VERSION}
 use Rattle.sheet_app.specs.CalendarWords.{SaysNothing, calendar_words}
 use Rattle.sheet_app.specs.FileSheets.{AreApartOutputs}
@@ -21,16 +25,7 @@ use Rattle.sheet_app.specs.declared.program_faults.ProgramFault.TheVariants as p
 
 -- the line on the version
 abbrev pub version_line : List ℕ
-version_line = codes "register-sheet " ++ (VERSION.now ++ 10 ∷ [])
-
--- a page was printed: with status 0 the output has gained it and handed it on, and standard error has gained nothing;
--- else the output has failed, and standard error has gained one line, unless that failed too
-pub record IsPrinted {W E : Type 0} (o : outputs.Ghosts W) (e : outputs.Ghosts E)
-    (page : List ℕ) (status : ℕ) (given written : W) (before after : E) : Type 0 where
-  pub printed : status ≡ 0 → Appends (o.contents given) (o.contents written) page × (o.is_flushed written ≡ true)
-      × (after ≡ before)
-  pub failed : status ≢ 0 → (o.has_failed written ≡ true)
-      × (e.has_failed after ≡ false → Appends (e.contents before) (e.contents after) PRINT_FAULT.now)
+version_line = lines.version_line name VERSION.now
 
 -- the arguments ask for this page
 abbrev pub AskForPage : List Text → List ℕ → Type 0
@@ -39,11 +34,8 @@ AskForPage arguments page =
 
 -- standard error has gained the line on why nothing is done, with this status: what it names is of the arguments; of
 -- arguments that are not taken, clap says more than the definitions
-pub record IsReported (arguments : List Text) (status : ℕ) (before after : Option (List ℕ)) : Type 0 where
-  pub why : ProgramFault
-  pub status_of : fault_status why ≡ status
-  pub cause : IsFaultOfAsked arguments why
-  pub line : IfSome (fault_line why) (Appends before after)
+abbrev pub IsReported : List Text → ℕ → Option (List ℕ) → Option (List ℕ) → Type 0
+IsReported arguments = refusals.IsReported fault_status fault_line (IsFaultOfAsked arguments)
 
 module _ {R : Type 0} (r : reads.Ghosts R) (IsOpened : Text → R → Type 0) where
   -- these are the lines of the list of names in a file
@@ -98,7 +90,7 @@ pub record IsInputConverted {R W E : Type 0} (r : reads.Ghosts R) (o : outputs.G
 abbrev pub IsPageAnswered : {W E : Type 0} → outputs.Ghosts W → outputs.Ghosts E → List Text → ℕ → W → W
     → List (EndedSheet W) → E → E → Type 0
 IsPageAnswered o e arguments status given written sheets before after =
-    (page : List ℕ) × AskForPage arguments page × IsPrinted o e page status given written before after × (sheets ≡ [])
+    (page : List ℕ) × AskForPage arguments page × IsPrinted o e name page status given written before after × (sheets ≡ [])
 
 -- the arguments ask for the sheet of standard input
 pub record IsInputAnswered {R W E : Type 0} (r : reads.Ghosts R) (o : outputs.Ghosts W) (e : outputs.Ghosts E)

@@ -8,11 +8,12 @@ ghost use Rattle.std.specs.String.{string_bytes};
 ghost use Rattle.programs.specs.Meanings.{work};
 ghost use Rattle.programs.specs.Openings.{IsFresh};
 ghost use Rattle.register_sheets.specs.declared.name_lists.NameLine.{NameLine as NameLineValue};
-ghost use Rattle.sheet_arguments.specs.Faults.{memory_line};
+ghost use Rattle.sheet_arguments.specs.Faults.{name};
+ghost use Rattle.programs.specs.Pages.{IsPrinted};
 ghost use Rattle.sheet_arguments.specs.Requests.{AreWrong, MeanJust, Task as TaskValue, task_of};
 ghost use Rattle.sheet_app.specs.Answers.{AreFilesAnswered, AreListsIn, AreNamesOf, IsInputAnswered, IsInputConverted};
-ghost use Rattle.sheet_app.specs.Answers.{IsListIn, IsPageAnswered, IsPrinted, IsReported, IsUnknown};
-ghost use Rattle.sheet_app.specs.Answers.{IsFaultOfStart, NameUnknown, version_line};
+ghost use Rattle.sheet_app.specs.Answers.{IsListIn, IsPageAnswered, IsReported, IsUnknown};
+ghost use Rattle.sheet_app.specs.Answers.{IsFaultOfStart, NameUnknown};
 ghost use Rattle.sheet_app.specs.EndedSheets.{AreReported, Gives, IsEndedSheet, ended_name, is_complete};
 ghost use Rattle.sheet_app.specs.FileSheets.{AreApartOutputs, IsNewSheet, register_endings, sheet_name};
 ghost use Rattle.sheet_app.specs.SheetViews.{IsTask};
@@ -23,16 +24,14 @@ use crate::converting::{EndedSheet, are_complete, convert_all, convert_input};
 use crate::file_sheets::{FileFault, FileSheet, open_sheets};
 use crate::name_lists::push_list;
 use crate::program_faults::ProgramFault;
-use arrayvec::ArrayString;
-use programs::{COMPLETE, FileStore, INCOMPLETE};
-use register_records::{Output, send};
+use programs::{
+    COMPLETE, FileStore, INCOMPLETE, Request, print_page, report_refusal, version_line,
+};
+use register_records::Output;
 use register_sheets::{NameList, NameListFault};
-use sheet_arguments::{HELP, Job, MEMORY_FAULT, PRINT_FAULT, Request, VERSION, read_request};
+use sheet_arguments::{HELP, Job, NAME, VERSION, read_request};
 use std::alloc::Global;
 use std::io::{ErrorKind, Read};
-
-/// Memory ran out before the first sheet was read.
-const OUT_OF_MEMORY: u8 = 3;
 
 /// The exit status, and the outputs as they were left.
 #[derive(Drop)]
@@ -43,45 +42,6 @@ pub struct Outcome<'a, W> {
     pub output: W,
     /// The sheets of the files, as they have ended.
     pub sheets: Vec<EndedSheet<'a, W>>,
-}
-
-/// The line on the version.
-fn version_line_text() -> ArrayString<32>
-    ensures { result.bytes ≡ version_line }
-{
-    let mut line = ArrayString::new();
-    line.push_str("register-sheet ");
-    line.push_str(VERSION);
-    line.push_str("\n");
-    line
-}
-
-/// Reports that memory ran out. A fault of `errors` is let go: there is nowhere else to report it.
-fn report_out_of_memory<E: Output>(errors: &mut E)
-    ensures line { E.has_failed errors.new ≡ false
-        → Appends (E.contents errors.old) (E.contents errors.new) memory_line }
-    ensures mark { E.own_mark errors.new ≡ E.own_mark errors.old }
-{
-    let _ = send(errors, MEMORY_FAULT.as_bytes());
-}
-
-/// Reports why nothing is done, and returns the exit status. A fault of `errors` is let go, as above.
-fn report_fault<E: Output>(alloc: Global, errors: &mut E, why: &ProgramFault<'_>) -> u8
-    ensures status { (result ≡ 3) ⊎ (result ≡ fault_status why.now) }
-    ensures reported { (arguments : List (List ℕ)) → IsFaultOfAsked arguments why.now → E.has_failed errors.new ≡ false
-        → IsReported arguments result (E.contents errors.old) (E.contents errors.new) }
-    ensures mark { E.own_mark errors.new ≡ E.own_mark errors.old }
-{
-    match why.text(alloc) {
-        Ok(text) => {
-            let _ = send(errors, text.as_bytes());
-            why.status()
-        }
-        Err(_) => {
-            report_out_of_memory(errors);
-            OUT_OF_MEMORY
-        }
-    }
 }
 
 /// Does nothing but report why.
@@ -99,20 +59,20 @@ fn refuse<'a, W: Output, E: Output>(
     ensures mark { E.own_mark errors.new ≡ E.own_mark errors.old }
 {
     Outcome {
-        status: report_fault(alloc, errors, why),
+        status: report_refusal(alloc, NAME, errors, why),
         output,
         sheets: Vec::new(alloc),
     }
 }
 
 /// Prints a page.
-fn print_page<'a, W: Output, E: Output>(
+fn answer_page<'a, W: Output, E: Output>(
     alloc: Global,
     page: &str,
     output: W,
     errors: &mut E,
 ) -> Outcome<'a, W>
-    ensures printed { IsPrinted W.Output E.Output page.now result.status
+    ensures printed { IsPrinted W.Output E.Output name page.now result.status
         output result.output errors.old errors.new }
     ensures statuses { (result.status ≡ 0) ⊎ (result.status ≡ 1) }
     ensures none { result.sheets.items ≡ [] }
@@ -120,14 +80,8 @@ fn print_page<'a, W: Output, E: Output>(
     ensures errors_mark { E.own_mark errors.new ≡ E.own_mark errors.old }
 {
     let mut output = output;
-    let status = if send(&mut output, page.as_bytes()).is_ok() {
-        COMPLETE
-    } else {
-        let _ = send(errors, PRINT_FAULT.as_bytes());
-        INCOMPLETE
-    };
     Outcome {
-        status,
+        status: print_page(NAME, page, &mut output, errors),
         output,
         sheets: Vec::new(alloc),
     }
@@ -393,8 +347,11 @@ pub fn answer<'a, R: Read + Drop, W: Output + Drop, P: FileStore<R, W>, E: Outpu
     ensures errors_mark { E.own_mark errors.new ≡ E.own_mark errors.old }
 {
     match read_request(alloc, arguments) {
-        Ok(Request::Help) => print_page(alloc, HELP, output, errors),
-        Ok(Request::Version) => print_page(alloc, version_line_text().as_str(), output, errors),
+        Ok(Request::Help) => answer_page(alloc, HELP, output, errors),
+        Ok(Request::Version) => {
+            let line = version_line(NAME, VERSION);
+            answer_page(alloc, line.as_str(), output, errors)
+        }
         Ok(Request::Convert(job)) => run_job(alloc, built, &job, input, output, store, errors),
         Err(fault) => refuse(alloc, output, errors, &ProgramFault::Arguments(fault)),
     }

@@ -1,13 +1,14 @@
 //! Why nothing is done.
 
-ghost use Rattle.std.specs.Prelude.{◌≡◌, IfOk, IfSome};
+ghost use Rattle.std.specs.Prelude.{◌≡◌, IfOk};
 ghost use Rattle.std.specs.String.{string_bytes};
 ghost use Rattle.sheet_app.specs.ProgramFaults.{list_line as list_line_spec};
 
 use crate::file_sheets::FileFault;
 use itoa::Buffer;
+use programs::{NOT_BEGUN, REFUSED, Refusal, own_line};
 use register_sheets::NameListFault;
-use sheet_arguments::{MEMORY_FAULT, RequestFault, own_line};
+use sheet_arguments::{NAME, RequestFault};
 use std::alloc::{AllocError, Global};
 
 /// Why nothing is done: what is wrong with the arguments, with the files that they name, or with the list of names.
@@ -30,8 +31,13 @@ fn list_line(alloc: Global, file: &str, fault: NameListFault) -> Result<String, 
     ensures { IfOk result (λ text. string_bytes text ≡ list_line_spec file.now fault) }
 {
     let (number, why) = match fault {
-        NameListFault::OutOfMemory => return String::from_str(alloc, MEMORY_FAULT),
-        NameListFault::Header => return own_line(alloc, "not name,means,in at the head of ", file),
+        NameListFault::OutOfMemory => return own_line(alloc, NAME, "out of memory", ""),
+        NameListFault::Header => return own_line(
+            alloc,
+            NAME,
+            "not name,means,in at the head of ",
+            file,
+        ),
         NameListFault::Means(number) => (number, ": means of record "),
         NameListFault::In(number) => (number, ": in of record "),
         NameListFault::Name(number) => (number, ": name of record "),
@@ -39,47 +45,40 @@ fn list_line(alloc: Global, file: &str, fault: NameListFault) -> Result<String, 
     let mut word = String::from_str(alloc, file)?;
     word.push_str(why)?;
     word.push_str(Buffer::new().format(number))?;
-    own_line(alloc, "bad list of names ", word.as_str())
+    own_line(alloc, NAME, "bad list of names ", word.as_str())
 }
 
-impl ProgramFault<'_> {
+impl Refusal for ProgramFault<'_> {
     ghost use Rattle.sheet_app.specs.ProgramFaults.{fault_line, fault_status};
 
-    /// The exit status: 2 for what is wrong with the arguments, also by the lists of names, and 3 for files, for a list of
-    /// names, and where memory ran out.
-    pub fn status(&self) -> u8
-        ensures { result ≡ fault_status self.now }
-    {
+    ghost status_of = { fault_status };
+
+    ghost line_of = { fault_line };
+
+    fn status(&self) -> u8 {
         match self {
             ProgramFault::Arguments(fault) => fault.status(),
-            ProgramFault::UnknownCalendar(_) => 2,
-            _ => 3,
+            ProgramFault::UnknownCalendar(_) => REFUSED,
+            _ => NOT_BEGUN,
         }
     }
 
-    /// What standard error gets: a line that begins with the program's name, or the text of clap.
-    ///
-    /// # Errors
-    ///
-    /// Memory ran out.
-    pub fn text(&self, alloc: Global) -> Result<String, AllocError>
-        ensures { IfOk result (λ text. IfSome (fault_line self.now) (λ line. string_bytes text ≡ line)) }
-    {
+    fn text(&self, alloc: Global) -> Result<String, AllocError> {
         match self {
             ProgramFault::Arguments(fault) => fault.text(alloc),
-            ProgramFault::Files(FileFault::CannotOpen(file)) => own_line(
-                alloc,
-                "cannot open ",
-                file,
-            ),
-            ProgramFault::Files(FileFault::CannotMake(name)) => {
-                own_line(alloc, "cannot make ", name.as_str())
+            ProgramFault::Files(FileFault::CannotOpen(file)) => {
+                own_line(alloc, NAME, "cannot open ", file)
             }
-            ProgramFault::UnreadList(file) => own_line(alloc, "cannot read ", file),
+            ProgramFault::Files(FileFault::CannotMake(name)) => {
+                own_line(alloc, NAME, "cannot make ", name.as_str())
+            }
+            ProgramFault::UnreadList(file) => own_line(alloc, NAME, "cannot read ", file),
             ProgramFault::NoList(file, fault) => list_line(alloc, file, *fault),
-            ProgramFault::UnknownCalendar(word) => own_line(alloc, "unknown calendar: ", word),
+            ProgramFault::UnknownCalendar(word) => {
+                own_line(alloc, NAME, "unknown calendar: ", word)
+            }
             ProgramFault::Files(FileFault::OutOfMemory) | ProgramFault::OutOfMemory => {
-                String::from_str(alloc, MEMORY_FAULT)
+                own_line(alloc, NAME, "out of memory", "")
             }
         }
     }

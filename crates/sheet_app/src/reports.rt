@@ -13,9 +13,10 @@ ghost use Rattle.sheet_app.specs.declared.sheets.SheetDone.TheVariants.{Listed, 
 use crate::sheet_faults::{SheetFault, push_listed};
 use crate::sheets::{ListedSheet, SheetDone, WholeSheet};
 use itoa::Buffer;
+use programs::report_out_of_memory;
 use register_records::{Output, send};
 use register_sheets::{Reason, ReasonCounts, Spans, UnreadDates};
-use sheet_arguments::{Job, MEMORY_FAULT};
+use sheet_arguments::{Job, NAME};
 use std::alloc::{AllocError, Global};
 
 /// Begins a line on the sheet of this name.
@@ -139,7 +140,7 @@ fn send_line<E: Output>(errors: &mut E, line: Result<Vec<u8>, AllocError>) -> bo
             true
         }
         Err(_) => {
-            let _ = send(errors, MEMORY_FAULT.as_bytes());
+            report_out_of_memory(NAME, errors);
             false
         }
     }

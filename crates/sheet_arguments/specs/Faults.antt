@@ -1,10 +1,13 @@
 -- What can be wrong with the arguments.
-use Rattle.std.specs.Prelude.{◌++◌, ◌∷◌, ℕ, List, [], codes, Option, Some, None}
+use Rattle.std.specs.Prelude.{◌++◌, ℕ, List, codes, Option, Some, None}
 use Rattle.std.specs.Option.{option_map_or}
 use Rattle.clap.specs.Values.{kind_of}
 use Rattle.clap.specs.declared.error.kind.ErrorKind.{ErrorKind}
+use Rattle.programs.specs.OwnLines as lines
 use Rattle.programs.specs.declared.files.FilesFault.{FilesFault}
 use Rattle.programs.specs.declared.files.FilesFault.TheVariants as files_fault
+use Rattle.programs.specs.declared.requests.UsageFault.{UsageFault}
+use Rattle.programs.specs.declared.requests.UsageFault.TheVariants as usage_fault
 use Rattle.register_sheets.specs.Headings.{asked_name}
 use Rattle.register_sheets.specs.declared.choices.AskedColumn.{AskedColumn}
 use Rattle.sheet_arguments.specs.declared.request_faults.RequestFault.{RequestFault}
@@ -62,17 +65,26 @@ abbrev pub fault_of_files : FilesFault → RequestFault
 fault_of_files files_fault.TooMany = request_fault.TooManyFiles
 fault_of_files (files_fault.Twice file) = request_fault.FileTwice file
 
+-- and that of arguments that are not read
+abbrev pub fault_of_usage : UsageFault → RequestFault
+fault_of_usage usage_fault.OutOfMemory = request_fault.OutOfMemory
+fault_of_usage (usage_fault.Usage error) = request_fault.Usage error
+
 -- 2 for what is wrong with the arguments, and 3 where memory ran out
 abbrev pub status_of_fault : RequestFault → ℕ
 status_of_fault error = option_map_or (λ fault. 2) (fault_of_error error) 3
 
+-- the name of the program
+abbrev pub name : List ℕ
+name = codes "register-sheet"
+
 -- a line of the program's own
 abbrev pub program_line : List ℕ → List ℕ
-program_line text = codes "register-sheet: " ++ (text ++ 10 ∷ [])
+program_line = lines.program_line name
 
 -- that memory ran out
 abbrev pub memory_line : List ℕ
-memory_line = program_line (codes "out of memory")
+memory_line = lines.memory_line name
 
 -- the line on standard error; on arguments that are not taken, clap says more
 abbrev pub error_line : RequestFault → Option (List ℕ)

@@ -4,7 +4,9 @@ use Rattle.std.specs.Prelude.{if◌then◌else◌, Option, is_some, option_map, 
 use Rattle.clap.specs.Words.{Text}
 use Rattle.programs.specs.FileLists.{AreFilesToConvert}
 use Rattle.programs.specs.Meanings as lines
-use Rattle.programs.specs.Meanings.{Check, CommandLine, Meaning, file_check, help, option_check, version, work}
+use Rattle.programs.specs.Meanings.{Check, CommandLine, Meaning, file_check, option_check}
+use Rattle.programs.specs.Requests.{meaning_by}
+use Rattle.programs.specs.declared.requests.Request.{Request}
 use Rattle.programs.specs.Values.{IsValueOf, delimiter_option}
 use Rattle.register_sheets.specs.Choices.{date_limit}
 use Rattle.register_sheets.specs.declared.choices.AskedColumn.{AskedColumn}
@@ -26,8 +28,6 @@ use Rattle.sheet_arguments.specs.declared.requests.CalendarsAsked.TheVariants as
 use Rattle.sheet_arguments.specs.declared.requests.Job.{Job}
 use Rattle.sheet_arguments.specs.declared.requests.Options.{Options}
 use Rattle.sheet_arguments.specs.declared.requests.Reading.{Reading}
-use Rattle.sheet_arguments.specs.declared.requests.Request.{Request}
-use Rattle.sheet_arguments.specs.declared.requests.Request.TheVariants as request
 use Rattle.sheet_arguments.specs.declared.requests.Words.{Words}
 
 -- where the calendars of the dates are: in these columns, with a word for empty fields, or a word says them for all dates
@@ -194,10 +194,8 @@ task_of job = record {
 }
 
 -- what a request stands for
-abbrev pub meaning_of : Request → Meaning Task Fault
-meaning_of request.Help = help
-meaning_of request.Version = version
-meaning_of (request.Convert job) = work (task_of job)
+abbrev pub meaning_of : Request Job → Meaning Task Fault
+meaning_of = meaning_by task_of
 
 -- the values that the options hold
 abbrev pub values_by : Options → Values

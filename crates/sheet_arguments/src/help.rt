@@ -101,6 +101,3 @@ it is no family tree in UTF-8 with --tree, more than 1,000,000 records stand
 below the names, memory runs out, or it can be read or written no further. The
 other sheets are still converted.
 ";
-
-/// The line on standard error where a page could not be printed.
-pub const PRINT_FAULT: &str = "register-sheet: cannot write to standard output\n";

@@ -8,7 +8,7 @@ mod request_faults;
 mod requests;
 mod three_columns;
 
-pub use help::{HELP, PRINT_FAULT};
-pub use request_faults::{MEMORY_FAULT, RequestFault, own_line};
-pub use requests::{CalendarsAsked, Job, Request, VERSION, command, read_request};
+pub use help::HELP;
+pub use request_faults::RequestFault;
+pub use requests::{CalendarsAsked, Job, NAME, VERSION, command, read_request};
 pub use three_columns::ThreeColumns;

@@ -5,12 +5,10 @@ ghost use Rattle.std.specs.String.{string_bytes};
 ghost use Rattle.register_sheets.specs.Headings.{asked_name};
 ghost use Rattle.sheet_arguments.specs.Faults.{program_line};
 
-use programs::FilesFault;
+use crate::requests::NAME;
+use programs::{FilesFault, NOT_BEGUN, REFUSED, UsageFault, clap_text, own_line};
 use register_sheets::AskedColumn;
 use std::alloc::{AllocError, Global};
-
-/// The line on standard error where memory ran out.
-pub const MEMORY_FAULT: &str = "register-sheet: out of memory\n";
 
 /// Why the arguments ask for nothing: what is wrong with them, or that memory ran out.
 #[derive(Drop)]
@@ -81,6 +79,19 @@ pub(crate) fn column_name(column: AskedColumn) -> &'static str
     }
 }
 
+impl<'a> From<UsageFault> for RequestFault<'a> {
+    ghost use Rattle.sheet_arguments.specs.Faults.{fault_of_usage};
+
+    ghost from_gives = { λ fault error. error ≡ fault_of_usage fault };
+
+    fn from(fault: UsageFault) -> RequestFault<'a> {
+        match fault {
+            UsageFault::OutOfMemory => RequestFault::OutOfMemory,
+            UsageFault::Usage(error) => RequestFault::Usage(error),
+        }
+    }
+}
+
 impl RequestFault<'_> {
     ghost use Rattle.sheet_arguments.specs.Faults.{error_line, status_of_fault};
 
@@ -89,8 +100,8 @@ impl RequestFault<'_> {
         ensures { result ≡ status_of_fault self.now }
     {
         match self {
-            RequestFault::OutOfMemory => 3,
-            _ => 2,
+            RequestFault::OutOfMemory => NOT_BEGUN,
+            _ => REFUSED,
         }
     }
 
@@ -103,14 +114,10 @@ impl RequestFault<'_> {
         ensures { IfOk result (λ text. IfSome (error_line self.now) (λ line. string_bytes text ≡ line)) }
     {
         match self {
-            RequestFault::OutOfMemory => String::from_str(alloc, MEMORY_FAULT),
-            RequestFault::Usage(error) => match format!(in alloc; "{error}") {
-                Ok(text) => Ok(text),
-                Err(_) => Err(AllocError),
-            },
+            RequestFault::Usage(error) => clap_text(alloc, error),
             _ => {
                 let (message, word) = self.said();
-                own_line(alloc, message, word)
+                own_line(alloc, NAME, message, word)
             }
         }
     }
@@ -148,15 +155,4 @@ impl RequestFault<'_> {
             RequestFault::FileTwice(file) => ("file named twice: ", *file),
         }
     }
-}
-
-/// A line of the program's own: its name, what is wrong, and the word with which it is wrong.
-pub fn own_line(alloc: Global, message: &str, word: &str) -> Result<String, AllocError>
-    ensures { IfOk result (λ line. string_bytes line ≡ program_line (message.now ++ word.now)) }
-{
-    let mut line = String::from_str(alloc, "register-sheet: ")?;
-    line.push_str(message)?;
-    line.push_str(word)?;
-    line.push_str("\n")?;
-    Ok(line)
 }

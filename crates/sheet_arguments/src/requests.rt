@@ -3,9 +3,9 @@
 ghost use Rattle.std.specs.Prelude.{◌≡◌, ◌==◌, ◌&&◌, ◌∷◌, [], IfErr, IfOk, IfSome, IsSomeAnd, OnOk, false, length, map};
 ghost use Rattle.std.specs.Prelude.{option_map, take};
 ghost use Rattle.std.specs.String.{string_bytes};
-ghost use Rattle.clap.specs.Words.{FailsBy, HasKind, app_of, fault_of, found_of, matches_of, rows_of};
+ghost use Rattle.clap.specs.Words.{app_of, found_of, rows_of};
 ghost use Rattle.programs.specs.FileLists.{AreFilesToConvert, IsFileFault};
-ghost use Rattle.programs.specs.Meanings.{AreTaken, FailFirst, wrong};
+ghost use Rattle.programs.specs.Meanings.{FailFirst, wrong};
 ghost use Rattle.programs.specs.Values.{IsValueOf, delimiter_option};
 ghost use Rattle.register_sheets.specs.Choices.{date_limit};
 ghost use Rattle.sheet_arguments.specs.CommandLine.{command_line, values_of};
@@ -27,12 +27,17 @@ use crate::option_values::{
 };
 use crate::request_faults::RequestFault;
 use crate::three_columns::{ThreeColumns, chosen_three};
-use clap::error::ErrorKind;
 use clap::{ArgMatches, Command};
-use programs::{Argument, check_files, command_with, is_given, value_given, values_given};
+use programs::{
+    Argument, Request, check_files, command_with, is_given, read_arguments, value_given,
+    values_given,
+};
 use register_sheets::{AskedColumn, MAX_DATES, Spans};
 use std::alloc::{AllocError, Global};
 use written_dates::{Choice, Order, Short};
+
+/// The name of the program.
+pub const NAME: &str = "register-sheet";
 
 /// The version of the program.
 pub const VERSION: &str = "1.2.0";
@@ -107,17 +112,6 @@ pub struct Job<'a> {
     pub files: Vec<&'a str>,
 }
 
-/// What the arguments ask for.
-#[derive(Drop)]
-pub enum Request<'a> {
-    /// The page of help.
-    Help,
-    /// The version of the program.
-    Version,
-    /// A conversion.
-    Convert(Job<'a>),
-}
-
 /// The words of how a sheet and its dates are read, as the arguments have them.
 #[derive(Clone, Copy)]
 struct Words<'a> {
@@ -159,7 +153,7 @@ struct Options<'a> {
 pub fn command<'a>(alloc: Global) -> Result<Command<'a>, AllocError>
     ensures { IfOk result (λ c. app_of c ≡ command_line) }
 {
-    command_with(alloc, "register-sheet", VERSION, &ARGUMENTS)
+    command_with(alloc, NAME, VERSION, &ARGUMENTS)
 }
 
 /// The words that clap found.
@@ -204,22 +198,6 @@ fn options_found<'a>(alloc: Global, matches: &ArgMatches<'a>) -> Result<Options<
         summary: is_given(matches, "summary"),
         files,
     })
-}
-
-/// The values of the options that the arguments give, and the files.
-///
-/// # Errors
-///
-/// What clap refuses, a request for help or for the version, and running out of memory.
-fn read_options<'a>(alloc: Global, arguments: &'a [String]) -> Result<Options<'a>, clap::Error>
-    ensures taken { IfOk result (λ options. AreTaken sheet_line (map string_bytes arguments.entry.now)) }
-    ensures values { IfOk result (λ options. values_by options
-        ≡ values_of (matches_of command_line (map string_bytes arguments.entry.now))) }
-    ensures kinds { IfErr result (HasKind (fault_of command_line (map string_bytes arguments.entry.now))) }
-{
-    let matches = command(alloc)?.try_get_matches_from(arguments)?;
-    let options = options_found(alloc, &matches)?;
-    Ok(options)
 }
 
 /// How many words these are.
@@ -488,6 +466,18 @@ fn meant_job<'a>(alloc: Global, options: Options<'a>) -> Result<Job<'a>, Request
     }
 }
 
+/// The conversion that the values which clap found ask for.
+fn job_found<'a>(alloc: Global, matches: &ArgMatches<'a>) -> Result<Job<'a>, RequestFault<'a>>
+    ensures asked { IfOk result (λ job. AskMeant (values_of (rows_of (found_of matches.now))) (task_of job)) }
+    ensures fault { IfErr result (λ error. IfSome (fault_of_error error)
+        (FailFirst (given_checks (values_of (rows_of (found_of matches.now)))))) }
+{
+    match options_found(alloc, matches) {
+        Ok(options) => meant_job(alloc, options),
+        Err(_) => Err(RequestFault::OutOfMemory),
+    }
+}
+
 /// What the arguments ask for.
 ///
 /// # Errors
@@ -497,20 +487,17 @@ fn meant_job<'a>(alloc: Global, options: Options<'a>) -> Result<Job<'a>, Request
 pub fn read_request<'a>(
     alloc: Global,
     arguments: &'a [String],
-) -> Result<Request<'a>, RequestFault<'a>>
+) -> Result<Request<Job<'a>>, RequestFault<'a>>
     ensures asked { IfOk result (λ request. MeanJust (map string_bytes arguments.entry.now) (meaning_of request)) }
     ensures refused { IfErr result (λ error. IfSome (fault_of_error error)
         (λ fault. MeanJust (map string_bytes arguments.entry.now) (wrong fault))) }
 {
-    let options = match read_options(alloc, arguments) {
-        Ok(options) => options,
-        Err(error) => match error.kind() {
-            ErrorKind::DisplayHelp => return Ok(Request::Help),
-            ErrorKind::DisplayVersion => return Ok(Request::Version),
-            ErrorKind::OutOfMemory => return Err(RequestFault::OutOfMemory),
-            _ => return Err(RequestFault::Usage(error)),
-        },
+    let Ok(command) = command(alloc) else {
+        return Err(RequestFault::OutOfMemory);
     };
-    let job = meant_job(alloc, options)?;
-    Ok(Request::Convert(job))
+    match read_arguments(command, arguments)? {
+        Request::Help => Ok(Request::Help),
+        Request::Version => Ok(Request::Version),
+        Request::Convert(matches) => Ok(Request::Convert(job_found(alloc, &matches)?)),
+    }
 }

@@ -1,7 +1,8 @@
 //! The ring and the stripes of a run, where one or neither of the two is written.
 
 use crate::tests::helpers::arguments_of;
-use register_arguments::{Request, fitting, read_request};
+use programs::Request;
+use register_arguments::{fitting, read_request};
 use std::alloc::Global;
 use std::test::Fail;
 

@@ -3,21 +3,22 @@ use Rattle.std.proofs.Common.{◌≤◌, ◌⊎◌, ◌≡◌, ◌≢◌, ℕ, r
 use Rattle.std.proofs.lemmas.List.{length-map, nil_from_length}
 use Rattle.std.specs.String.{string_bytes}
 use Rattle.programs.specs.Meanings.{help, version, work}
-use Rattle.register_arguments.specs.Requests.{MeanJust, task_of}
+use Rattle.register_arguments.specs.Requests.{MeanJust, register_line, task_of}
 use Rattle.register_arguments.specs.Faults.{fault_of_error}
 use Rattle.register_app.specs.Answers.{version_line}
-use Rattle.register_app.proofs.RefusedLemmas.{is_refused, is_wrong, never_refused}
+use Rattle.programs.proofs.RefusedLemmas.{is_wrong}
+use Rattle.register_app.proofs.RefusedLemmas.{is_refused, never_refused}
 use Rattle.register_app.proofs.program.answer.Goals as goal
 
 pub returns-in-Ok-Help-clause-answered : goal.returns-in-Ok-Help-clause-answered
 returns-in-Ok-Help-clause-answered g c = λ low.
     let just : MeanJust (map string_bytes c.args.arguments.now) help = search (rules, c.in-Ok-Help.ensures.asked) in
-    inl (_, inl (just, refl), c.print_page.ensures.printed, c.print_page.ensures.none)
+    inl (_, inl (just, refl), c.answer_page.ensures.printed, c.answer_page.ensures.none)
 
 pub returns-in-Ok-Help-clause-refused : goal.returns-in-Ok-Help-clause-refused
 returns-in-Ok-Help-clause-refused g c = λ had.
     let just : MeanJust (map string_bytes c.args.arguments.now) help = search (rules, c.in-Ok-Help.ensures.asked) in
-    never_refused _ help _ just (λ fault e. cc) (λ two. grind (arith, c.print_page.ensures.statuses))
+    never_refused _ help _ just (λ fault e. cc) (λ two. grind (arith, c.answer_page.ensures.statuses))
 
 pub returns-in-Ok-Version-clause-answered : goal.returns-in-Ok-Version-clause-answered
 returns-in-Ok-Version-clause-answered g c = λ low.
@@ -27,15 +28,15 @@ returns-in-Ok-Version-clause-answered g c = λ low.
     inl (
       c.as_str.result.now,
       inr (just, is),
-      c.print_page-in-Ok-Version.ensures.printed,
-      c.print_page-in-Ok-Version.ensures.none,
+      c.answer_page-in-Ok-Version.ensures.printed,
+      c.answer_page-in-Ok-Version.ensures.none,
     )
 
 pub returns-in-Ok-Version-clause-refused : goal.returns-in-Ok-Version-clause-refused
 returns-in-Ok-Version-clause-refused g c = λ had.
     let just : MeanJust (map string_bytes c.args.arguments.now) version
     = search (rules, c.in-Ok-Version.ensures.asked) in
-    never_refused _ version _ just (λ fault e. cc) (λ two. grind (arith, c.print_page-in-Ok-Version.ensures.statuses))
+    never_refused _ version _ just (λ fault e. cc) (λ two. grind (arith, c.answer_page-in-Ok-Version.ensures.statuses))
 
 pub convert_files-requires-clause-few : goal.convert_files-requires-clause-few
 convert_files-requires-clause-few g c =
@@ -115,8 +116,8 @@ returns-else-is_empty-clause-reported g c = λ high good.
 pub returns-in-Err-clause-reported : goal.returns-in-Err-clause-reported
 returns-in-Err-clause-reported g c = λ high good.
     let arguments = map string_bytes c.args.arguments.now in
-    c.refuse.ensures.reported arguments (is_wrong arguments (fault_of_error c.in-Err.fault) c.in-Err.ensures.refused)
-    tt good
+    c.refuse.ensures.reported arguments
+    (is_wrong register_line arguments (fault_of_error c.in-Err.fault) c.in-Err.ensures.refused, tt) good
 
 pub returns-else-is_empty-clause-unwritten : goal.returns-else-is_empty-clause-unwritten
 returns-else-is_empty-clause-unwritten g c = λ three.

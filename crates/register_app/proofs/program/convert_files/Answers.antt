@@ -41,5 +41,8 @@ returns-clause-unwritten g c = search rules
 pub returns-in-Err-clause-reported : goal.returns-in-Err-clause-reported
 returns-in-Err-clause-reported g c = λ three good arguments just.
     let fault = c.in-Err.fault in
-    c.refuse.ensures.reported arguments tt (asked_by arguments (task_of c.args.job.now) just fault
-    (subst (λ files. IsOfFiles (map (λ f. f.now) files) fault) c.as_slice.ensures.value c.in-Err.ensures.named)) good
+    c.refuse.ensures.reported arguments (
+      tt,
+      asked_by arguments (task_of c.args.job.now) just fault
+          (subst (λ files. IsOfFiles (map (λ f. f.now) files) fault) c.as_slice.ensures.value c.in-Err.ensures.named),
+    ) good

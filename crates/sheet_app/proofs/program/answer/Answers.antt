@@ -4,13 +4,14 @@ use Rattle.std.specs.String.{string_bytes}
 use Rattle.clap.specs.Words.{matches_of}
 use Rattle.programs.specs.Meanings.{help, version, work}
 use Rattle.sheet_arguments.specs.CommandLine.{command_line, values_of}
-use Rattle.sheet_arguments.specs.Requests.{MeanJust, meaning_of, task_of}
+use Rattle.sheet_arguments.specs.Requests.{MeanJust, meaning_of, sheet_line, task_of}
 use Rattle.sheet_arguments.specs.TreeValues.{meant}
-use Rattle.sheet_arguments.specs.declared.requests.Request.{Request}
+use Rattle.programs.specs.declared.requests.Request.{Request}
+use Rattle.sheet_arguments.specs.declared.requests.Job.{Job}
 use Rattle.sheet_arguments.specs.Faults.{fault_of_error}
 use Rattle.sheet_app.specs.Answers.{version_line}
 use Rattle.sheet_app.proofs.ListLemmas.{none_or_some}
-use Rattle.sheet_app.proofs.RefusedLemmas.{are_wrong, is_refused, is_wrong, never_wrong}
+use Rattle.programs.proofs.RefusedLemmas.{are_wrong, is_refused, is_wrong, never_wrong}
 use Rattle.sheet_app.proofs.TaskLemmas.{is_task}
 use Rattle.sheet_app.proofs.program.answer.Goals as goal
 
@@ -20,35 +21,35 @@ run_job-requires g c =
     let arguments = map string_bytes c.args.arguments.now in
     let task = task_of c.in-Ok-Convert.job in
     let just : MeanJust arguments (work task)
-    = subst (λ (r : Request). MeanJust arguments (meaning_of r)) c.in-Ok-Convert.field-0-is c.in-Ok-Convert.ensures.asked in
+    = subst (λ (r : Request Job). MeanJust arguments (meaning_of r)) c.in-Ok-Convert.field-0-is c.in-Ok-Convert.ensures.asked in
     let asked = (just (work task)).0 refl in
     is_task (meant (values_of (matches_of command_line arguments))) task asked.1.asks
 
 pub returns-in-Ok-Help-clause-answered : goal.returns-in-Ok-Help-clause-answered
 returns-in-Ok-Help-clause-answered g c = λ low.
     let just : MeanJust (map string_bytes c.args.arguments.now) help
-    = subst (λ (r : Request). MeanJust (map string_bytes c.args.arguments.now) (meaning_of r)) c.in-Ok-Help.field-0-is
+    = subst (λ (r : Request Job). MeanJust (map string_bytes c.args.arguments.now) (meaning_of r)) c.in-Ok-Help.field-0-is
     c.in-Ok-Help.ensures.asked in
-    inl (_, inl (just, refl), c.print_page.ensures.printed, c.print_page.ensures.none)
+    inl (_, inl (just, refl), c.answer_page.ensures.printed, c.answer_page.ensures.none)
 
 pub returns-in-Ok-Version-clause-answered : goal.returns-in-Ok-Version-clause-answered
 returns-in-Ok-Version-clause-answered g c = λ low.
     let just : MeanJust (map string_bytes c.args.arguments.now) version
-    = subst (λ (r : Request). MeanJust (map string_bytes c.args.arguments.now) (meaning_of r)) c.in-Ok-Version.field-0-is
+    = subst (λ (r : Request Job). MeanJust (map string_bytes c.args.arguments.now) (meaning_of r)) c.in-Ok-Version.field-0-is
     c.in-Ok-Version.ensures.asked in
     let is : c.as_str.result.now ≡ version_line = search rules in
     inl (
       c.as_str.result.now,
       inr (just, is),
-      c.print_page-in-Ok-Version.ensures.printed,
-      c.print_page-in-Ok-Version.ensures.none,
+      c.answer_page-in-Ok-Version.ensures.printed,
+      c.answer_page-in-Ok-Version.ensures.none,
     )
 
 pub returns-in-Ok-Convert-clause-answered : goal.returns-in-Ok-Convert-clause-answered
 returns-in-Ok-Convert-clause-answered g c = λ low.
     let job = c.in-Ok-Convert.job in
     let just : MeanJust (map string_bytes c.args.arguments.now) (work (task_of job))
-    = subst (λ (r : Request). MeanJust (map string_bytes c.args.arguments.now) (meaning_of r)) c.in-Ok-Convert.field-0-is
+    = subst (λ (r : Request Job). MeanJust (map string_bytes c.args.arguments.now) (meaning_of r)) c.in-Ok-Convert.field-0-is
     c.in-Ok-Convert.ensures.asked in
     elim (none_or_some (task_of job).files) [
       | inl none ↦
@@ -82,23 +83,23 @@ returns-in-Ok-Convert-clause-answered g c = λ low.
 pub returns-in-Ok-Help-clause-refused : goal.returns-in-Ok-Help-clause-refused
 returns-in-Ok-Help-clause-refused g c =
     let arguments = map string_bytes c.args.arguments.now in
-    let just : MeanJust arguments help = subst (λ (r : Request). MeanJust arguments (meaning_of r)) c.in-Ok-Help.field-0-is
+    let just : MeanJust arguments help = subst (λ (r : Request Job). MeanJust arguments (meaning_of r)) c.in-Ok-Help.field-0-is
     c.in-Ok-Help.ensures.asked in
-    λ had is. absurd (never_wrong arguments help just (λ fault e. cc) is)
+    λ had is. absurd (never_wrong sheet_line arguments help just (λ fault e. cc) is)
 
 pub returns-in-Ok-Help-clause-only : goal.returns-in-Ok-Help-clause-only
-returns-in-Ok-Help-clause-only g c = λ two. elim c.print_page.ensures.statuses
+returns-in-Ok-Help-clause-only g c = λ two. elim c.answer_page.ensures.statuses
     [ inl zero ↦ absurd (omega (arith, two, zero)) | inr one ↦ absurd (omega (arith, two, one)) ]
 
 pub returns-in-Ok-Version-clause-refused : goal.returns-in-Ok-Version-clause-refused
 returns-in-Ok-Version-clause-refused g c =
     let arguments = map string_bytes c.args.arguments.now in
-    let just : MeanJust arguments version = subst (λ (r : Request). MeanJust arguments (meaning_of r)) c.in-Ok-Version.field-0-is
+    let just : MeanJust arguments version = subst (λ (r : Request Job). MeanJust arguments (meaning_of r)) c.in-Ok-Version.field-0-is
     c.in-Ok-Version.ensures.asked in
-    λ had is. absurd (never_wrong arguments version just (λ fault e. cc) is)
+    λ had is. absurd (never_wrong sheet_line arguments version just (λ fault e. cc) is)
 
 pub returns-in-Ok-Version-clause-only : goal.returns-in-Ok-Version-clause-only
-returns-in-Ok-Version-clause-only g c = λ two. elim c.print_page-in-Ok-Version.ensures.statuses
+returns-in-Ok-Version-clause-only g c = λ two. elim c.answer_page-in-Ok-Version.ensures.statuses
     [ inl zero ↦ absurd (omega (arith, two, zero)) | inr one ↦ absurd (omega (arith, two, one)) ]
 
 never_high : {A : Type 0} (status : ℕ) → (status ≡ 0) ⊎ (status ≡ 1) → 2 ≤ status → A
@@ -108,14 +109,14 @@ never_high status (inr one) high = absurd (omega (arith, one, high))
 pub returns-in-Ok-Convert-clause-refused : goal.returns-in-Ok-Convert-clause-refused
 returns-in-Ok-Convert-clause-refused g c =
     let just : MeanJust (map string_bytes c.args.arguments.now) (work (task_of c.in-Ok-Convert.job))
-    = subst (λ (r : Request). MeanJust (map string_bytes c.args.arguments.now) (meaning_of r)) c.in-Ok-Convert.field-0-is
+    = subst (λ (r : Request Job). MeanJust (map string_bytes c.args.arguments.now) (meaning_of r)) c.in-Ok-Convert.field-0-is
     c.in-Ok-Convert.ensures.asked in
-    λ had is. absurd (never_wrong _ _ just (λ fault e. cc) is)
+    λ had is. absurd (never_wrong sheet_line _ _ just (λ fault e. cc) is)
 
 pub returns-in-Ok-Convert-clause-only : goal.returns-in-Ok-Convert-clause-only
 returns-in-Ok-Convert-clause-only g c =
     let just : MeanJust (map string_bytes c.args.arguments.now) (work (task_of c.in-Ok-Convert.job))
-    = subst (λ (r : Request). MeanJust (map string_bytes c.args.arguments.now) (meaning_of r)) c.in-Ok-Convert.field-0-is
+    = subst (λ (r : Request Job). MeanJust (map string_bytes c.args.arguments.now) (meaning_of r)) c.in-Ok-Convert.field-0-is
     c.in-Ok-Convert.ensures.asked in
     λ two. let (word, unknown) = c.run_job.ensures.unknown two in
     inr (task_of c.in-Ok-Convert.job, just, word, unknown)
@@ -126,23 +127,23 @@ returns-in-Err-clause-refused g c =
 
 pub returns-in-Err-clause-only : goal.returns-in-Err-clause-only
 returns-in-Err-clause-only g c =
-    λ two. inl (are_wrong (map string_bytes c.args.arguments.now) (fault_of_error c.in-Err.fault) c.refuse.result.status
+    λ two. inl (are_wrong sheet_line (map string_bytes c.args.arguments.now) (fault_of_error c.in-Err.fault) c.refuse.result.status
     c.in-Err.ensures.refused c.refuse.ensures.status two)
 
 -- standard error: nothing of a page; that memory ran out or a file was missing; and else what is wrong
 pub returns-in-Ok-Help-clause-reported : goal.returns-in-Ok-Help-clause-reported
-returns-in-Ok-Help-clause-reported g c = λ high. never_high c.print_page.result.status c.print_page.ensures.statuses high
+returns-in-Ok-Help-clause-reported g c = λ high. never_high c.answer_page.result.status c.answer_page.ensures.statuses high
 
 pub returns-in-Ok-Version-clause-reported : goal.returns-in-Ok-Version-clause-reported
 returns-in-Ok-Version-clause-reported g c =
-    λ high. never_high c.print_page-in-Ok-Version.result.status c.print_page-in-Ok-Version.ensures.statuses high
+    λ high. never_high c.answer_page-in-Ok-Version.result.status c.answer_page-in-Ok-Version.ensures.statuses high
 
 pub returns-in-Ok-Help-clause-untouched : goal.returns-in-Ok-Help-clause-untouched
-returns-in-Ok-Help-clause-untouched g c = λ high. never_high c.print_page.result.status c.print_page.ensures.statuses high
+returns-in-Ok-Help-clause-untouched g c = λ high. never_high c.answer_page.result.status c.answer_page.ensures.statuses high
 
 pub returns-in-Ok-Version-clause-untouched : goal.returns-in-Ok-Version-clause-untouched
 returns-in-Ok-Version-clause-untouched g c =
-    λ high. never_high c.print_page-in-Ok-Version.result.status c.print_page-in-Ok-Version.ensures.statuses high
+    λ high. never_high c.answer_page-in-Ok-Version.result.status c.answer_page-in-Ok-Version.ensures.statuses high
 
 pub returns-in-Ok-Convert-clause-untouched : goal.returns-in-Ok-Convert-clause-untouched
 returns-in-Ok-Convert-clause-untouched g c = λ high.
@@ -154,7 +155,7 @@ returns-in-Err-clause-untouched g c = λ high. c.refuse.ensures.untouched
 pub returns-in-Ok-Convert-clause-reported : goal.returns-in-Ok-Convert-clause-reported
 returns-in-Ok-Convert-clause-reported g c = λ high good.
     let just : MeanJust (map string_bytes c.args.arguments.now) (work (task_of c.in-Ok-Convert.job))
-    = subst (λ (r : Request). MeanJust (map string_bytes c.args.arguments.now) (meaning_of r)) c.in-Ok-Convert.field-0-is
+    = subst (λ (r : Request Job). MeanJust (map string_bytes c.args.arguments.now) (meaning_of r)) c.in-Ok-Convert.field-0-is
     c.in-Ok-Convert.ensures.asked in
     c.run_job.ensures.reported high good
     (map string_bytes c.args.arguments.now) just
@@ -162,5 +163,5 @@ returns-in-Ok-Convert-clause-reported g c = λ high good.
 pub returns-in-Err-clause-reported : goal.returns-in-Err-clause-reported
 returns-in-Err-clause-reported g c = λ high good.
     let arguments = map string_bytes c.args.arguments.now in
-    c.refuse.ensures.reported arguments (is_wrong arguments (fault_of_error c.in-Err.fault) c.in-Err.ensures.refused)
+    c.refuse.ensures.reported arguments (is_wrong sheet_line arguments (fault_of_error c.in-Err.fault) c.in-Err.ensures.refused)
     good

@@ -7,7 +7,8 @@ use Rattle.std.proofs.lemmas.Bool.{cases_eq}
 use Rattle.std.proofs.lemmas.List.{map-append, nil_from_length}
 use Rattle.std.proofs.lemmas.List.Sums.{sum_by-append, sum_by-cons}
 use Rattle.lane_rings.specs.Machine.{World, State, Actor, Reader, Converter, Writer, act, turn}
-use Rattle.lane_rings.specs.Places.{HaveNumbersFrom, KeepNumbers, Numbers, Place, EntryLane, InConverter, RowLane}
+use Rattle.lane_rings.specs.Places.{Numbers, Place, EntryLane, InConverter, RowLane}
+use Rattle.lane_rings.proofs.Places.{HaveNumbersFrom, KeepNumbers}
 use Rattle.lane_rings.specs.Places.{Popped, EachStandsOnce, StandsOnlyAt, stripe_of, times_at, GoesOn, HasToMove}
 use Rattle.lane_rings.specs.Places.{not_pushed, in_entry_lane, in_converter, in_row_lane}
 use Rattle.lane_rings.specs.Schedules.{Changes}

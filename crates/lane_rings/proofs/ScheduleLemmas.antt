@@ -7,7 +7,8 @@ use Rattle.std.proofs.lemmas.Nat.{mod_below}
 use Rattle.lane_rings.specs.Machine.{World, State, Actor, act, start, Reader, Converter, Writer}
 use Rattle.lane_rings.specs.Schedules.{AtMostChange, HasChanges, at_end, change, idle, run, standing, Changes}
 use Rattle.lane_rings.specs.Schedules.{HasRounds, IsRound}
-use Rattle.lane_rings.specs.Places.{HaveNumbersFrom, ArePoppedInOrder, EachStandsOnce, GoesOn, KeepNumbers, Numbers}
+use Rattle.lane_rings.specs.Places.{ArePoppedInOrder, EachStandsOnce, GoesOn, Numbers}
+use Rattle.lane_rings.proofs.Places.{HaveNumbersFrom, KeepNumbers}
 use Rattle.lane_rings.specs.Places.{HasToMove, in_converter, in_entry_lane, in_row_lane, not_pushed, table_rows}
 use Rattle.lane_rings.proofs.ActLemmas.{act_stays_or_steps}
 use Rattle.lane_rings.proofs.InvariantLemmas.{Kept, progress, steps_change, weight, few_standing, popped_in_order}

@@ -1,5 +1,5 @@
 -- Where entries stand, and who has to move them.
-use Rattle.std.specs.Prelude.{◌≡◌, ◌≢◌, ⊤, ℕ, ◌+◌, ◌-◌, ◌<◌, ◌≤◌, ◌==◌, List, [], ◌∷◌, length, map, take}
+use Rattle.std.specs.Prelude.{◌≡◌, ◌≢◌, ℕ, ◌+◌, ◌-◌, ◌<◌, ◌≤◌, ◌==◌, List, [], ◌∷◌, length, map, take}
 use Rattle.std.specs.Prelude.{option_to_list, count_by, Contains}
 use Rattle.lane_rings.specs.Machine.{World, State, Actor, Reader, Converter, Writer, turn}
 use Rattle.lane_rings.specs.Schedules.{Changes}
@@ -71,13 +71,3 @@ module _ {E R : Type 0} (numbers : Numbers E R) where
   GoesOn w s =
       length s.popped < length w.entries
       → (actor : Actor) × HasToMove w s (length s.popped + 1) actor × Changes w actor s
-
-  -- these entries are numbered in order, the first with this number
-  abbrev pub HaveNumbersFrom : ℕ → List E → Type 0
-  HaveNumbersFrom k [] = ⊤
-  HaveNumbersFrom k (entry ∷ entries) = (numbers.of_entry entry ≡ k) × HaveNumbersFrom (k + 1) entries
-
-  -- the rows of these entries have their numbers
-  abbrev pub KeepNumbers : World E R → List E → Type 0
-  KeepNumbers w [] = ⊤
-  KeepNumbers w (entry ∷ entries) = (numbers.of_row (w.row_of entry) ≡ numbers.of_entry entry) × KeepNumbers w entries

@@ -13,7 +13,7 @@ use Rattle.register_records.specs.declared.ends.Cause.{Cause}
 use Rattle.register_records.specs.declared.ends.Cause.TheVariants as cause
 use Rattle.register_records.specs.declared.ends.SourceEnd.{SourceEnd}
 use Rattle.register_records.specs.declared.ends.SourceEnd.TheVariants as end
-use Rattle.page_rules.specs.Conversions.{sound_part}
+use Rattle.page_rules.specs.private.Conversions.{sound_part}
 use Rattle.page_rules.specs.Rooms.{Puts, with_front}
 
 puts : (P : List ℕ → Type 0) (table old : List ℕ) → Gains (Some []) (Some table) P

@@ -1,5 +1,5 @@
 -- What has become of a text and of the room for its table.
-use Rattle.std.specs.Prelude.{◌≡◌, ◌≢◌, ◌≤◌, ℕ, Bool, true, false, List, [], length, Some, Result, Ok, Err}
+use Rattle.std.specs.Prelude.{◌≡◌, ◌≢◌, ◌≤◌, ℕ, Bool, true, false, List, length, Some, Result, Ok, Err}
 use Rattle.register_records.specs.Entries.{HasNoHeader, HasTooMany, IsNotSealed, Reading, record_limit}
 use Rattle.register_records.specs.SetupRules.{NamesTwice, is_delimiter}
 use Rattle.register_records.specs.Sources.{ArePartOfTable, IfBroken, IfWhole, IsFrontOfTable, IsTableOfAll}
@@ -7,19 +7,11 @@ use Rattle.register_records.specs.Sources.{IsWholeTable}
 use Rattle.register_records.specs.Tables.{Layout}
 use Rattle.register_records.specs.declared.setups.Form.TheVariants.{Sealed}
 use Rattle.register_records.specs.declared.ends.Cause.TheVariants as cause
-use Rattle.register_records.specs.declared.ends.SourceEnd.{SourceEnd}
-use Rattle.register_records.specs.declared.ends.SourceEnd.TheVariants as end
 use Rattle.page_rules.specs.Requests.{goes_beyond, layout_by, reading_by, targets_at}
 use Rattle.page_rules.specs.Rooms.{Puts}
 use Rattle.page_rules.specs.declared.converting.Converted.{Converted}
 use Rattle.page_rules.specs.declared.requests.RequestFault.{RequestFault}
 use Rattle.page_rules.specs.declared.requests.RequestFault.TheVariants as fault
-
--- what is known to be a table, or a front of one, of the bytes that were made: nothing of them where the output failed,
--- which is that memory ran out for it
-abbrev pub sound_part : SourceEnd → List ℕ → List ℕ
-sound_part (end.Broken cause.SinkFault) made = []
-sound_part other made = made
 
 -- the text was converted as it ended, and its table, or what was made of it, was put to the front of the room
 pub record IsConverted (reading : Reading) (layout : Layout) (text old new : List ℕ) (it : Converted) : Type 0 where

@@ -6,5 +6,4 @@ pub mod EntryDays
 pub mod Fields
 pub mod Picks
 pub mod Orders
-pub mod FieldViews
-pub mod RecordViews
+pub mod private

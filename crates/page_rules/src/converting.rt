@@ -2,7 +2,8 @@
 
 ghost use Rattle.std.specs.Prelude.{◌≡◌, []};
 ghost use Rattle.register_records.specs.Views.{layout_of, reading_of};
-ghost use Rattle.page_rules.specs.Conversions.{IsConverted, IsReturned, sound_part};
+ghost use Rattle.page_rules.specs.Conversions.{IsConverted, IsReturned};
+ghost use Rattle.page_rules.specs.private.Conversions.{sound_part};
 
 use crate::requests::{RequestFault, setup_for};
 use crate::rooms::{bytes_for, copy_if_fits};

@@ -2,7 +2,7 @@
 
 ghost use Rattle.std.specs.Prelude.{◌≡◌, ◌∷◌, [], None, IfSome, OnOk, take, drop};
 ghost use Rattle.csv.specs.Records.{fields_of};
-ghost use Rattle.page_rules.specs.FieldViews.{fields_left};
+ghost use Rattle.page_rules.specs.private.FieldViews.{fields_left};
 ghost use Rattle.page_rules.specs.Fields.{fields_by};
 
 use csv::ByteRecord;

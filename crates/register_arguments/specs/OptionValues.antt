@@ -1,6 +1,5 @@
 -- What the values of the options mean.
-use Rattle.std.specs.Prelude.{◌≡◌, ◌≢◌, ◌↔◌, ◌⊎◌, ◌==◌, ◌++◌, ℕ, List, [], ◌∷◌, codes, ⊤, Contains, Result, Ok, Err}
-use Rattle.std.specs.Prelude.{Option, Some, None}
+use Rattle.std.specs.Prelude.{◌≡◌, ◌≢◌, ◌⊎◌, ◌==◌, ◌++◌, ℕ, List, [], ◌∷◌, codes, ⊤, Contains, Option, Some, None}
 use Rattle.std.specs.List.{slice_split}
 use Rattle.date_texts.specs.Calendars.{target_name}
 use Rattle.date_texts.specs.Names.{IsNamed}
@@ -57,15 +56,6 @@ abbrev pub IsListFault : List ℕ → Fault → Type 0
 IsListFault list fault =
     ((name : List ℕ) × (fault ≡ unknown_target name) × IsFirstUnknown list name)
     ⊎ ((target : Target) × (fault ≡ target_twice target) × IsFirstTargetTwice list target)
-
--- what a list means: the targets that it asks for, or what is wrong with it
-abbrev pub ListMeans : List ℕ → Result (List Target) Fault → Type 0
-ListMeans list (Ok targets) = AsksForTargets list targets
-ListMeans list (Err fault) = IsListFault list fault
-
--- the list means this, and nothing else
-abbrev pub ListMeansJust : List ℕ → Result (List Target) Fault → Type 0
-ListMeansJust list meaning = (other : Result (List Target) Fault) → (other ≡ meaning) ↔ ListMeans list other
 
 -- this is the number that is written, from 1 to the most, or none where there is no word
 abbrev pub IsWritten : ℕ → Option Text → Option ℕ → Type 0

@@ -23,7 +23,6 @@ use Rattle.register_arguments.specs.Faults.{unknown_delimiter, usage}
 use Rattle.register_arguments.specs.Fittings.{fitting_for}
 use Rattle.register_arguments.specs.OptionValues.{AsksForTargets, IsListFault, IsWritten, number_check}
 use Rattle.register_arguments.specs.declared.jobs.Job.{Job}
-use Rattle.register_arguments.specs.declared.requests.Options.{Options}
 
 -- what arguments can ask of a run: how its registers are read and how its tables are written, the size of its rings and
 -- the converters of a source where they are written, whether a summary is wanted, and the files
@@ -119,15 +118,3 @@ IsSetupOf task processors setup =
 -- what a request stands for
 abbrev pub meaning_of : Request Job → Meaning Task Fault
 meaning_of = meaning_by task_of
-
--- the values that the options hold
-abbrev pub values_by : Options → Values
-values_by options = record {
-  to = option_map (λ v. v.now) options.to;
-  ring = option_map (λ v. v.now) options.ring;
-  delimiter = option_map (λ v. v.now) options.delimiter;
-  stripes = option_map (λ v. v.now) options.stripes;
-  sealed = options.sealed;
-  summary = options.summary;
-  files = map (λ f. f.now) options.files.items;
-}

@@ -5,7 +5,8 @@ ghost use Rattle.register_records.specs.SetupRules.{is_ring_size, is_stripe_coun
 ghost use Rattle.programs.specs.Meanings.{option_check};
 ghost use Rattle.programs.specs.Values.{IsValueOf, byte_of, delimiter_option};
 ghost use Rattle.register_arguments.specs.Faults.{bad_ring, bad_stripes, fault_of_error, unknown_delimiter};
-ghost use Rattle.register_arguments.specs.OptionValues.{IsWritten, ListMeansJust, number_check};
+ghost use Rattle.register_arguments.specs.OptionValues.{IsWritten, number_check};
+ghost use Rattle.register_arguments.specs.private.OptionValues.{ListMeansJust};
 
 use crate::request_faults::RequestFault;
 use date_texts::laws::one_target;

@@ -8,7 +8,8 @@ ghost use Rattle.programs.specs.Meanings.{FailFirst, wrong};
 ghost use Rattle.register_arguments.specs.CommandLine.{command_line, values_of};
 ghost use Rattle.register_arguments.specs.Faults.{fault_of_error, file_twice, too_many_files};
 ghost use Rattle.register_arguments.specs.Requests.{AreTargetsOf, Ask, IsTargetFault, MeanJust, meaning_of};
-ghost use Rattle.register_arguments.specs.Requests.{register_line, task_of, value_checks, values_by};
+ghost use Rattle.register_arguments.specs.Requests.{register_line, task_of, value_checks};
+ghost use Rattle.register_arguments.specs.private.Requests.{values_by};
 
 use crate::jobs::Job;
 use crate::option_values::{chosen_delimiter, chosen_ring, chosen_stripes, read_targets};

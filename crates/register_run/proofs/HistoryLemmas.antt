@@ -9,7 +9,8 @@ use Rattle.register_run.proofs.Common.{stripe_setup, WereDealt, dealt, Carries, 
 use Rattle.register_run.proofs.Common.{HasFirstEntries, Reading, numbers}
 use mathlib.Core.Bool.{beq}
 use Rattle.lane_rings.specs.Histories.{entries_over, rows_over}
-use Rattle.lane_rings.specs.Places.{table_rows, HaveNumbersFrom, KeepNumbers}
+use Rattle.lane_rings.specs.Places.{table_rows}
+use Rattle.lane_rings.proofs.Places.{HaveNumbersFrom, KeepNumbers}
 use Rattle.lane_rings.proofs.OneByOneLemmas.{all_over, one_by_one}
 use Rattle.lane_rings.proofs.PartLemmas.{part}
 use Rattle.lane_rings.proofs.PlaceLemmas.{numbered_front}

@@ -26,7 +26,7 @@ use Rattle.register_sheets.specs.Choices.{calendar_called, calendar_text, date_t
 use Rattle.register_sheets.specs.Choices.{or_meant, own_in}
 use Rattle.register_sheets.specs.DateStops.{IsStopIn}
 use Rattle.register_sheets.specs.OwnCalendars.{OwnDate, or_calendar, or_meaning}
-use Rattle.register_sheets.specs.DateViews.{HasDate, end_entry}
+use Rattle.register_sheets.specs.private.DateViews.{HasDate, end_entry}
 use Rattle.register_sheets.specs.declared.choices.CalendarField.{CalendarField}
 use Rattle.register_sheets.specs.declared.choices.CalendarField.TheVariants as calendar
 

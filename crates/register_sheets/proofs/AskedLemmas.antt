@@ -9,7 +9,7 @@ use Rattle.std.proofs.lemmas.List.Concat.{flat_map-append}
 use Rattle.register_records.specs.Columns.{Column, cell_columns, kind_columns, tail_order}
 use Rattle.register_records.specs.Outcomes.{TableRow}
 use Rattle.date_texts.specs.declared.target.Target.{Target}
-use Rattle.register_sheets.specs.AskedViews.{day_columns, has_cells}
+use Rattle.register_sheets.specs.private.AskedViews.{day_columns, has_cells}
 use Rattle.register_sheets.specs.Choices.{target_in}
 use Rattle.register_sheets.specs.Converted.{asked_fields, asked_text, asked_texts, cells_taken, shown_in}
 use Rattle.register_sheets.specs.declared.choices.AskedColumn.TheVariants.{Cells, Church, Weekday}

@@ -10,24 +10,25 @@ pub use Rattle.register_records.specs.Lines.{line_text}
 pub use Rattle.register_records.specs.Views.{row_seen}
 pub use Rattle.register_sheets.specs.Choices.{asked_targets, calendar_for, id_text, meaning_for}
 pub use Rattle.register_sheets.specs.Converted.{below}
-pub use Rattle.register_sheets.specs.CountViews.{CountsDates}
+pub use Rattle.register_sheets.specs.private.CountViews.{CountsDates}
 pub use Rattle.register_sheets.specs.DateCounts.{AreSheetCounts, no_counts}
 pub use Rattle.register_sheets.specs.DateEnds.{AreEndsIn, Dated, DatedEnd, as_text}
 pub use Rattle.register_sheets.specs.DateStops.{DateStop, IsStopBy, NameStop, SheetDate}
-pub use Rattle.register_sheets.specs.HeadingViews.{NamesMore, taken_by, wanted_all}
+pub use Rattle.register_sheets.specs.private.HeadingViews.{NamesMore, taken_by, wanted_all}
 pub use Rattle.register_sheets.specs.Headings.{asked_behind, is_taken, items_of}
-pub use Rattle.register_sheets.specs.LineViews.{GainsFields}
-pub use Rattle.register_sheets.specs.LineWriters.{Finishes, Gathers, Makes, Waits}
+pub use Rattle.register_sheets.specs.private.LineViews.{GainsFields}
+pub use Rattle.register_sheets.specs.private.LineWriters.{Finishes, Gathers, Makes, Waits}
 pub use Rattle.register_sheets.specs.NameLists.{named_by}
-pub use Rattle.register_sheets.specs.Produced.{AreLines, Produced, ending_of, first_fault}
+pub use Rattle.register_sheets.specs.Produced.{Produced, ending_of, first_fault}
+pub use Rattle.register_sheets.specs.private.Produced.{AreLines}
 pub use Rattle.register_sheets.specs.Reading.{IsReading, left_of}
-pub use Rattle.register_sheets.specs.RecordLines.{body_line}
-pub use Rattle.register_sheets.specs.Sending.{top_records}
-pub use Rattle.register_sheets.specs.SheetNotes.{HasFound, HasNotes}
-pub use Rattle.register_sheets.specs.SheetReaders.{given_of}
-pub use Rattle.register_sheets.specs.SheetReadings.{AreRegisterWriters, HasReadSheet, Takes, line_of_entry}
-pub use Rattle.register_sheets.specs.SheetRecords.{AreRecordsRead, DateRead, IsDateRead, RecordRead, date_seen}
-pub use Rattle.register_sheets.specs.SheetRecords.{dated_seen, fields_read, record_read}
+pub use Rattle.register_sheets.specs.private.RecordLines.{body_line}
+pub use Rattle.register_sheets.specs.private.Sending.{top_records}
+pub use Rattle.register_sheets.specs.private.SheetNotes.{HasFound, HasNotes}
+pub use Rattle.register_sheets.specs.private.SheetReaders.{given_of}
+pub use Rattle.register_sheets.specs.private.SheetReadings.{AreRegisterWriters, HasReadSheet, Takes, line_of_entry}
+pub use Rattle.register_sheets.specs.private.SheetRecords.{AreRecordsRead, DateRead, IsDateRead, RecordRead, date_seen}
+pub use Rattle.register_sheets.specs.private.SheetRecords.{dated_seen, fields_read, record_read}
 pub use Rattle.register_sheets.specs.Sheets.{records_text, widest}
 pub use Rattle.register_sheets.specs.UnknownNames.{NameCount, all_dates, is_alike, list_head, name_record, name_seen}
 pub use Rattle.register_sheets.specs.declared.choices.AskedColumn.{AskedColumn}

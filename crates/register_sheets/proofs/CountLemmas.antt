@@ -11,7 +11,7 @@ use Rattle.std.proofs.lemmas.List.Concat.{flat_map-append}
 use Rattle.std.proofs.lemmas.List.Sums.{count_by-le-length, sum_by-append}
 use Rattle.date_texts.specs.declared.refusal.Refusal.TheVariants as refusals
 use Rattle.register_records.specs.RefusalCounts.{count_of}
-use Rattle.register_sheets.specs.CountViews.{AreUpTo, CountsRecord}
+use Rattle.register_sheets.specs.private.CountViews.{AreUpTo, CountsRecord}
 use Rattle.register_sheets.specs.DateCounts.{AreDateCounts, DateRow, date_at, date_of, dates_at, is_blank_record}
 use Rattle.register_sheets.specs.DateCounts.{is_empty, is_refused, is_refused_with, is_span}
 use Rattle.register_sheets.specs.declared.date_counts.DateCounts.{DateCounts}

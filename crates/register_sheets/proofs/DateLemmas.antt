@@ -12,8 +12,8 @@ use Rattle.register_sheets.specs.CalendarChanges.{EndText}
 use Rattle.register_sheets.specs.Choices.{called_for, date_text}
 use Rattle.register_sheets.specs.DateEnds.{IsEdtfOf, is_failed, is_open, telling}
 use Rattle.register_sheets.specs.DateCounts.{is_one_day}
-use Rattle.register_sheets.specs.DateViews.{HasRows, end_entry}
-use Rattle.register_sheets.specs.SheetRecords.{stop_read}
+use Rattle.register_sheets.specs.private.DateViews.{HasRows, end_entry}
+use Rattle.register_sheets.specs.private.SheetRecords.{stop_read}
 
 -- one end that is both tells for itself, and is one day where it has one
 told_by : (failed open_end : Bool) (end : DatedEnd) → cond failed end (cond failed end (cond open_end end end)) ≡ end

@@ -5,7 +5,7 @@ use Rattle.register_sheets.proofs.Common.{Fields, Gathers, first_fault, RecordRe
 use Rattle.std.proofs.lemmas.Bool.Decides.{eqb_tells}
 use Rattle.std.proofs.lemmas.Option.{slice_get_within}
 use Rattle.register_records.specs.declared.outputs.Output as outputs
-use Rattle.register_sheets.specs.LineWriters.{Each, GathersEach}
+use Rattle.register_sheets.specs.private.LineWriters.{Each, GathersEach}
 use Rattle.register_sheets.proofs.CountLemmas.{one_found}
 use Rattle.register_sheets.proofs.LineWriterLemmas.{gathers_more, gathers_none}
 

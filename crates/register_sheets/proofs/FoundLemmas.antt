@@ -10,7 +10,7 @@ use Rattle.std.proofs.lemmas.List.Concat.{flat_map-append}
 use Rattle.std.proofs.lemmas.List.Sums.{count_by-le-length}
 use Rattle.register_sheets.specs.DateStops.{name_in}
 use Rattle.register_sheets.specs.UnknownNames.{counted, dates_of, firsts, is_other, names_in}
-use Rattle.register_sheets.specs.UnknownViews.{HasNames, HasRoom}
+use Rattle.register_sheets.specs.private.UnknownViews.{HasNames, HasRoom}
 use Rattle.register_sheets.specs.declared.stopped_names.StoppedNames.{StoppedNames}
 
 -- no count is above the number of stops

@@ -32,3 +32,4 @@ pub mod TopLemmas
 pub mod EachLemmas
 pub mod TakeLemmas
 pub mod OutputLemmas
+pub mod WidthViews

@@ -8,7 +8,7 @@ use Rattle.register_records.specs.LineRoom as buffer
 use Rattle.register_records.specs.LineViews.{line_bytes}
 use Rattle.register_records.specs.private.LineViews.{line_delimiter}
 use Rattle.register_records.specs.declared.lines.LineBuffer.{LineBuffer}
-use Rattle.register_sheets.specs.LineViews.{EndsLine}
+use Rattle.register_sheets.specs.private.LineViews.{EndsLine}
 
 -- memory with the same lines
 pub record SameLines (old new : LineBuffer) : Type 0 where

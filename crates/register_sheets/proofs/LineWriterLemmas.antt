@@ -4,12 +4,12 @@ use Rattle.std.proofs.Common.{sym, true, IsErrAnd, append-nil, append_assoc, map
 use Rattle.register_sheets.proofs.Common.{AreLines, Finishes, Produced, ending_of, records_text, Fields, Gathers, Makes}
 use Rattle.register_sheets.proofs.Common.{Waits, RecordRead, SheetChoice, LineWriter, SheetLines, SheetCause}
 use Rattle.std.specs.Io.KnownBytes.{Appends}
-use Rattle.register_sheets.specs.Produced.{Agrees, lacks_memory}
+use Rattle.register_sheets.specs.private.Produced.{Agrees, lacks_memory}
 use Rattle.register_records.specs.declared.outputs.Output as outputs
 use Rattle.std.proofs.KnownBytes.{Appends-nil}
 use Rattle.std.proofs.lemmas.List.{map-append}
-use Rattle.register_sheets.specs.LineWriters.{Holds, Stands, WaitsBy, Writes}
-use Rattle.register_sheets.specs.Sending.{Ends, HasFront, HasMade}
+use Rattle.register_sheets.specs.private.LineWriters.{Holds, Stands, WaitsBy, Writes}
+use Rattle.register_sheets.specs.private.Sending.{Ends, HasFront, HasMade}
 use Rattle.register_sheets.specs.declared.sheet_ends.SheetCause.TheVariants as cause
 use Rattle.register_sheets.proofs.SendingLemmas.{front_made, front_more}
 

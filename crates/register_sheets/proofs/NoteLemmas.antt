@@ -9,12 +9,13 @@ use Rattle.register_sheets.proofs.Common.{SheetCause}
 use Rattle.std.proofs.Math.Seq.{take-nil}
 use Rattle.std.proofs.lemmas.List.{length-append, length-map, map-append}
 use Rattle.std.proofs.lemmas.List.Sums.{count_by-le-length, sum_by_push}
-use Rattle.register_sheets.specs.CountViews.{AreUpTo, CountsRecord}
+use Rattle.register_sheets.specs.private.CountViews.{AreUpTo, CountsRecord}
 use Rattle.register_sheets.specs.DateStops.{IsStopOf, is_for, name_in}
-use Rattle.register_sheets.specs.SheetNotes.{HasSpace, HasSpaceFor, unknown_of, unless_lost}
-use Rattle.register_sheets.specs.SheetRecords.{rows_read}
+use Rattle.register_sheets.specs.private.SheetNotes.{HasSpace, HasSpaceFor, unknown_of, unless_lost}
+use Rattle.register_sheets.specs.private.SheetRecords.{rows_read}
 use Rattle.register_sheets.specs.UnknownNames.{IsFound, IsShort, IsUnknown, counted, dates_of, names_in}
-use Rattle.register_sheets.specs.UnknownViews.{CountsDate, HasNames, HasPlace, HasRoom, NoneUnread}
+use Rattle.register_sheets.specs.UnknownViews.{NoneUnread}
+use Rattle.register_sheets.specs.private.UnknownViews.{CountsDate, HasNames, HasPlace, HasRoom}
 use Rattle.register_sheets.specs.declared.sheet_notes.Found.{Found}
 use Rattle.register_sheets.specs.declared.sheet_notes.SheetNotes.{SheetNotes}
 use Rattle.register_sheets.specs.declared.sheet_ends.SheetCause.TheVariants.{NoMemory}

@@ -18,13 +18,14 @@ use Rattle.register_sheets.specs.DateEnds.{IsDated, one_end}
 use Rattle.register_sheets.specs.Converted.{AreFirstRows, AreRowsFrom, body_records, sheet_records}
 use Rattle.register_sheets.specs.SheetOutputs.{AreMadeRegisters, IsMadeRegister, IsMadeSheet, OfColumn, registers_by}
 use Rattle.register_sheets.specs.SheetOutputs.{sheet_ending}
-use Rattle.register_sheets.specs.Produced.{Agrees, Ending, cut, lost, untouched, whole}
-use Rattle.register_sheets.specs.RecordLines.{entry_at, entry_line, if_dated}
+use Rattle.register_sheets.specs.Produced.{Ending, cut, lost, untouched, whole}
+use Rattle.register_sheets.specs.private.Produced.{Agrees}
+use Rattle.register_sheets.specs.private.RecordLines.{entry_at, entry_line, if_dated}
 use Rattle.register_sheets.specs.Registers.{AreEntries, AreFirstEntries, IsEntry, register_head}
-use Rattle.register_sheets.specs.SheetReadings.{entry_maker, sheet_end}
+use Rattle.register_sheets.specs.private.SheetReadings.{entry_maker, sheet_end}
 use Rattle.register_sheets.specs.UnknownNames.{AreUnread}
-use Rattle.register_sheets.specs.LineWriters.{FinishesEach, GathersEach}
-use Rattle.register_sheets.specs.SheetRecords.{rows_read}
+use Rattle.register_sheets.specs.private.LineWriters.{FinishesEach, GathersEach}
+use Rattle.register_sheets.specs.private.SheetRecords.{rows_read}
 use Rattle.register_sheets.specs.declared.choices.End.{End}
 use Rattle.register_sheets.specs.declared.choices.End.TheVariants as ends
 use Rattle.register_sheets.specs.declared.choices.Spans.{Spans}

@@ -3,12 +3,12 @@ use Rattle.std.proofs.Common.{◌≡◌, ◌<◌, ◌∙◌, ◌++◌, ◌+◌, 
 use Rattle.std.proofs.Common.{drop, inl, length-append, length-drop, refl, true}
 use Rattle.register_sheets.proofs.Common.{Fields, Dated, SheetChoice, AreRecordsRead, DateRead, RecordRead, date_seen}
 use Rattle.register_sheets.proofs.Common.{dated_seen, fields_read, ColumnDates, IsReading}
-use Rattle.register_sheets.specs.SheetRecords.{IsRecordRead}
+use Rattle.register_sheets.specs.private.SheetRecords.{IsRecordRead}
 use Rattle.register_sheets.proofs.ListLemmas.{one_taken}
 use Rattle.std.proofs.lemmas.List.{take_all, map-append, take-map, take_more_set}
 use Rattle.csv.specs.Reading.{took_first}
 use Rattle.csv.specs.declared.reader.Reader.{Reader}
-use Rattle.register_sheets.specs.Reading.{IsBegun}
+use Rattle.register_sheets.specs.private.Reading.{IsBegun}
 
 -- one more is set
 pub set_more : {X Y : Type 0} (f : X → Y) (xs : List X) (i : ℕ) (x : X) → i < length xs

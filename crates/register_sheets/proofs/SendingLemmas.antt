@@ -7,8 +7,8 @@ use Rattle.std.proofs.KnownBytes.{Appends-trans}
 use Rattle.std.proofs.Math.Seq.{take-append_seam}
 use Rattle.std.proofs.lemmas.List.{take-append-le}
 use Rattle.std.proofs.lemmas.List.Concat.{flat_map-append}
-use Rattle.register_sheets.specs.LineViews.{Begins, EndsLine}
-use Rattle.register_sheets.specs.Sending.{HasFront, HasMade, IsSent}
+use Rattle.register_sheets.specs.private.LineViews.{Begins, EndsLine}
+use Rattle.register_sheets.specs.private.Sending.{HasFront, HasMade, IsSent}
 
 pub text_both : (d : ℕ) (xs ys : List Fields) → records_text d (xs ++ ys) ≡ records_text d xs ++ records_text d ys
 text_both d xs ys = flat_map-append (line_text d) xs ys

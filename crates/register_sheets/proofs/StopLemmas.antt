@@ -18,7 +18,7 @@ use Rattle.std.proofs.lemmas.List.Sums.{sum_by-cons, sum_by_push}
 use Rattle.written_dates.specs.Calendars.{place}
 use Rattle.written_dates.proofs.WordLemmas.{same_word_equiv}
 use Rattle.register_sheets.specs.UnknownNames.{AreNames, counted, firsts, is_other}
-use Rattle.register_sheets.specs.UnknownViews.{named}
+use Rattle.register_sheets.specs.private.UnknownViews.{named}
 
 pub alike_equiv : IsEquivalence is_alike
 alike_equiv =

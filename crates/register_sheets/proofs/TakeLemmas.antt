@@ -5,7 +5,7 @@ use Rattle.register_sheets.proofs.Common.{Fields, Waits, HasNotes, AreRegisterWr
 use Rattle.register_sheets.proofs.Common.{SheetChoice, LineWriter, EntryLine}
 use Rattle.register_records.specs.declared.outputs.Output as outputs
 use Rattle.register_sheets.specs.Registers.{register_head}
-use Rattle.register_sheets.specs.SheetReadings.{entry_maker}
+use Rattle.register_sheets.specs.private.SheetReadings.{entry_maker}
 use Rattle.register_sheets.specs.declared.sheet_writers.SheetWriters.{SheetWriters}
 use Rattle.register_sheets.proofs.EachLemmas.{each_more, each_none}
 use Rattle.register_sheets.proofs.LineWriterLemmas.{gathers_more, gathers_none}

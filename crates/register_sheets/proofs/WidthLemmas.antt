@@ -3,7 +3,7 @@ use Rattle.std.proofs.Common.{◌≡◌, ◌≤◌, ◌<◌, ◌∙◌, ◌++◌
 use Rattle.std.proofs.Common.{append-nil, drop, length, length-append, max, refl, unwrap_or}
 use Rattle.register_sheets.proofs.Common.{Fields}
 use Rattle.register_sheets.specs.Sheets.{filled}
-use Rattle.register_sheets.specs.WidthViews.{IsWidth}
+use Rattle.register_sheets.proofs.WidthViews.{IsWidth}
 use Rattle.register_sheets.proofs.SheetLemmas.{widest_more}
 
 -- what is dropped of a list that gained one more

@@ -99,15 +99,9 @@ IsPart text place parts =
 abbrev pub IsFewDays : ℤ → Type 0
 IsFewDays days = (neg_ℤ (pos 366) ≤ℤ days) × (days ≤ℤ pos 366)
 
-abbrev pub AreDays : List ℕ → ℤ → Type 0
-AreDays text days = IsFewDays days × (text ≡ signed_decimal days)
-
 -- the text is a day of a month, and how many days from it, where these are not 0
 abbrev pub day_name : ℕ → ℤ → List ℕ
 day_name day days = decimal day ++ (if int_eq days (pos 0) then [] else (32 ∷ signed_decimal days))
-
-abbrev pub IsDayAndDays : List ℕ → ℕ → ℤ → Type 0
-IsDayAndDays text day days = (1 ≤ day) × (day ≤ 31) × IsFewDays days × (text ≡ day_name day days)
 
 -- so many days from Easter; so many days from a day of each year; or the Sunday of a number in a season
 abbrev pub SaysFeast : List ℕ → Feast → Type 0

@@ -1,9 +1,7 @@
 -- What an output has come to.
-use Rattle.std.specs.Prelude.{◌≡◌, ◌≢◌, ℕ, Bool, IsOk, OnOk, false, List, [], Result, Ok, Err, ◌∷◌, take, true}
-use Rattle.register_records.specs.Entries.{Fields}
+use Rattle.std.specs.Prelude.{◌≡◌, ℕ, List, [], Result, Ok, Err, ◌∷◌, true}
 use Rattle.register_records.specs.Sources.{Gains}
 use Rattle.register_records.specs.declared.outputs.Output as outputs
-use Rattle.register_sheets.specs.Sheets.{records_text}
 use Rattle.register_sheets.specs.declared.sheet_ends.SheetCause.{SheetCause}
 use Rattle.register_sheets.specs.declared.sheet_ends.SheetCause.TheVariants as cause
 
@@ -33,22 +31,6 @@ ending_of (Err cause.NoMemory) = cut
 ending_of (Err cause.SinkFault) = lost
 ending_of (Err cause.NoNames) = untouched
 ending_of (Err cause.TooManyRecords) = cut
-
--- these bytes are these lines; or, where memory ran out, the first of them
-abbrev pub AreLines : {A : Type 0} → ℕ → List Fields → Result A SheetCause → List ℕ → Type 0
-AreLines delimiter made (Err cause.NoMemory) bytes = (count : ℕ) × (bytes ≡ records_text delimiter (take count made))
-AreLines delimiter made result bytes = bytes ≡ records_text delimiter made
-
--- memory ran out
-abbrev pub lacks_memory : {A : Type 0} → Result A SheetCause → Bool
-lacks_memory (Err cause.NoMemory) = true
-lacks_memory result = false
-
--- the lines of one output came out so, by a reading that ended so
-pub record Agrees (read result : Result (Unit {0}) SheetCause) : Type 0 where
-  pub all : OnOk result (IsOk read)
-  pub many : result ≡ Err cause.TooManyRecords → read ≡ Err cause.TooManyRecords
-  pub named : result ≢ Err cause.NoNames
 
 -- the first fault of some answers
 abbrev pub first_fault : List (Result (Unit {0}) SheetCause) → Result (Unit {0}) SheetCause

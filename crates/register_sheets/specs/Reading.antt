@@ -4,7 +4,6 @@ use Rattle.std.specs.Borrow.{Bor}
 use Rattle.csv.specs.declared.reader.Reader.{Reader}
 use Rattle.register_records.specs.Entries.{Fields}
 use Rattle.register_records.specs.ReadingState.{IsLive, records_left}
-use Rattle.register_records.specs.private.ReadingState.{HasBegun}
 
 -- the records that are left, of a reader that has not failed
 abbrev pub known_left : Reader (Bor (List ℕ)) → Option (List Fields)
@@ -20,7 +19,3 @@ left_of records = left_in (known_left records)
 -- the next read gives the first of these, or none is left
 abbrev pub IsReading : Reader (Bor (List ℕ)) → Type 0
 IsReading records = IsLive records × IsSome (known_left records)
-
--- the same once a record was read
-abbrev pub IsBegun : Reader (Bor (List ℕ)) → Type 0
-IsBegun records = HasBegun records × IsSome (known_left records)

@@ -9,8 +9,8 @@ ghost use Rattle.register_records.specs.Views.{row_seen};
 ghost use Rattle.register_sheets.specs.Converted.{asked_cells, asked_fields, asked_text, cells_taken, shown_in};
 ghost use Rattle.register_sheets.specs.Choices.{column_limit};
 ghost use Rattle.register_sheets.specs.ChurchNames.{church_shown, row_calendar};
-ghost use Rattle.register_sheets.specs.AskedViews.{day_columns, has_cells};
-ghost use Rattle.register_sheets.specs.LineViews.{GainsFields};
+ghost use Rattle.register_sheets.specs.private.AskedViews.{day_columns, has_cells};
+ghost use Rattle.register_sheets.specs.private.LineViews.{GainsFields};
 
 use crate::choices::AskedColumn;
 use crate::lines::SheetLines;

@@ -5,7 +5,7 @@ ghost use Rattle.std.specs.Prelude.{IfOk, IfSome, IfNone};
 ghost use Rattle.register_records.specs.Entries.{text_records};
 ghost use Rattle.register_sheets.specs.Produced.{Produced, first_fault};
 ghost use Rattle.register_sheets.specs.SheetOutputs.{AreMadeRegisters, IsMadeSheet, sheet_ending};
-ghost use Rattle.register_sheets.specs.SheetReadings.{AreNewWriters, sheet_end as end_spec};
+ghost use Rattle.register_sheets.specs.private.SheetReadings.{AreNewWriters, sheet_end as end_spec};
 ghost use Rattle.register_sheets.specs.Sheets.{widest};
 
 use crate::choices::{SheetChoice, SheetSetup};

@@ -3,10 +3,10 @@
 ghost use Rattle.std.specs.Prelude.{◌≡◌, ◌∷◌, [], ◌≤◌, List, length, map};
 ghost use Rattle.csv.specs.Records.{fields_of};
 ghost use Rattle.register_records.specs.Entries.{record_limit};
-ghost use Rattle.register_sheets.specs.CountViews.{AreUpTo, CountsDates, CountsRecord, IsUpTo};
+ghost use Rattle.register_sheets.specs.private.CountViews.{AreUpTo, CountsDates, CountsRecord, IsUpTo};
 ghost use Rattle.register_sheets.specs.DateCounts.{AreDateCounts, AreSheetCounts, is_blank as blank_spec};
 ghost use Rattle.register_sheets.specs.DateCounts.{is_blank_record as record_spec, is_of_empty as of_empty_spec};
-ghost use Rattle.register_sheets.specs.SheetRecords.{dated_seen};
+ghost use Rattle.register_sheets.specs.private.SheetRecords.{dated_seen};
 ghost use Rattle.register_sheets.specs.declared.choices.DateColumn.{DateColumn as DateColumnValue};
 
 use crate::choices::{DateColumn, MAX_DATES};

@@ -2,7 +2,7 @@
 
 ghost use Rattle.std.specs.Prelude.{◌≡◌, IfOk, OnOk, if◌then◌else◌};
 ghost use Rattle.register_sheets.specs.DateEnds.{AreEndsBy};
-ghost use Rattle.register_sheets.specs.SheetRecords.{last_text};
+ghost use Rattle.register_sheets.specs.private.SheetRecords.{last_text};
 
 use crate::choices::{SheetChoice, Spans};
 use date_spans::{Kind, Marks, write_span};

@@ -5,7 +5,8 @@ ghost use Rattle.std.specs.Fmt.{signed_decimal};
 ghost use Rattle.church_year.specs.declared.feasts.Feast.{Feast as FeastValue};
 ghost use Rattle.church_year.specs.declared.feasts.Anchor.{Anchor as AnchorValue};
 ghost use Rattle.church_year.specs.declared.feasts.Season.{Season as SeasonValue};
-ghost use Rattle.register_sheets.specs.NameMeanings.{AreDays, IsDayAndDays, IsFewDays, SaysFeast, season_name};
+ghost use Rattle.register_sheets.specs.NameMeanings.{IsFewDays, SaysFeast, season_name};
+ghost use Rattle.register_sheets.specs.private.NameMeanings.{AreDays, IsDayAndDays};
 
 use crate::name_meanings::number_said;
 use church_year::{Anchor, Feast, Season};

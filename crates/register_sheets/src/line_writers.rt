@@ -3,12 +3,14 @@
 ghost use Rattle.std.specs.Prelude.{◌≡◌, ◌++◌, ◌∷◌, ◌⊎◌, [], ℕ, IfErr, List, None, OnOk, Option, Result, length, map};
 ghost use Rattle.register_sheets.specs.declared.sheet_ends.SheetCause.{SheetCause as SheetCauseValue};
 ghost use Rattle.csv.specs.Records.{fields_of};
-ghost use Rattle.register_sheets.specs.Produced.{first_fault, lacks_memory as memory_spec};
+ghost use Rattle.register_sheets.specs.Produced.{first_fault};
+ghost use Rattle.register_sheets.specs.private.Produced.{lacks_memory as memory_spec};
 ghost use Rattle.register_sheets.specs.Sheets.{filled};
 ghost use Rattle.register_records.specs.Entries.{Fields};
-ghost use Rattle.register_sheets.specs.LineWriters.{Finishes, FinishesEach, Gathers, GathersEach, Makes, Waits, Writes};
-ghost use Rattle.register_sheets.specs.Sending.{HasMade};
-ghost use Rattle.register_sheets.specs.SheetRecords.{record_read};
+ghost use Rattle.register_sheets.specs.private.LineWriters.{Finishes, FinishesEach, Gathers, GathersEach, Makes, Waits};
+ghost use Rattle.register_sheets.specs.private.LineWriters.{Writes};
+ghost use Rattle.register_sheets.specs.private.Sending.{HasMade};
+ghost use Rattle.register_sheets.specs.private.SheetRecords.{record_read};
 
 use crate::choices::SheetSetup;
 use crate::own_fields::push_own;

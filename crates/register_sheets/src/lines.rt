@@ -3,7 +3,7 @@
 ghost use Rattle.std.specs.Prelude.{◌≡◌, ◌≤◌, ◌+◌, ◌∷◌, [], ℕ, List, IfSome, OnOk, drop, map, replicate, true};
 ghost use Rattle.register_records.specs.LineRoom.{field_room};
 ghost use Rattle.register_records.specs.Views.{tail_shown};
-ghost use Rattle.register_sheets.specs.LineViews.{Begins, EndsLine, GainsFields, TakesTail};
+ghost use Rattle.register_sheets.specs.private.LineViews.{Begins, EndsLine, GainsFields, TakesTail};
 
 use register_records::{LineBuffer, Row, TAIL_ROOM};
 use std::alloc::{AllocError, Global};

@@ -5,7 +5,7 @@ ghost use Rattle.std.specs.Fmt.{decimal};
 ghost use Rattle.date_texts.specs.Calendars.{calendar_name};
 ghost use Rattle.date_texts.specs.Names.{IsNamed};
 ghost use Rattle.date_texts.specs.declared.calendar.Calendar.{Calendar as CalendarValue};
-ghost use Rattle.register_sheets.specs.MeaningViews.{is_bare, is_counted, is_named};
+ghost use Rattle.register_sheets.specs.private.MeaningViews.{is_bare, is_counted, is_named};
 ghost use Rattle.register_sheets.specs.NameMeanings.{AreMonths, IsPart, era_name};
 ghost use Rattle.register_sheets.specs.NameMeanings.{IsNumberIn, IsWordAndNumber, Says, SaysCalendar, SaysChange};
 ghost use Rattle.register_sheets.specs.NameMeanings.{SaysMeaning, mark_name, relation_name, season_name, weekday_name, word_name};

@@ -7,7 +7,7 @@ ghost use Rattle.register_sheets.specs.AskedOfSheets.{HasHeadings, asked_in};
 ghost use Rattle.register_sheets.specs.Headings.{IsHeading, asked_behind, asked_name as name_spec, behind};
 ghost use Rattle.register_sheets.specs.Headings.{column_names, is_taken, mark_names};
 ghost use Rattle.register_sheets.specs.Headings.{items_of, wanted_for, wanted_heading, wanted_headings};
-ghost use Rattle.register_sheets.specs.HeadingViews.{NamesMore, taken_by, wanted_all};
+ghost use Rattle.register_sheets.specs.private.HeadingViews.{NamesMore, taken_by, wanted_all};
 
 use crate::asked_of_sheets::AskedOfSheet;
 use crate::choices::{AskedColumn, DateColumn, Spans};

@@ -10,7 +10,7 @@ ghost use Rattle.register_sheets.specs.OwnCalendars.{first_style as first_spec, 
 ghost use Rattle.register_sheets.specs.OwnCalendars.{is_behind_blank as behind_spec, is_style as is_spec, own_date as own_spec};
 ghost use Rattle.register_sheets.specs.OwnCalendars.{says_something as says_spec, style_meant as meant_spec};
 ghost use Rattle.register_sheets.specs.OwnCalendars.{style_named as named_spec, without_comma as comma_spec};
-ghost use Rattle.register_sheets.specs.OwnViews.{own_seen};
+ghost use Rattle.register_sheets.specs.private.OwnViews.{own_seen};
 
 use date_texts::Calendar;
 use written_dates::{

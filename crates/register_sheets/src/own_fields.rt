@@ -2,7 +2,7 @@
 
 ghost use Rattle.std.specs.Prelude.{OnOk};
 ghost use Rattle.csv.specs.Records.{fields_of};
-ghost use Rattle.register_sheets.specs.LineViews.{GainsFields};
+ghost use Rattle.register_sheets.specs.private.LineViews.{GainsFields};
 ghost use Rattle.register_sheets.specs.Sheets.{filled};
 
 use crate::lines::SheetLines;

@@ -5,7 +5,8 @@ ghost use Rattle.std.specs.Prelude.{IfNone, IfOk, IfSome, Ok};
 ghost use Rattle.csv.specs.Reading.{took_first};
 ghost use Rattle.csv.specs.Records.{fields_of};
 ghost use Rattle.register_records.specs.Entries.{text_records};
-ghost use Rattle.register_sheets.specs.Reading.{IsBegun, IsReading, left_of};
+ghost use Rattle.register_sheets.specs.Reading.{IsReading, left_of};
+ghost use Rattle.register_sheets.specs.private.Reading.{IsBegun};
 
 use csv::{ByteRecord, Reader, ReaderBuilder};
 use std::alloc::{AllocError, Global};

@@ -2,13 +2,13 @@
 
 ghost use Rattle.std.specs.Prelude.{◌≤◌, OnOk, length};
 ghost use Rattle.register_records.specs.Entries.{Fields};
-ghost use Rattle.register_sheets.specs.LineViews.{GainsFields};
-ghost use Rattle.register_sheets.specs.RecordLines.{body_line, entry_line, entry_of};
+ghost use Rattle.register_sheets.specs.private.LineViews.{GainsFields};
+ghost use Rattle.register_sheets.specs.private.RecordLines.{body_line, entry_line, entry_of};
 ghost use Rattle.std.specs.List.{flat_map};
 ghost use Rattle.register_sheets.specs.Choices.{column_limit};
 ghost use Rattle.register_sheets.specs.Converted.{dated_fields};
-ghost use Rattle.register_sheets.specs.DateViews.{edtf_field, ends_fields};
-ghost use Rattle.register_sheets.specs.SheetRecords.{RecordRead, date_seen, dated_seen, record_read, rows_read};
+ghost use Rattle.register_sheets.specs.private.DateViews.{edtf_field, ends_fields};
+ghost use Rattle.register_sheets.specs.private.SheetRecords.{RecordRead, date_seen, dated_seen, record_read, rows_read};
 ghost use Rattle.register_sheets.specs.declared.choices.SheetChoice.{SheetChoice as SheetChoiceValue};
 
 use crate::asked::{push_asked, push_cells, push_refusal};

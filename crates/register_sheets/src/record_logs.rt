@@ -1,7 +1,7 @@
 //! The records that a reader has given, which clauses alone read.
 
 ghost use Rattle.std.specs.Prelude.{◌≡◌, ◌++◌, ◌∷◌, []};
-ghost use Rattle.register_sheets.specs.SheetRecords.{record_read};
+ghost use Rattle.register_sheets.specs.private.SheetRecords.{record_read};
 
 use crate::sheet_records::SheetRecord;
 use std::marker::Model;
@@ -26,7 +26,7 @@ impl Model for RecordLog {
     ghost use Rattle.std.proofs.Common.{arith, length-append};
     ghost use Rattle.std.specs.Prelude.{◌++◌, ◌∷◌, [], List, length};
     ghost use Rattle.std.specs.Option.{option_map_or};
-    ghost use Rattle.register_sheets.specs.SheetRecords.{RecordRead, record_read};
+    ghost use Rattle.register_sheets.specs.private.SheetRecords.{RecordRead, record_read};
 
     ghost Value = { List RecordRead };
 

@@ -6,7 +6,7 @@ ghost use Rattle.written_dates.specs.Fields.{calendar_of as meant_of, without_bl
 ghost use Rattle.register_sheets.specs.Choices.{calendar_called as called_spec, calendar_for, calendar_text, date_text};
 ghost use Rattle.register_sheets.specs.Choices.{id_text, meaning_for, own_by as own_spec, if_empty as empty_spec};
 ghost use Rattle.register_sheets.specs.Choices.{meaning_in, meant_in as in_spec, one_called as one_spec};
-ghost use Rattle.register_sheets.specs.OwnViews.{own_seen};
+ghost use Rattle.register_sheets.specs.private.OwnViews.{own_seen};
 ghost use Rattle.std.specs.Fmt.{decimal};
 
 use crate::choices::{CalendarField, DateColumn, IdField, SheetChoice};

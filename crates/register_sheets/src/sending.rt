@@ -2,7 +2,7 @@
 
 ghost use Rattle.std.specs.Prelude.{◌≡◌, ◌++◌, ◌∷◌, [], ℕ, List, Option, true, OnOk};
 ghost use Rattle.register_records.specs.Entries.{Fields};
-ghost use Rattle.register_sheets.specs.Sending.{Ends, HasMade, IsSent};
+ghost use Rattle.register_sheets.specs.private.Sending.{Ends, HasMade, IsSent};
 
 use crate::lines::SheetLines;
 use crate::sheet_ends::SheetCause;

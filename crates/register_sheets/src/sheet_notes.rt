@@ -4,10 +4,12 @@ ghost use Rattle.std.specs.Prelude.{◌≡◌, ◌≤◌, ◌++◌, ◌∷◌, [
 ghost use Rattle.csv.specs.Records.{fields_of};
 ghost use Rattle.register_sheets.specs.Choices.{date_limit};
 ghost use Rattle.register_sheets.specs.DateStops.{NameStop as SeenName, SheetDate, name_in};
-ghost use Rattle.register_sheets.specs.SheetNotes.{HasFound, HasNotes, HasSpace, HasSpaceFor};
-ghost use Rattle.register_sheets.specs.SheetRecords.{IsDateRead, IsRecordRead, RecordRead, date_seen, record_read};
+ghost use Rattle.register_sheets.specs.private.SheetNotes.{HasFound, HasNotes, HasSpace, HasSpaceFor};
+ghost use Rattle.register_sheets.specs.private.SheetRecords.{IsDateRead, IsRecordRead, RecordRead, date_seen};
+ghost use Rattle.register_sheets.specs.private.SheetRecords.{record_read};
 ghost use Rattle.register_sheets.specs.UnknownNames.{dates_of};
-ghost use Rattle.register_sheets.specs.UnknownViews.{HasNames, HasRoom, if_stop};
+ghost use Rattle.register_sheets.specs.UnknownViews.{if_stop};
+ghost use Rattle.register_sheets.specs.private.UnknownViews.{HasNames, HasRoom};
 ghost use Rattle.register_sheets.specs.declared.choices.SheetChoice.{SheetChoice as SheetChoiceValue};
 
 use crate::choices::{DateColumn, SheetChoice};

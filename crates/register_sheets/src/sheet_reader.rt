@@ -4,8 +4,9 @@ ghost use Rattle.std.specs.Prelude.{◌≡◌, ◌≤◌, ◌<◌, ◌+◌, ◌�
 ghost use Rattle.std.proofs.Props.{props};
 ghost use Rattle.csv.specs.Records.{fields_of};
 ghost use Rattle.register_records.specs.Entries.{record_limit};
-ghost use Rattle.register_sheets.specs.Reading.{IsBegun, left_of};
-ghost use Rattle.register_sheets.specs.SheetRecords.{IsRecordRead, fields_read, record_read};
+ghost use Rattle.register_sheets.specs.Reading.{left_of};
+ghost use Rattle.register_sheets.specs.private.Reading.{IsBegun};
+ghost use Rattle.register_sheets.specs.private.SheetRecords.{IsRecordRead, fields_read, record_read};
 
 use crate::choices::SheetSetup;
 use crate::reading::read_next;
@@ -74,7 +75,7 @@ fn read_record(
 }
 
 impl<'s> SheetReader<'s> {
-    ghost use Rattle.register_sheets.specs.SheetReaders.{ReadsRecord, given_of, goes_on, records_under};
+    ghost use Rattle.register_sheets.specs.private.SheetReaders.{ReadsRecord, given_of, goes_on, records_under};
 
     /// A reader of the records that are left of a sheet.
     pub fn open(

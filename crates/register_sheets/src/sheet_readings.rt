@@ -3,10 +3,11 @@
 ghost use Rattle.std.specs.Prelude.{◌≡◌, ◌≤◌, ◌<◌, ◌⊎◌, [], ℕ, IfErr, IfOk, OnOk, length, true};
 ghost use Rattle.register_records.specs.Entries.{text_records};
 ghost use Rattle.register_sheets.specs.Converted.{below};
-ghost use Rattle.register_sheets.specs.Reading.{IsBegun, left_of};
-ghost use Rattle.register_sheets.specs.SheetNotes.{HasNotes};
-ghost use Rattle.register_sheets.specs.SheetReaders.{given_of, goes_on, records_under};
-ghost use Rattle.register_sheets.specs.SheetReadings.{HasReadSheet, ReadsAll, ReadsSheet, Takes};
+ghost use Rattle.register_sheets.specs.Reading.{left_of};
+ghost use Rattle.register_sheets.specs.private.Reading.{IsBegun};
+ghost use Rattle.register_sheets.specs.private.SheetNotes.{HasNotes};
+ghost use Rattle.register_sheets.specs.private.SheetReaders.{given_of, goes_on, records_under};
+ghost use Rattle.register_sheets.specs.private.SheetReadings.{HasReadSheet, ReadsAll, ReadsSheet, Takes};
 
 use crate::choices::{SheetChoice, SheetSetup};
 use crate::reading::{pass_names, records_of};

@@ -12,9 +12,9 @@ ghost use Rattle.register_sheets.specs.DateEnds.{AreAtChange, AreEndsBy, AreEnds
 ghost use Rattle.register_sheets.specs.DateEnds.{asks_edtf as asks_spec, has_edtf as has_spec, is_failed, is_open, one_end};
 ghost use Rattle.register_sheets.specs.DateEnds.{sense_of as sense_spec, telling as telling_spec, told};
 ghost use Rattle.register_sheets.specs.DateStops.{IsStopBy};
-ghost use Rattle.register_sheets.specs.DateViews.{HasDate, HasRows, end_entry};
-ghost use Rattle.register_sheets.specs.SheetRecords.{IsDateRead, IsRecordRead, date_seen, dated_seen, end_seen};
-ghost use Rattle.register_sheets.specs.SheetRecords.{record_read, stop_read};
+ghost use Rattle.register_sheets.specs.private.DateViews.{HasDate, HasRows, end_entry};
+ghost use Rattle.register_sheets.specs.private.SheetRecords.{IsDateRead, IsRecordRead, date_seen, dated_seen, end_seen};
+ghost use Rattle.register_sheets.specs.private.SheetRecords.{record_read, stop_read};
 ghost use Rattle.std.specs.Result.{result_ok};
 ghost use Rattle.register_sheets.specs.UnknownViews.{if_stop};
 

@@ -1,9 +1,10 @@
 //! What stands in a sheet down to its names.
 
 ghost use Rattle.std.specs.Prelude.{◌≡◌, ◌<◌, ◌++◌, ◌∷◌, [], OnOk, drop, get_or, length, map};
-ghost use Rattle.register_sheets.specs.LineWriters.{Makes};
-ghost use Rattle.register_sheets.specs.Reading.{IsBegun, IsReading, left_of};
-ghost use Rattle.register_sheets.specs.Sending.{top_records};
+ghost use Rattle.register_sheets.specs.private.LineWriters.{Makes};
+ghost use Rattle.register_sheets.specs.Reading.{IsReading, left_of};
+ghost use Rattle.register_sheets.specs.private.Reading.{IsBegun};
+ghost use Rattle.register_sheets.specs.private.Sending.{top_records};
 ghost use Rattle.register_sheets.specs.Sheets.{filled};
 
 use crate::choices::SheetChoice;

@@ -1,11 +1,11 @@
 //! What is made of a sheet while it is read once.
 
 ghost use Rattle.std.specs.Prelude.{◌≡◌, ◌∷◌, [], IfOk, length};
-ghost use Rattle.register_sheets.specs.LineWriters.{Waits};
+ghost use Rattle.register_sheets.specs.private.LineWriters.{Waits};
 ghost use Rattle.register_sheets.specs.Registers.{register_head};
-ghost use Rattle.register_sheets.specs.SheetNotes.{HasNotes, HasSpaceFor};
-ghost use Rattle.register_sheets.specs.SheetReadings.{AreRegisterWriters, Takes, entry_maker as maker_spec};
-ghost use Rattle.register_sheets.specs.SheetRecords.{IsRecordRead, record_read};
+ghost use Rattle.register_sheets.specs.private.SheetNotes.{HasNotes, HasSpaceFor};
+ghost use Rattle.register_sheets.specs.private.SheetReadings.{AreRegisterWriters, Takes, entry_maker as maker_spec};
+ghost use Rattle.register_sheets.specs.private.SheetRecords.{IsRecordRead, record_read};
 ghost use Rattle.register_sheets.specs.declared.choices.SheetChoice.{SheetChoice as SheetChoiceValue};
 
 use crate::choices::{End, SheetSetup};

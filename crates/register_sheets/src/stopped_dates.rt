@@ -3,8 +3,8 @@
 ghost use Rattle.std.specs.Prelude.{◌≡◌, ◌≢◌, ◌≤◌, ◌<◌, IfErr, IfOk, OnOk, length, map};
 ghost use Rattle.register_records.specs.Entries.{record_limit, text_records};
 ghost use Rattle.register_sheets.specs.Converted.{below};
-ghost use Rattle.register_sheets.specs.SheetNotes.{unknown_of as unknown_spec};
-ghost use Rattle.register_sheets.specs.LineViews.{GainsFields};
+ghost use Rattle.register_sheets.specs.private.SheetNotes.{unknown_of as unknown_spec};
+ghost use Rattle.register_sheets.specs.private.LineViews.{GainsFields};
 ghost use Rattle.register_sheets.specs.UnknownNames.{IsUnknown, list_head, list_text, name_record, name_seen};
 
 use crate::choices::SheetSetup;

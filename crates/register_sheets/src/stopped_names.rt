@@ -5,7 +5,8 @@ ghost use Rattle.std.specs.Prelude.{option_to_list, slice_get, true};
 ghost use Rattle.std.specs.List.{list_any};
 ghost use Rattle.register_sheets.specs.DateStops.{NameStop as SeenName, name_in};
 ghost use Rattle.register_sheets.specs.UnknownNames.{is_alike as alike, name_seen as count_seen};
-ghost use Rattle.register_sheets.specs.UnknownViews.{HasNames, HasRoom, if_stop, named, name_seen};
+ghost use Rattle.register_sheets.specs.UnknownViews.{if_stop, name_seen};
+ghost use Rattle.register_sheets.specs.private.UnknownViews.{HasNames, HasRoom, named};
 
 use crate::stops::{DateStop, NameStop, is_alike};
 use date_texts::Calendar;

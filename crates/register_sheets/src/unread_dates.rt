@@ -41,7 +41,8 @@ pub(crate) fn is_short(field: &[u8], first: &[u8], last: &[u8], marks: Marks) ->
 }
 
 impl UnreadDates {
-    ghost use Rattle.register_sheets.specs.UnknownViews.{CountsDate, CountsStop, HasPlace, NoneUnread, if_stop};
+    ghost use Rattle.register_sheets.specs.UnknownViews.{NoneUnread, if_stop};
+    ghost use Rattle.register_sheets.specs.private.UnknownViews.{CountsDate, CountsStop, HasPlace};
 
     /// None yet.
     pub fn none() -> UnreadDates

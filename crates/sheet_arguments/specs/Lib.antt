@@ -5,3 +5,4 @@ pub mod ThreeColumns
 pub mod CommandLine
 pub mod TreeValues
 pub mod Requests
+pub mod private

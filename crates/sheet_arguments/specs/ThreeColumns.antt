@@ -1,6 +1,5 @@
 -- What the value of `--three` names: the columns with the years, the months and the days of dates.
-use Rattle.std.specs.Prelude.{◌≡◌, ◌==◌, ℕ, Bool, List, Option, None, Some, Result, Ok, Err, if◌then◌else◌, length, nat_lt}
-use Rattle.std.specs.Borrow.{Bor}
+use Rattle.std.specs.Prelude.{◌==◌, ℕ, Bool, Option, None, Some, Result, Ok, if◌then◌else◌, length, nat_lt}
 use Rattle.std.specs.List.{after_first, before_first, position_or_len}
 use Rattle.clap.specs.Words.{Text}
 use Rattle.sheet_arguments.specs.Faults.{Fault, bad_three}
@@ -47,6 +46,3 @@ three_asked (Some list) = or_fault (bad_three list) (three_in list) (λ three. O
 
 abbrev pub words_seen : ThreeColumns → ThreeWords
 words_seen three = record { year = three.year.now; month = three.month.now; day = three.day.now }
-
-abbrev pub parts_seen : Bor Text × Bor Text → Text × Text
-parts_seen parts = (parts.0.now, parts.1.now)

@@ -17,8 +17,10 @@ ghost use Rattle.sheet_arguments.specs.Requests.{Ask, MeanJust, are_misfits as m
 ghost use Rattle.sheet_arguments.specs.Requests.{is_misfit as misfit_spec, meaning_of, sheet_line, task_of};
 ghost use Rattle.sheet_arguments.specs.TreeValues.{is_at_odds as odds_spec, meant as meant_spec, with_three as three_spec};
 ghost use Rattle.sheet_arguments.specs.Requests.{AskMeant, given_checks};
-ghost use Rattle.sheet_arguments.specs.Requests.{AreSaidBy, FewDates, WordsAre, output_checks, value_checks, values_by};
-ghost use Rattle.sheet_arguments.specs.Requests.{spans_asked as spans_spec, wanted_by, word_checks};
+ghost use Rattle.sheet_arguments.specs.Requests.{value_checks};
+ghost use Rattle.sheet_arguments.specs.private.Requests.{AreSaidBy, FewDates, WordsAre, output_checks, values_by};
+ghost use Rattle.sheet_arguments.specs.Requests.{spans_asked as spans_spec, wanted_by};
+ghost use Rattle.sheet_arguments.specs.private.Requests.{word_checks};
 
 use crate::column_lists::chosen_columns;
 use crate::option_values::{

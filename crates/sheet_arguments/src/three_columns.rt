@@ -2,7 +2,8 @@
 
 ghost use Rattle.std.specs.Prelude.{◌≡◌, Err, IfErr, IfOk, IfSome, Ok, option_map};
 ghost use Rattle.sheet_arguments.specs.Faults.{fault_of_error};
-ghost use Rattle.sheet_arguments.specs.ThreeColumns.{cut as cut_spec, parts_seen, three_asked, three_in, words_seen};
+ghost use Rattle.sheet_arguments.specs.ThreeColumns.{cut as cut_spec, three_asked, three_in, words_seen};
+ghost use Rattle.sheet_arguments.specs.private.ThreeColumns.{parts_seen};
 
 use crate::request_faults::RequestFault;
 

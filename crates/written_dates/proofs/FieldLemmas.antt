@@ -7,7 +7,7 @@ use Rattle.std.proofs.lemmas.List.{take-append-drop}
 use Rattle.std.proofs.Math.Seq.{drop-append_seam}
 use Rattle.written_dates.specs.Signs.{bare}
 use Rattle.written_dates.specs.Tokens.{Piece, first, joins, in_front, tokens}
-use Rattle.written_dates.specs.SignViews.{may_be_blank}
+use Rattle.written_dates.specs.private.SignViews.{may_be_blank}
 use Rattle.written_dates.proofs.FrontLemmas.{first_blank, not_behind}
 use Rattle.written_dates.proofs.KindLemmas.{has_kind, none_of_kind}
 use Rattle.written_dates.proofs.KeyLemmas.{drop_drop}

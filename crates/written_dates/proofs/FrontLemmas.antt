@@ -11,7 +11,7 @@ use Rattle.written_dates.specs.Fields.{is_blank}
 use Rattle.written_dates.specs.Names.{is_empty}
 use Rattle.written_dates.specs.Signs.{◌>>=◌, at_end, bare, behind_blank, behind_hyphen, digits_first, if_digits, if_hyphen}
 use Rattle.written_dates.specs.Signs.{runs_in_front}
-use Rattle.written_dates.specs.SignViews.{may_be_blank, next_digits, runs_by_steps}
+use Rattle.written_dates.specs.private.SignViews.{may_be_blank, next_digits, runs_by_steps}
 use Rattle.written_dates.specs.Tokens.{Piece, first, in_front, joins, kind_of, tokens}
 use Rattle.written_dates.proofs.KindLemmas.{none_picked}
 use Rattle.written_dates.proofs.TokenLemmas.{single}

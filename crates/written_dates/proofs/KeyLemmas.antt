@@ -15,7 +15,7 @@ use Rattle.written_dates.specs.Tokens.{Piece}
 use Rattle.written_dates.specs.Parts.{parts, stands}
 use Rattle.written_dates.specs.Items.{longest}
 use Rattle.written_dates.specs.Words.{same_word}
-use Rattle.written_dates.specs.Keys.{key_of, key_of_chars, first_text, key, ahead, place_from, IsIndexed}
+use Rattle.written_dates.specs.private.Keys.{key_of, key_of_chars, first_text, key, ahead, place_from, IsIndexed}
 use Rattle.written_dates.specs.Names.{holds, names_in}
 use Rattle.written_dates.proofs.WordLemmas.{same_word-Decides}
 

@@ -4,7 +4,7 @@ use Rattle.std.proofs.Common.{Some, slice_get}
 use Rattle.std.proofs.lemmas.Bool.Decides.{nat_tests}
 use Rattle.written_dates.specs.Words.{same_word}
 use Rattle.written_dates.specs.Fields.{entry, meant_by}
-use Rattle.written_dates.specs.Keys.{calendar_key, key_of, place_from}
+use Rattle.written_dates.specs.private.Keys.{calendar_key, key_of, place_from}
 use Rattle.written_dates.specs.declared.fields.CalendarName.{CalendarName}
 use Rattle.written_dates.proofs.KeyLemmas.{at_place, same_key, skip}
 

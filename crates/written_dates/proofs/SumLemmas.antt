@@ -11,7 +11,7 @@ use Rattle.written_dates.specs.declared.meanings.Era.TheVariants as eras
 use Rattle.written_dates.specs.declared.meanings.Name.{Name}
 use Rattle.written_dates.specs.Tokens.{Piece}
 use Rattle.written_dates.specs.Items.{before, is_long, items}
-use Rattle.written_dates.specs.ItemViews.{resumed}
+use Rattle.written_dates.specs.private.ItemViews.{resumed}
 use Rattle.written_dates.specs.Sums.{before_era, has_sum, has_year_of, with_year, SumsStay, adds_up, joined_item, joined_or, summed, summed_from, total, value_of}
 
 -- ---- the last item may still grow

@@ -11,7 +11,7 @@ use Rattle.written_dates.specs.declared.meanings.Name.{Name}
 use Rattle.written_dates.specs.declared.written.Answer.{Answer}
 use Rattle.written_dates.specs.declared.written.Choice.{Choice}
 use Rattle.written_dates.specs.Signs.{has_minus, three_runs}
-use Rattle.written_dates.specs.SignViews.{joined_front}
+use Rattle.written_dates.specs.private.SignViews.{joined_front}
 use Rattle.written_dates.specs.Laws.{TimesAreFound, TimesAreLeftOut, TimesStandLast, UndatedTextsStay, parts_no_time}
 use Rattle.written_dates.specs.Times.{behind, begins_time, is_gap, timeless}
 use Rattle.written_dates.specs.Tokens.{tokens}

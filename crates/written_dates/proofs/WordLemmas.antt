@@ -30,8 +30,8 @@ use Rattle.unicode_normalization.specs.Decompose.{decompose_canonical}
 use Rattle.unicode_normalization.specs.Forms.{Nfd, decomposed, nfd, normalize}
 use Rattle.unicode_normalization.proofs.FormsLemmas.{normalize-ascii}
 use Rattle.unicode_normalization.proofs.OrderLemmas.{canonical_order-nil, length-canonical_order}
-use Rattle.written_dates.specs.WordViews.{OrdersMore}
-use Rattle.written_dates.specs.Keys.{key_of, key_of_chars}
+use Rattle.written_dates.specs.private.WordViews.{OrdersMore}
+use Rattle.written_dates.specs.private.Keys.{key_of, key_of_chars}
 use Rattle.written_dates.specs.Words.{folded, is_folded, is_short, same_word}
 
 -- a character and others, among which it is to stand at this place or before

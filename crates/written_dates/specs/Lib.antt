@@ -1,7 +1,6 @@
 pub mod Tokens
 pub mod Roman
 pub mod Words
-pub mod WordViews
 pub mod Parts
 pub mod Items
 pub mod Signs
@@ -10,8 +9,6 @@ pub mod Rules
 pub mod Calendars
 pub mod Names
 pub mod Sums
-pub mod ItemViews
-pub mod Keys
 pub mod SignViews
 pub mod Fields
 pub mod Weekdays
@@ -23,3 +20,4 @@ pub mod Laws
 pub mod ReadLaws
 pub mod TextLaws
 pub mod Stops
+pub mod private

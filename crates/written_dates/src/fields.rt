@@ -5,7 +5,7 @@ ghost use Rattle.std.specs.List.{list_any};
 ghost use Rattle.written_dates.specs.Fields.{without_blanks as without_spec, bare_name, entry, entries};
 ghost use Rattle.written_dates.specs.Fields.{calendar_meant, calendar_of, meant_by as meant_spec};
 ghost use Rattle.written_dates.specs.Fields.{written_calendar};
-ghost use Rattle.written_dates.specs.SignViews.{may_be_blank as may_be_blank_spec};
+ghost use Rattle.written_dates.specs.private.SignViews.{may_be_blank as may_be_blank_spec};
 
 use crate::keyed_names::KeyedNames;
 use crate::names::key_of_word;

@@ -3,7 +3,7 @@
 ghost use Rattle.std.specs.Prelude.{◌≡◌, ◌<◌, ◌≤◌, ◌+◌, ◌∷◌, [], ◌++◌, true, false, drop, length, Some, None, IfSome, IfNone, List};
 ghost use Rattle.std.specs.Prelude.{option_to_list};
 ghost use Rattle.written_dates.specs.Tokens.{piece};
-ghost use Rattle.written_dates.specs.Keys.{first_text};
+ghost use Rattle.written_dates.specs.private.Keys.{first_text};
 ghost use Rattle.written_dates.specs.Names.{names_in};
 ghost use Rattle.written_dates.specs.Parts.{parts};
 ghost use Rattle.written_dates.specs.Items.{number_of_digits as digits_spec, number_of as number_spec};
@@ -14,7 +14,7 @@ ghost use Rattle.written_dates.specs.Sums.{adds_up as adds_up_spec, found_items,
 ghost use Rattle.written_dates.specs.Sums.{before_year as before_year_spec, sum_of as sum_of_spec};
 ghost use Rattle.written_dates.specs.Sums.{behind_year as behind_year_spec, has_sum as has_sum_spec, has_year_of as has_year_spec};
 ghost use Rattle.written_dates.specs.Sums.{with_day as with_day_spec, with_year as with_year_spec};
-ghost use Rattle.written_dates.specs.ItemViews.{resumed};
+ghost use Rattle.written_dates.specs.private.ItemViews.{resumed};
 
 use crate::meanings::{Era, Mark, Meaning, Name, Relation, Word};
 use crate::names::{Names, key_of_word};

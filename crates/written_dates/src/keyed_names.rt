@@ -2,7 +2,7 @@
 
 ghost use Rattle.std.specs.Prelude.{◌≡◌, ◌<◌, ◌+◌, Some, slice_get, length, IfOk};
 ghost use Rattle.written_dates.specs.declared.fields.CalendarName.{CalendarName as NameValue};
-ghost use Rattle.written_dates.specs.Keys.{IsIndexed, place_from, calendar_key};
+ghost use Rattle.written_dates.specs.private.Keys.{IsIndexed, place_from, calendar_key};
 
 use crate::fields::CalendarName;
 use crate::names::key_of_word;

@@ -3,7 +3,7 @@
 ghost use Rattle.std.specs.Prelude.{◌≡◌, ◌<◌, ◌+◌, Some, slice_get, IfOk, IsAscii, length, true};
 ghost use Rattle.std.specs.Str.{str_to_ascii_lowercase};
 ghost use Rattle.written_dates.specs.declared.meanings.Name.{Name as NameValue};
-ghost use Rattle.written_dates.specs.Keys.{IsIndexed, place_from, key as key_spec, key_of, key_of_chars};
+ghost use Rattle.written_dates.specs.private.Keys.{IsIndexed, place_from, key as key_spec, key_of, key_of_chars};
 ghost use Rattle.written_dates.specs.Names.{is_name as is_name_spec};
 
 use crate::meanings::Name;

@@ -3,7 +3,7 @@
 ghost use Rattle.std.specs.Prelude.{◌≡◌, ◌<◌, ◌∷◌, [], false, length, IfSome, IfNone};
 ghost use Rattle.written_dates.specs.Tokens.{piece};
 ghost use Rattle.written_dates.specs.Parts.{is_part_kind, parts, stands as stands_spec};
-ghost use Rattle.written_dates.specs.SignViews.{Stands};
+ghost use Rattle.written_dates.specs.private.SignViews.{Stands};
 
 use crate::tokens::{Kind, Token, next_token};
 use crate::words::is_same_word;

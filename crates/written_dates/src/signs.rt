@@ -11,8 +11,9 @@ ghost use Rattle.written_dates.specs.Signs.{digits_first as digits_spec, behind_
 ghost use Rattle.written_dates.specs.Signs.{three_runs as runs_spec};
 ghost use Rattle.written_dates.specs.Signs.{runs_behind_minus as minus_spec};
 ghost use Rattle.written_dates.specs.Fields.{is_blank as blank_spec};
-ghost use Rattle.written_dates.specs.SignViews.{may_be_blank as may_be_blank_spec, seen_digits, seen_rest, seen_runs};
-ghost use Rattle.written_dates.specs.SignViews.{next_digits as next_spec, runs_by_steps};
+ghost use Rattle.written_dates.specs.SignViews.{seen_runs};
+ghost use Rattle.written_dates.specs.private.SignViews.{may_be_blank as may_be_blank_spec, seen_digits, seen_rest};
+ghost use Rattle.written_dates.specs.private.SignViews.{next_digits as next_spec, runs_by_steps};
 ghost use Rattle.written_dates.specs.Names.{is_empty};
 
 use crate::tokens::{Kind, byte_at, next_token, run_end};
@@ -169,7 +170,7 @@ fn behind_hyphen(text: &[u8]) -> Option<&[u8]>
 }
 
 /// The digits behind the dash of registers, and what follows.
-#[tactic(auto, unfolding(crate::specs::SignViews::next_digits))]
+#[tactic(auto, unfolding(crate::specs::private::SignViews::next_digits))]
 fn next_digits(text: &[u8]) -> Option<(&[u8], &[u8])>
     ensures { seen_digits result ≡ next_spec (tokens 0 text.now) }
 {

@@ -3,7 +3,7 @@
 ghost use Rattle.std.specs.Prelude.{◌≡◌};
 ghost use Rattle.std.specs.Char.{is_ascii_digit};
 ghost use Rattle.std.specs.List.{list_all};
-ghost use Rattle.written_dates.specs.SignViews.{seen_text};
+ghost use Rattle.written_dates.specs.private.SignViews.{seen_text};
 ghost use Rattle.written_dates.specs.Times.{begins_time as begins_spec, behind_byte as byte_spec, behind_gaps as gaps_spec};
 ghost use Rattle.written_dates.specs.Times.{behind_hour as hour_spec, behind_sixtieth as sixtieth_spec};
 ghost use Rattle.written_dates.specs.Times.{is_after_hour as after_hour_spec, is_after_minutes as after_minutes_spec};

@@ -8,7 +8,7 @@ ghost use Rattle.ucd_case.specs.CaseFolding.{full_fold};
 ghost use Rattle.unicode_normalization.specs.Decompose.{decompose_canonical};
 ghost use Rattle.unicode_normalization.specs.Forms.{nfd};
 ghost use Rattle.unicode_normalization.specs.Order.{canonical_order};
-ghost use Rattle.written_dates.specs.WordViews.{OrdersMore};
+ghost use Rattle.written_dates.specs.private.WordViews.{OrdersMore};
 ghost use Rattle.written_dates.specs.Words.{is_folded, same_word};
 
 use arrayvec::ArrayVec;

@@ -1,6 +1,6 @@
 use Rattle.std.proofs.Common.{◌≡◌, ◌∙◌, length, sym, ap}
 use Rattle.register_records.specs.Views.{layout_of, reading_of}
-use Rattle.page_rules.specs.Conversions.{sound_part}
+use Rattle.page_rules.specs.private.Conversions.{sound_part}
 use Rattle.page_rules.specs.Rooms.{with_front}
 use Rattle.page_rules.proofs.RoomLemmas.{header_put, if_broken, many_put, nothing_put, part_put, sealed_put}
 use Rattle.page_rules.proofs.RoomLemmas.{whole_put}

@@ -2,8 +2,8 @@ use Rattle.std.proofs.Common.{◌≡◌, ◌-◌, ◌++◌, List, ℕ, length}
 use Rattle.std.specs.Int.{div_ceil}
 use Rattle.register_records.specs.Entries.{Fields}
 use Rattle.page_rules.specs.Fields.{fields_by, groups}
-use Rattle.page_rules.specs.FieldViews.{fields_left}
-use Rattle.page_rules.specs.RecordViews.{HasLines}
+use Rattle.page_rules.specs.private.FieldViews.{fields_left}
+use Rattle.page_rules.specs.private.RecordViews.{HasLines}
 use Rattle.page_rules.proofs.writing.write.Given as goal
 
 abbrev pub invariant-groups : goal.invariant-groups

@@ -1,6 +1,6 @@
 use Rattle.std.proofs.Common.{◌≡◌, ◌++◌, List, length, min}
 use Rattle.register_sheets.proofs.Common.{Fields, text_records, IsReading, left_of}
-use Rattle.register_sheets.specs.WidthViews.{IsWidth}
+use Rattle.register_sheets.proofs.WidthViews.{IsWidth}
 use Rattle.register_sheets.proofs.converting.width_of.Given as goal
 
 abbrev pub invariant-records : goal.invariant-records

@@ -4,7 +4,7 @@ use Rattle.register_sheets.proofs.Common.{Fields, row_seen, Dated, DatedEnd, Gai
 use Rattle.register_records.specs.Outcomes.{TableRow}
 use Rattle.register_sheets.specs.Converted.{asked_cells, shown_in}
 use Rattle.register_sheets.specs.DateEnds.{mark_text, told}
-use Rattle.register_sheets.specs.DateViews.{edtf_field, fields_behind}
+use Rattle.register_sheets.specs.private.DateViews.{edtf_field, fields_behind}
 use Rattle.register_sheets.proofs.LineLemmas.{both_gained, gained_at_last}
 use Rattle.register_sheets.proofs.record_lines.push_ends.Goals as goal
 

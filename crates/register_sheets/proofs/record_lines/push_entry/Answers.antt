@@ -1,8 +1,8 @@
 use Rattle.std.proofs.Common.{◌≡◌, ◌∙◌, ◌∷◌, [], ℕ, List, ap, rules}
 use Rattle.register_sheets.proofs.Common.{fields_of, id_text, date_seen, record_read}
 use Rattle.register_sheets.specs.CalendarChanges.{end_calendar}
-use Rattle.register_sheets.specs.RecordLines.{entry_at, entry_of}
-use Rattle.register_sheets.specs.SheetRecords.{end_seen}
+use Rattle.register_sheets.specs.private.RecordLines.{entry_at, entry_of}
+use Rattle.register_sheets.specs.private.SheetRecords.{end_seen}
 use Rattle.register_sheets.proofs.LineLemmas.{both_gained, gained_at_last}
 use Rattle.register_sheets.proofs.record_lines.push_entry.Goals as goal
 

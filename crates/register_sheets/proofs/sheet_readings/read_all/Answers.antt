@@ -1,6 +1,6 @@
 use Rattle.std.proofs.Common.{◌∙◌, ◌∷◌, [], ap, arith, length, length-append, refl, subst, sym, Ok}
 use Rattle.register_sheets.proofs.Common.{given_of, Takes, AreRecordsRead, record_read}
-use Rattle.register_sheets.specs.SheetRecords.{IsRecordRead}
+use Rattle.register_sheets.specs.private.SheetRecords.{IsRecordRead}
 use Rattle.register_sheets.specs.declared.choices.SheetSetup.{SheetSetup}
 use Rattle.register_sheets.specs.declared.sheet_records.SheetRecord.{SheetRecord}
 use Rattle.register_sheets.proofs.ReadingLemmas.{reads_more}

@@ -1,6 +1,6 @@
 use Rattle.std.proofs.Common.{◌≡◌, ◌-◌, length, true}
 use Rattle.register_sheets.proofs.Common.{record_limit, given_of, Takes, AreRecordsRead}
-use Rattle.register_sheets.specs.SheetReaders.{goes_on, records_under}
+use Rattle.register_sheets.specs.private.SheetReaders.{goes_on, records_under}
 use Rattle.register_sheets.proofs.sheet_readings.read_all.Given as goal
 
 abbrev pub invariant-records : goal.invariant-records

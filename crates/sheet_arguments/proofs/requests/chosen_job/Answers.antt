@@ -4,8 +4,9 @@ use Rattle.programs.proofs.MeaningLemmas.{AllPass}
 use Rattle.programs.specs.Meanings.{FailFirst}
 use Rattle.sheet_arguments.specs.CommandLine.{Values}
 use Rattle.sheet_arguments.specs.Faults.{Fault}
-use Rattle.sheet_arguments.specs.Requests.{AreSaidBy, FewDates, output_checks, result_check, value_checks, values_by}
-use Rattle.sheet_arguments.specs.Requests.{word_checks}
+use Rattle.sheet_arguments.specs.Requests.{result_check, value_checks}
+use Rattle.sheet_arguments.specs.private.Requests.{AreSaidBy, FewDates, output_checks, values_by}
+use Rattle.sheet_arguments.specs.private.Requests.{word_checks}
 use Rattle.sheet_arguments.specs.ThreeColumns.{three_asked}
 use Rattle.sheet_arguments.specs.WordLists.{columns_asked}
 use Rattle.sheet_arguments.specs.declared.requests.Reading.{Reading}

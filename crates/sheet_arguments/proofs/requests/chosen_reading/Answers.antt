@@ -5,7 +5,7 @@ use Rattle.programs.specs.Values.{delimiter_option}
 use Rattle.sheet_arguments.specs.Faults.{Fault, bad_short_hebrew_years, bad_short_other_years, bad_short_years}
 use Rattle.sheet_arguments.specs.Faults.{bad_skip, unknown_delimiter, unknown_order}
 use Rattle.sheet_arguments.specs.OptionValues.{order_option, short_hebrew_option, short_option, skip_option}
-use Rattle.sheet_arguments.specs.Requests.{other_said, word_checks}
+use Rattle.sheet_arguments.specs.private.Requests.{other_said, word_checks}
 use Rattle.sheet_arguments.proofs.FaultLemmas.{one_up}
 use Rattle.sheet_arguments.proofs.requests.chosen_reading.Goals as goal
 

@@ -4,7 +4,8 @@ use Rattle.std.specs.Prelude.{IfErr, IfSome, false}
 use Rattle.programs.specs.Meanings.{FailFirst}
 use Rattle.sheet_arguments.specs.CommandLine.{Values}
 use Rattle.sheet_arguments.specs.Faults.{fault_of_error, tree_at_odds}
-use Rattle.sheet_arguments.specs.Requests.{false_check, value_checks, values_by}
+use Rattle.sheet_arguments.specs.Requests.{false_check, value_checks}
+use Rattle.sheet_arguments.specs.private.Requests.{values_by}
 use Rattle.sheet_arguments.specs.TreeValues.{is_at_odds, meant}
 use Rattle.sheet_arguments.proofs.FaultLemmas.{later_fails}
 use Rattle.sheet_arguments.proofs.requests.meant_job.Goals as goal

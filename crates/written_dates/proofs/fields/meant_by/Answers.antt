@@ -3,7 +3,7 @@ use Rattle.std.proofs.lemmas.List.{at_drop_all}
 use Rattle.std.proofs.lemmas.Option.{slice_get-get_or}
 use Rattle.written_dates.specs.declared.fields.CalendarName.{CalendarName}
 use Rattle.written_dates.specs.Fields.{entry, meant_by}
-use Rattle.written_dates.specs.Keys.{calendar_key, key_of, place_from}
+use Rattle.written_dates.specs.private.Keys.{calendar_key, key_of, place_from}
 use Rattle.written_dates.specs.Words.{same_word}
 use Rattle.written_dates.proofs.FieldLemmas.{no_name}
 use Rattle.written_dates.proofs.KeyLemmas.{keyed_from}

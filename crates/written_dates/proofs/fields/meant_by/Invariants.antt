@@ -1,7 +1,7 @@
 use Rattle.std.proofs.Common.{◌≡◌, ◌-◌, drop, length, map, Some, slice_get}
 use Rattle.written_dates.specs.declared.fields.CalendarName.{CalendarName}
 use Rattle.written_dates.specs.Fields.{entry, meant_by}
-use Rattle.written_dates.specs.Keys.{calendar_key, key_of}
+use Rattle.written_dates.specs.private.Keys.{calendar_key, key_of}
 use Rattle.written_dates.proofs.fields.meant_by.Given as goal
 
 abbrev pub invariant-names : goal.invariant-names

@@ -1,6 +1,6 @@
 use Rattle.std.proofs.Common.{◌∙◌, ap, sym}
 use Rattle.std.specs.Prelude.{option_map}
-use Rattle.written_dates.specs.ItemViews.{resumed}
+use Rattle.written_dates.specs.private.ItemViews.{resumed}
 use Rattle.written_dates.proofs.SumLemmas.{all_items, full_items, more_resumed, no_items, none_resumed}
 use Rattle.written_dates.proofs.items.items_of.Goals as goal
 

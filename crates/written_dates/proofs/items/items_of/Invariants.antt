@@ -3,7 +3,7 @@ use Rattle.std.specs.Prelude.{option_map}
 use Rattle.written_dates.specs.Parts.{parts}
 use Rattle.written_dates.specs.Names.{names_in}
 use Rattle.written_dates.specs.Items.{items}
-use Rattle.written_dates.specs.ItemViews.{resumed}
+use Rattle.written_dates.specs.private.ItemViews.{resumed}
 use Rattle.written_dates.specs.Sums.{found_items}
 use Rattle.written_dates.proofs.items.items_of.Given as goal
 

@@ -2,7 +2,7 @@ use Rattle.std.proofs.Common.{◌≡◌, ◌+◌, ◌∙◌, ap, refl, Some, sli
 use Rattle.std.proofs.lemmas.Option.{slice_get-get_or}
 use Rattle.written_dates.specs.declared.meanings.Meaning.TheVariants.{Nothing}
 use Rattle.written_dates.specs.Parts.{parts}
-use Rattle.written_dates.specs.Keys.{key, key_of, first_text}
+use Rattle.written_dates.specs.private.Keys.{key, key_of, first_text}
 use Rattle.written_dates.proofs.KeyLemmas.{looked_up, keyed_at, next_same, no_name_at}
 use Rattle.written_dates.proofs.items.longest.Goals as goal
 

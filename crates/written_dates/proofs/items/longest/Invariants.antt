@@ -3,7 +3,7 @@ use Rattle.written_dates.specs.declared.meanings.Meaning.TheVariants.{Nothing}
 use Rattle.written_dates.specs.declared.meanings.Name.{Name}
 use Rattle.written_dates.specs.Parts.{parts}
 use Rattle.written_dates.specs.Items.{longest}
-use Rattle.written_dates.specs.Keys.{key, key_of, first_text}
+use Rattle.written_dates.specs.private.Keys.{key, key_of, first_text}
 use Rattle.written_dates.specs.Names.{names_in}
 use Rattle.written_dates.proofs.items.longest.Given as goal
 

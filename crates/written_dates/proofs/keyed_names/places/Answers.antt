@@ -1,7 +1,7 @@
 use Rattle.std.proofs.Common.{◌≡◌, ◌-◌, ◌∙◌, rules, Some, slice_get, get_or, arith}
 use Rattle.std.proofs.lemmas.Option.{slice_get-get_or}
 use Rattle.std.proofs.lemmas.Grind.{get_or_default_zero}
-use Rattle.written_dates.specs.Keys.{calendar_key}
+use Rattle.written_dates.specs.private.Keys.{calendar_key}
 use Rattle.written_dates.proofs.FieldLemmas.{no_name}
 use Rattle.written_dates.proofs.KeyLemmas.{indexed_more, nothing_indexed}
 use Rattle.written_dates.proofs.keyed_names.places.Goals as goal

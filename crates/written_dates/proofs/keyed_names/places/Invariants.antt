@@ -1,5 +1,5 @@
 use Rattle.std.proofs.Common.{◌≤◌, length}
-use Rattle.written_dates.specs.Keys.{IsIndexed, calendar_key}
+use Rattle.written_dates.specs.private.Keys.{IsIndexed, calendar_key}
 use Rattle.written_dates.proofs.keyed_names.places.Given as goal
 
 abbrev pub invariant-names : goal.invariant-names

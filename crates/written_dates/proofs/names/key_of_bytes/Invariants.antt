@@ -1,6 +1,6 @@
 use Rattle.std.proofs.Common.{◌≡◌, ◌<◌, ℕ, get_or, take, true}
 use Rattle.std.specs.Str.{str_to_ascii_lowercase}
-use Rattle.written_dates.specs.Keys.{key_of_chars}
+use Rattle.written_dates.specs.private.Keys.{key_of_chars}
 use Rattle.written_dates.proofs.names.key_of_bytes.Given as goal
 
 abbrev pub invariant-bytes : goal.invariant-bytes

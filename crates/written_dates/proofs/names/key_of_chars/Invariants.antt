@@ -1,5 +1,5 @@
 use Rattle.std.proofs.Common.{◌≡◌, ◌<◌, take}
-use Rattle.written_dates.specs.Keys.{key_of_chars}
+use Rattle.written_dates.specs.private.Keys.{key_of_chars}
 use Rattle.written_dates.proofs.names.key_of_chars.Given as goal
 
 abbrev pub invariant-chars : goal.invariant-chars

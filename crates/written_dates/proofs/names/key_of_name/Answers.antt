@@ -1,5 +1,5 @@
 use Rattle.std.proofs.Common.{ap, sym, ◌∙◌}
-use Rattle.written_dates.specs.Keys.{key_of, first_text}
+use Rattle.written_dates.specs.private.Keys.{key_of, first_text}
 use Rattle.written_dates.proofs.WordLemmas.{key_of_none}
 use Rattle.written_dates.proofs.names.key_of_name.Goals as goal
 

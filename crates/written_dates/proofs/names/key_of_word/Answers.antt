@@ -1,5 +1,5 @@
 use Rattle.std.proofs.Common.{◌∙◌, ap, sym}
-use Rattle.written_dates.specs.Keys.{key_of_chars}
+use Rattle.written_dates.specs.private.Keys.{key_of_chars}
 use Rattle.written_dates.proofs.WordLemmas.{folded-ascii, folded-plain, folded-read}
 use Rattle.written_dates.proofs.names.key_of_word.Goals as goal
 

@@ -1,6 +1,6 @@
 use Rattle.std.proofs.Common.{◌≡◌, ◌≤◌, ◌-◌, length, take, drop}
 use Rattle.written_dates.specs.Times.{timeless}
-use Rattle.written_dates.specs.SignViews.{joined_front}
+use Rattle.written_dates.specs.private.SignViews.{joined_front}
 use Rattle.written_dates.proofs.times.timeless.Given as goal
 
 abbrev pub invariant-bytes : goal.invariant-bytes

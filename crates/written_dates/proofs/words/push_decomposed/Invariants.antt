@@ -1,5 +1,5 @@
 use Rattle.std.proofs.Common.{take}
-use Rattle.written_dates.specs.WordViews.{OrdersMore}
+use Rattle.written_dates.specs.private.WordViews.{OrdersMore}
 use Rattle.written_dates.proofs.words.push_decomposed.Given as goal
 
 abbrev pub invariant-parts : goal.invariant-parts

@@ -1,5 +1,5 @@
 use Rattle.std.proofs.Common.{◌≤◌, ◌∙◌, sym, arith}
-use Rattle.page_rules.specs.FieldViews.{fields_left}
+use Rattle.page_rules.specs.private.FieldViews.{fields_left}
 use Rattle.register_sheets.proofs.ListLemmas.{all_taken, one_taken}
 use Rattle.page_rules.proofs.field_lists.FieldsLeft.take_record.Goals as goal
 

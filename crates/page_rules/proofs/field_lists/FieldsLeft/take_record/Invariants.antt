@@ -1,6 +1,6 @@
 use Rattle.std.proofs.Common.{◌≡◌, [], drop, take}
 use Rattle.csv.specs.Records.{fields_of, partial_of}
-use Rattle.page_rules.specs.FieldViews.{fields_left}
+use Rattle.page_rules.specs.private.FieldViews.{fields_left}
 use Rattle.page_rules.proofs.field_lists.FieldsLeft.take_record.Given as goal
 
 abbrev pub invariant-fields : goal.invariant-fields

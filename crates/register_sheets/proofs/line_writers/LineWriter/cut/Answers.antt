@@ -1,5 +1,5 @@
 use Rattle.std.proofs.Common.{◌∙◌, refl, subst, sym}
-use Rattle.register_sheets.specs.LineWriters.{Stands}
+use Rattle.register_sheets.specs.private.LineWriters.{Stands}
 use Rattle.register_sheets.proofs.LineWriterLemmas.{makes_after, no_fault, stands_cut}
 use Rattle.register_sheets.proofs.line_writers.LineWriter.cut.Goals as goal
 

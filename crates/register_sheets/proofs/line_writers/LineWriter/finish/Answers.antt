@@ -1,6 +1,6 @@
 use Rattle.std.proofs.Common.{◌∙◌, [], Result, subst, sym}
 use Rattle.register_sheets.proofs.Common.{AreLines, Produced, SheetCause, ending_of}
-use Rattle.register_sheets.specs.LineWriters.{Stands}
+use Rattle.register_sheets.specs.private.LineWriters.{Stands}
 use Rattle.register_sheets.specs.declared.sheet_ends.SheetCause.TheVariants as cause
 use Rattle.register_sheets.proofs.LineWriterLemmas.{agrees_read, finishes_fault, finishes_stopped, memory_is, no_other}
 use Rattle.register_sheets.proofs.LineWriterLemmas.{produced_fault, produced_sent}

@@ -1,7 +1,7 @@
 use Rattle.std.proofs.Common.{◌≡◌, ◌≤◌, ◌∙◌, None, Some, ap, length, rules, subst, sym, OnOk, slice_get}
 use Rattle.register_sheets.proofs.Common.{Fields, GainsFields, date_seen, record_read, ColumnDates}
 use Rattle.std.proofs.lemmas.Option.{slice_get-get_or}
-use Rattle.register_sheets.specs.RecordLines.{if_dated}
+use Rattle.register_sheets.specs.private.RecordLines.{if_dated}
 use Rattle.register_sheets.proofs.LineLemmas.{none_gained}
 use Rattle.register_sheets.proofs.RowLemmas.{none_behind, none_seen, seen_at}
 use Rattle.register_sheets.proofs.record_lines.EntryLineRecordLine.push.Goals as goal

@@ -2,7 +2,7 @@ use Rattle.std.proofs.Common.{◌≡◌, ◌∙◌, [], ℕ, List, Option, ap, r
 use Rattle.register_sheets.proofs.Common.{fields_of, Calendar, calendar_for, id_text, AreEndsIn, as_text, IsStopBy}
 use Rattle.register_sheets.proofs.Common.{dated_seen}
 use Rattle.std.proofs.lemmas.Result.{on_ok_weaker}
-use Rattle.register_sheets.specs.SheetRecords.{stop_read}
+use Rattle.register_sheets.specs.private.SheetRecords.{stop_read}
 use Rattle.register_sheets.specs.UnknownViews.{if_stop}
 use Rattle.register_sheets.proofs.AcceptedLemmas.{accepted_date}
 use Rattle.register_sheets.proofs.DateLemmas.{date_is_read}

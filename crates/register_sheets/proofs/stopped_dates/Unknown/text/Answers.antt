@@ -1,7 +1,7 @@
 use Rattle.std.proofs.Common.{◌≡◌, ◌<◌, ◌∙◌, [], ℕ, List, get_or, ap, append-nil, arith, length, map, subst, sym, take}
 use Rattle.std.proofs.Common.{take_all}
 use Rattle.register_sheets.proofs.Common.{line_text, list_head, name_record, name_seen, UnknownName}
-use Rattle.register_sheets.specs.LineViews.{Begins}
+use Rattle.register_sheets.specs.private.LineViews.{Begins}
 use Rattle.register_sheets.specs.UnknownNames.{list_text}
 use Rattle.register_sheets.proofs.FoundLemmas.{listed_more}
 use Rattle.register_sheets.proofs.stopped_dates.Unknown.text.Goals as goal

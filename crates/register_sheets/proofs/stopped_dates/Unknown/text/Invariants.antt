@@ -1,6 +1,6 @@
 use Rattle.std.proofs.Common.{◌∷◌, [], map, take}
 use Rattle.register_sheets.proofs.Common.{records_text, list_head, name_record, name_seen}
-use Rattle.register_sheets.specs.LineViews.{Begins}
+use Rattle.register_sheets.specs.private.LineViews.{Begins}
 use Rattle.register_sheets.proofs.stopped_dates.Unknown.text.Given as goal
 
 abbrev pub invariant-names : goal.invariant-names

@@ -5,7 +5,8 @@ use Rattle.std.proofs.lemmas.List.{get_or-map, length-map, map-set}
 use Rattle.std.proofs.lemmas.Option.{slice_get_within}
 use Rattle.std.proofs.lemmas.Result.{on_ok_weaker}
 use Rattle.register_sheets.specs.UnknownNames.{AreNames, name_seen as count_seen}
-use Rattle.register_sheets.specs.UnknownViews.{name_seen, named}
+use Rattle.register_sheets.specs.UnknownViews.{name_seen}
+use Rattle.register_sheets.specs.private.UnknownViews.{named}
 use Rattle.register_sheets.proofs.StopLemmas.{has, name_counted, named_are, names_full, names_new, one_more}
 use Rattle.register_sheets.proofs.stopped_names.StoppedNames.count.Goals as goal
 

@@ -1,6 +1,7 @@
 use Rattle.std.proofs.Common.{◌∙◌, ap, arith, sym}
 use Rattle.register_sheets.proofs.Common.{NameStop, is_alike}
-use Rattle.register_sheets.specs.UnknownViews.{name_seen, named}
+use Rattle.register_sheets.specs.UnknownViews.{name_seen}
+use Rattle.register_sheets.specs.private.UnknownViews.{named}
 use Rattle.register_sheets.proofs.StopLemmas.{named_at, none_more}
 use Rattle.register_sheets.proofs.stopped_names.StoppedNames.place_of.Goals as goal
 

@@ -1,6 +1,6 @@
 use Rattle.std.proofs.Common.{◌≡◌, ◌+◌, ◌∙◌, arith, get_or, drop}
 use Rattle.std.proofs.lemmas.Grind.{get_or_default_zero}
-use Rattle.written_dates.specs.Keys.{calendar_key, ahead}
+use Rattle.written_dates.specs.private.Keys.{calendar_key, ahead}
 use Rattle.written_dates.proofs.KeyLemmas.{some_at}
 use Rattle.written_dates.proofs.keyed_names.KeyedNames.next_behind.Goals as goal
 

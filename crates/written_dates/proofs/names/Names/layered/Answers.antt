@@ -1,7 +1,7 @@
 use Rattle.std.proofs.Common.{◌≡◌, ◌-◌, ◌∙◌, rules, Some, slice_get, get_or, arith}
 use Rattle.std.proofs.lemmas.Option.{slice_get-get_or}
 use Rattle.std.proofs.lemmas.Grind.{get_or_default_zero}
-use Rattle.written_dates.specs.Keys.{key}
+use Rattle.written_dates.specs.private.Keys.{key}
 use Rattle.written_dates.proofs.KeyLemmas.{indexed_more, nothing_indexed, no_name_at}
 use Rattle.written_dates.proofs.names.Names.layered.Goals as goal
 

@@ -1,5 +1,5 @@
 use Rattle.std.proofs.Common.{◌≤◌, length}
-use Rattle.written_dates.specs.Keys.{IsIndexed, key}
+use Rattle.written_dates.specs.private.Keys.{IsIndexed, key}
 use Rattle.written_dates.proofs.names.Names.layered.Given as goal
 
 abbrev pub invariant-names : goal.invariant-names

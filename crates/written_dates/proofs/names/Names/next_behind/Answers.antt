@@ -1,6 +1,6 @@
 use Rattle.std.proofs.Common.{◌≡◌, ◌+◌, ◌∙◌, arith, get_or, drop}
 use Rattle.std.proofs.lemmas.Grind.{get_or_default_zero}
-use Rattle.written_dates.specs.Keys.{key, ahead}
+use Rattle.written_dates.specs.private.Keys.{key, ahead}
 use Rattle.written_dates.proofs.KeyLemmas.{some_at}
 use Rattle.written_dates.proofs.names.Names.next_behind.Goals as goal
 

@@ -5,7 +5,7 @@ use Rattle.register_sheets.specs.CalendarChanges.{EndText, end_calendar}
 use Rattle.register_sheets.specs.Choices.{id_text}
 use Rattle.register_sheets.specs.Converted.{body_record}
 use Rattle.register_sheets.specs.DateEnds.{as_text, one_end}
-use Rattle.register_sheets.specs.SheetRecords.{DateRead, RecordRead, rows_read}
+use Rattle.register_sheets.specs.private.SheetRecords.{DateRead, RecordRead, rows_read}
 use Rattle.register_sheets.specs.declared.choices.End.{End}
 use Rattle.register_sheets.specs.declared.choices.SheetChoice.{SheetChoice}
 

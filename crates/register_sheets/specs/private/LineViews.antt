@@ -1,4 +1,4 @@
--- What a clause sees of `SheetLines`. No public contract cites this file.
+-- What a clause sees of `SheetLines`.
 use Rattle.std.specs.Prelude.{◌≡◌, ◌≤◌, ◌++◌, ℕ, true, false, List, [], length}
 use Rattle.register_records.specs.LineRoom as buffer
 use Rattle.register_records.specs.LineViews.{line_bytes}

@@ -1,4 +1,4 @@
--- How words are folded. No public contract cites this file.
+-- How words are folded.
 use Rattle.std.specs.Prelude.{◌≡◌, ℕ, ◌+◌, ◌≤◌, List, ◌++◌, length}
 use Rattle.unicode_normalization.specs.Order.{canonical_order}
 

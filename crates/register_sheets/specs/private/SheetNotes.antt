@@ -1,12 +1,12 @@
--- What is noted of a sheet while its records are read. No public contract cites this file.
+-- What is noted of a sheet while its records are read.
 use Rattle.std.specs.Prelude.{◌≡◌, ◌^◌, ◌<◌, ◌+◌, ℕ, Bool, Err, List, Ok, Option, Result, false, length, map, true}
 use Rattle.std.specs.List.{AllZip}
 use Rattle.register_records.specs.Entries.{record_limit}
 use Rattle.register_sheets.specs.DateCounts.{AreSheetCounts}
 use Rattle.register_sheets.specs.DateStops.{DateStop, IsStopOf, SheetDate}
-use Rattle.register_sheets.specs.SheetRecords.{RecordRead, fields_read, rows_read}
+use Rattle.register_sheets.specs.private.SheetRecords.{RecordRead, fields_read, rows_read}
 use Rattle.register_sheets.specs.UnknownNames.{AreCounts, all_dates, names_in}
-use Rattle.register_sheets.specs.UnknownViews.{HasNames}
+use Rattle.register_sheets.specs.private.UnknownViews.{HasNames}
 use Rattle.register_sheets.specs.declared.choices.SheetChoice.{SheetChoice}
 use Rattle.register_sheets.specs.declared.sheet_notes.Found.{Found}
 use Rattle.register_sheets.specs.declared.sheet_notes.SheetNotes.{SheetNotes}

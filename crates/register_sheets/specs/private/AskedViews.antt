@@ -1,4 +1,4 @@
--- The columns asked, as the code goes through them. No public contract cites this file.
+-- The columns asked, as the code goes through them.
 use Rattle.std.specs.Prelude.{Bool, true, false, List, [], ◌∷◌}
 use Rattle.register_sheets.specs.declared.choices.AskedColumn.{AskedColumn}
 use Rattle.register_sheets.specs.declared.choices.AskedColumn.TheVariants.{Cells, DayNumber, Weekday}

@@ -1,4 +1,4 @@
--- What a clause sees of `NewNames`. No public contract cites this file.
+-- What a clause sees of `NewNames`.
 use Rattle.std.specs.Prelude.{◌≡◌, ◌++◌, [], Bool, get_or, map}
 use Rattle.csv.specs.Records.{fields_of}
 use Rattle.register_records.specs.Entries.{Fields}

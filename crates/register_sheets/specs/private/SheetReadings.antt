@@ -1,15 +1,15 @@
--- One reading of a sheet, and what is made of it. No public contract cites this file.
+-- One reading of a sheet, and what is made of it.
 use Rattle.std.specs.Prelude.{◌≡◌, ◌≤◌, ◌<◌, ◌⊎◌, ◌++◌, ◌∷◌, [], ℕ, List, IfErr, Ok, Err, OnOk, Result, Some, length}
 use Rattle.std.specs.Prelude.{◌-◌, if◌then◌else◌, map, nat_lt, slice_get, take}
 use Rattle.register_records.specs.Entries.{Fields, record_limit}
 use Rattle.register_records.specs.declared.outputs.Output as outputs
 use Rattle.register_sheets.specs.Converted.{below, sheet_width}
-use Rattle.register_sheets.specs.LineWriters.{Gathers, GathersEach, Makes, Waits}
-use Rattle.register_sheets.specs.RecordLines.{body_line, entry_line}
+use Rattle.register_sheets.specs.private.LineWriters.{Gathers, GathersEach, Makes, Waits}
+use Rattle.register_sheets.specs.private.RecordLines.{body_line, entry_line}
 use Rattle.register_sheets.specs.Registers.{register_head}
-use Rattle.register_sheets.specs.Sending.{top_records}
-use Rattle.register_sheets.specs.SheetNotes.{HasNotes}
-use Rattle.register_sheets.specs.SheetRecords.{AreRecordsRead, RecordRead, fields_read}
+use Rattle.register_sheets.specs.private.Sending.{top_records}
+use Rattle.register_sheets.specs.private.SheetNotes.{HasNotes}
+use Rattle.register_sheets.specs.private.SheetRecords.{AreRecordsRead, RecordRead, fields_read}
 use Rattle.register_sheets.specs.declared.choices.End.TheVariants as ends
 use Rattle.register_sheets.specs.declared.choices.SheetChoice.{SheetChoice}
 use Rattle.register_sheets.specs.declared.line_writers.LineWriter.{LineWriter}

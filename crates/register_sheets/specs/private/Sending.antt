@@ -1,10 +1,10 @@
--- How far records are written to an output. No public contract cites this file.
+-- How far records are written to an output.
 use Rattle.std.specs.Prelude.{◌≡◌, ◌⊎◌, ◌++◌, ℕ, true, List, [], Option, Result, IfErr, OnOk, ◌∷◌, drop, get_or}
 use Rattle.std.specs.Prelude.{map, take}
 use Rattle.std.specs.Io.KnownBytes.{Appends}
 use Rattle.register_records.specs.Entries.{Fields}
 use Rattle.register_records.specs.declared.outputs.Output as outputs
-use Rattle.register_sheets.specs.LineViews.{Begins}
+use Rattle.register_sheets.specs.private.LineViews.{Begins}
 use Rattle.register_sheets.specs.Sheets.{filled, records_text}
 use Rattle.register_sheets.specs.declared.choices.SheetChoice.{SheetChoice}
 use Rattle.register_sheets.specs.declared.lines.SheetLines.{SheetLines}

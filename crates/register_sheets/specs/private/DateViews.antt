@@ -1,4 +1,4 @@
--- What a clause sees of the rows of a date. No public contract cites this file.
+-- What a clause sees of the rows of a date.
 use Rattle.std.specs.Prelude.{◌≡◌, ◌++◌, ℕ, Bool, true, false, List, [], ◌∷◌, codes, is_ok, length, nat_le}
 use Rattle.register_records.specs.Entries.{Fields, Numbered, body_of}
 use Rattle.register_records.specs.Outcomes.{IsRowOf}
@@ -7,7 +7,7 @@ use Rattle.register_sheets.specs.CalendarChanges.{row_calendar, row_text}
 use Rattle.register_sheets.specs.Choices.{asked_targets}
 use Rattle.register_sheets.specs.Converted.{asked_cells, shown_in}
 use Rattle.register_sheets.specs.DateEnds.{Dated, DatedEnd, as_text, mark_text, told}
-use Rattle.register_sheets.specs.SheetRecords.{dated_seen}
+use Rattle.register_sheets.specs.private.SheetRecords.{dated_seen}
 use Rattle.register_sheets.specs.declared.calendar_changes.EndCalendar.TheVariants.{OfRecord}
 use Rattle.register_sheets.specs.declared.choices.AskedColumn.{AskedColumn}
 use Rattle.register_sheets.specs.declared.choices.SheetChoice.{SheetChoice}

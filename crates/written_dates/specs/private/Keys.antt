@@ -1,4 +1,4 @@
--- By which keys names are found. No public contract cites this file.
+-- By which keys names are found.
 use Rattle.std.specs.Prelude.{◌≡◌, ℕ, suc, ◌+◌, ◌*◌, ◌%◌, ◌<◌, ◌==◌, if◌then◌else◌, List, [], ◌∷◌, drop, fold, length}
 use Rattle.std.specs.Prelude.{get_or, Some, slice_get}
 use Rattle.written_dates.specs.declared.fields.CalendarName.{CalendarName}

@@ -1,4 +1,4 @@
--- What a clause sees of a date whose text names its calendar. No public contract cites this file.
+-- What a clause sees of a date whose text names its calendar.
 use Rattle.register_sheets.specs.OwnCalendars.{OwnDate}
 use Rattle.register_sheets.specs.declared.own_calendars.OwnDate.{OwnDate as OwnDateValue}
 

@@ -1,4 +1,4 @@
--- Items of which the last may still grow. No public contract cites this file.
+-- Items of which the last may still grow.
 use Rattle.std.specs.Prelude.{List, [], ◌∷◌}
 use Rattle.written_dates.specs.declared.items.Item.{Item}
 use Rattle.written_dates.specs.Sums.{summed, summed_from}

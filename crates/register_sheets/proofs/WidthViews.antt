@@ -1,4 +1,4 @@
--- The width of the first records of a sheet. No public contract cites this file.
+-- The width of the first records of a sheet.
 use Rattle.std.specs.Prelude.{◌≡◌, ◌≤◌, ◌<◌, ℕ, List, Option, None, Some, length, drop}
 use Rattle.register_records.specs.Entries.{Fields}
 use Rattle.register_sheets.specs.Sheets.{widest}

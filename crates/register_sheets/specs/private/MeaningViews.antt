@@ -1,4 +1,4 @@
--- What a clause sees of the texts of meanings. No public contract cites this file.
+-- What a clause sees of the texts of meanings.
 use Rattle.std.specs.Prelude.{Bool, true, false}
 use Rattle.written_dates.specs.declared.meanings.Meaning.{Meaning}
 use Rattle.written_dates.specs.declared.meanings.Meaning.TheVariants as meaning

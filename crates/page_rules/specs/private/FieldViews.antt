@@ -1,4 +1,4 @@
--- What a clause sees of `FieldsLeft`. No public contract cites this file.
+-- What a clause sees of `FieldsLeft`.
 use Rattle.std.specs.Prelude.{ℕ, List}
 use Rattle.page_rules.specs.Fields.{fields_by}
 use Rattle.page_rules.specs.declared.field_lists.FieldsLeft.{FieldsLeft}

@@ -3,7 +3,7 @@ use Rattle.std.specs.Prelude.{◌≡◌, ◌≢◌, ◌⊎◌, ◌+◌, ◌++◌
 use Rattle.std.specs.Prelude.{length}
 use Rattle.register_records.specs.Entries.{Fields, record_limit}
 use Rattle.register_sheets.specs.Reading.{left_of}
-use Rattle.register_sheets.specs.SheetRecords.{IsRecordRead, RecordRead, fields_read, record_read}
+use Rattle.register_sheets.specs.private.SheetRecords.{IsRecordRead, RecordRead, fields_read, record_read}
 use Rattle.register_sheets.specs.declared.choices.SheetChoice.{SheetChoice}
 use Rattle.register_sheets.specs.declared.sheet_ends.SheetCause.{SheetCause}
 use Rattle.register_sheets.specs.declared.sheet_ends.SheetCause.TheVariants as cause

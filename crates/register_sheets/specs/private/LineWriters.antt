@@ -3,9 +3,10 @@ use Rattle.std.specs.Prelude.{◌≡◌, ◌++◌, ◌∷◌, ⊤, [], ℕ, List
 use Rattle.std.specs.Prelude.{true}
 use Rattle.register_records.specs.Entries.{Fields}
 use Rattle.register_records.specs.declared.outputs.Output as outputs
-use Rattle.register_sheets.specs.Produced.{Agrees, AreLines, Produced, ending_of}
-use Rattle.register_sheets.specs.Sending.{Ends, HasFront, HasMade}
-use Rattle.register_sheets.specs.SheetRecords.{RecordRead}
+use Rattle.register_sheets.specs.Produced.{Produced, ending_of}
+use Rattle.register_sheets.specs.private.Produced.{Agrees, AreLines}
+use Rattle.register_sheets.specs.private.Sending.{Ends, HasFront, HasMade}
+use Rattle.register_sheets.specs.private.SheetRecords.{RecordRead}
 use Rattle.register_sheets.specs.declared.choices.SheetChoice.{SheetChoice}
 use Rattle.register_sheets.specs.declared.line_writers.LineWriter.{LineWriter}
 use Rattle.register_sheets.specs.declared.lines.SheetLines.{SheetLines}

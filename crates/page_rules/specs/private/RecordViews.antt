@@ -1,4 +1,4 @@
--- What a clause sees of `RecordLines`. No public contract cites this file.
+-- What a clause sees of `RecordLines`.
 use Rattle.std.specs.Prelude.{◌≡◌, ◌≤◌, ◌+◌, ℕ, true, false, List, [], get_or, length, take}
 use Rattle.csv.specs.Writing.{default_writer, fields_written, has_written, with_delimiter, with_flexible, writer_pending}
 use Rattle.csv.specs.Writing.{writer_setup, writer_under}

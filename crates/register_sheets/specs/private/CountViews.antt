@@ -1,4 +1,4 @@
--- How counts grow. No public contract cites this file.
+-- How counts grow.
 use Rattle.std.specs.Prelude.{◌≡◌, ◌≤◌, ◌<◌, ◌+◌, ℕ, List, [], ◌∷◌, count_by, get_or, length}
 use Rattle.date_texts.specs.declared.refusal.Refusal.{Refusal}
 use Rattle.register_records.specs.Entries.{Fields}

@@ -1,0 +1,3 @@
+-- What serves private clauses and proofs alone: no public clause reaches it.
+pub mod OptionValues
+pub mod Requests

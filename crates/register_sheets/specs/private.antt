@@ -1,0 +1,19 @@
+-- What serves private clauses and proofs alone: no public clause reaches it.
+pub mod AskedViews
+pub mod CountViews
+pub mod DateViews
+pub mod HeadingViews
+pub mod LineViews
+pub mod LineWriters
+pub mod MeaningViews
+pub mod NameMeanings
+pub mod OwnViews
+pub mod Produced
+pub mod Reading
+pub mod RecordLines
+pub mod Sending
+pub mod SheetNotes
+pub mod SheetReaders
+pub mod SheetReadings
+pub mod SheetRecords
+pub mod UnknownViews

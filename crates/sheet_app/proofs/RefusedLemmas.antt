@@ -1,11 +1,10 @@
 -- When arguments are refused, and what is reported then.
 use Rattle.std.proofs.Common.{◌≡◌, ◌≢◌, ◌⊎◌, arith, inl, inr, List, Option, Some, None, ℕ, refl, IfSome}
+use Rattle.sheet_app.proofs.Common.{Appends, Text, Task}
 use Rattle.std.specs.Option.{option_map_or}
-use Rattle.std.specs.Io.KnownBytes.{Appends}
-use Rattle.clap.specs.Words.{Text}
 use Rattle.sheet_arguments.specs.Faults.{Fault, memory_line}
 use Rattle.command_lines.specs.Meanings.{Meaning, wrong}
-use Rattle.sheet_arguments.specs.Requests.{AreWrong, IsFaultOf, MeanJust, Task}
+use Rattle.sheet_arguments.specs.Requests.{AreWrong, IsFaultOf, MeanJust}
 use Rattle.sheet_app.specs.Answers.{IsReported}
 use Rattle.sheet_app.specs.declared.program_faults.ProgramFault.TheVariants as program_fault
 

@@ -1,11 +1,9 @@
 -- What words say of the calendar of dates.
-use Rattle.std.proofs.Common.{◌≡◌, ◌∙◌, ◌∷◌, [], List, Option, None, Some, IfSome, ap, map, refl, subst, sym, ℕ}
-use Rattle.std.specs.Prelude.{IfNone}
-use Rattle.clap.specs.Words.{Text}
+use Rattle.std.proofs.Common.{◌≡◌, ◌∙◌, ◌∷◌, [], List, Option, None, Some, IfSome, ap, map, refl, subst, sym, ℕ, IfNone}
+use Rattle.sheet_app.proofs.Common.{Text, NameLine, bare_name}
 use Rattle.register_sheets.specs.NameLists.{calendar_names_in, calendar_seen}
 use Rattle.register_sheets.specs.NameMeanings.{SaysCalendar}
-use Rattle.register_sheets.specs.declared.name_lists.NameLine.{NameLine}
-use Rattle.written_dates.specs.Fields.{bare_name, calendar_meant, without_blanks}
+use Rattle.written_dates.specs.Fields.{calendar_meant, without_blanks}
 use Rattle.written_dates.specs.declared.fields.CalendarMeaning.{CalendarMeaning}
 use Rattle.written_dates.specs.declared.fields.CalendarName.{CalendarName}
 use Rattle.sheet_app.specs.CalendarWords.{IsMeant, SaysBy, SaysNothing, named_in}

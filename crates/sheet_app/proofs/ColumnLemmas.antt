@@ -1,20 +1,17 @@
 -- The columns that words name, one after the other.
 use Rattle.std.proofs.Common.{◌≡◌, ◌↔◌, ◌∙◌, ◌+◌, ◌-◌, ◌<◌, ◌≤◌, ◌⊎◌, ◌∷◌, ◌++◌, ℕ, zero, suc, List, [], None, Some, ap}
 use Rattle.std.proofs.Common.{arith, get_or, inl, inr, length, length-append, refl, slice_get, sym, subst, map}
-use Rattle.std.specs.Borrow.{Bor}
-use Rattle.std.specs.Prelude.{Contains, Option, option_map}
+use Rattle.std.proofs.Common.{Contains, Option, option_map}
+use Rattle.sheet_app.proofs.Common.{Bor, DateColumn, NameLine, Task, Text, calendar_words}
 use Rattle.std.proofs.lemmas.List.Elements.{Contains-get_or}
 use Rattle.std.proofs.lemmas.Option.{get_or_from_slice_get, slice_get-get_or, slice_get-map, slice_get_within}
 use Rattle.register_records.specs.Entries.{Fields}
-use Rattle.register_sheets.specs.declared.choices.DateColumn.{DateColumn}
-use Rattle.register_sheets.specs.declared.name_lists.NameLine.{NameLine}
-use Rattle.sheet_arguments.specs.Requests.{CalendarsWanted, Task, all_have, in_columns}
-use Rattle.clap.specs.Words.{Text}
+use Rattle.sheet_arguments.specs.Requests.{CalendarsWanted, all_have, in_columns}
 use Rattle.programs.specs.Values.{IsNumberWord}
-use Rattle.sheet_app.specs.CalendarWords.{SaysNothing, calendar_words}
+use Rattle.sheet_app.specs.CalendarWords.{SaysNothing}
 use Rattle.sheet_app.specs.Columns.{HoldsOfNone, IsBareWord, IsCalendarField, IsColumn, IsDateColumn, IsForWord}
-use Rattle.sheet_app.specs.Columns.{IsDateField, IsItsOwn}
-use Rattle.sheet_app.specs.Columns.{IsMissing, IsWord, NamesNoColumn, NamesNone, calendar_columns}
+use Rattle.sheet_app.specs.Columns.{IsDateField, IsItsOwn, IsMissing, IsWord, NamesNoColumn, NamesNone}
+use Rattle.sheet_app.specs.Columns.{calendar_columns}
 use Rattle.sheet_app.specs.declared.columns.ColumnFault.{ColumnFault}
 use Rattle.sheet_app.specs.declared.columns.ColumnFault.TheVariants as column_fault
 

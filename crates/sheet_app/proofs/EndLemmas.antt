@@ -1,6 +1,6 @@
 -- How sheets end.
-use Rattle.std.proofs.Common.{◌≡◌, ℕ, List, [], Option, false, inl, inr, map, refl, true}
-use Rattle.std.specs.Prelude.{Err, IsErrAnd, Ok, Result}
+use Rattle.std.proofs.Common.{◌≡◌, ℕ, List, [], Option, false, inl, inr, map, refl, true, Err, IsErrAnd, Ok, Result}
+use Rattle.sheet_app.proofs.Common.{NameLine, Task, bare_name, SheetDone}
 use Rattle.register_records.specs.Sources.{Gains}
 use Rattle.register_records.specs.declared.outputs.Output as outputs
 use Rattle.register_sheets.specs.AskedOfSheets.{IsChoiceBy, IsListedChoice, SheetAsked}
@@ -8,20 +8,15 @@ use Rattle.register_sheets.specs.declared.asked_of_sheets.AskedByNames.{AskedByN
 use Rattle.register_sheets.specs.declared.choices.SheetChoice.{SheetChoice}
 use Rattle.register_sheets.specs.Produced.{Produced}
 use Rattle.register_sheets.specs.SheetOutputs.{IsMadeSheet, sheet_ending}
-use Rattle.register_sheets.specs.declared.name_lists.NameLine.{NameLine}
 use Rattle.register_sheets.specs.declared.sheet_ends.SheetCause.{SheetCause}
 use Rattle.register_sheets.specs.declared.sheet_ends.SheetCause.TheVariants as cause
 use Rattle.register_sheets.specs.declared.sheet_ends.SheetEnd.TheVariants as end
-use Rattle.sheet_arguments.specs.Requests.{Task}
-use Rattle.written_dates.specs.Fields.{bare_name}
 use Rattle.sheet_app.specs.SheetFaults.{fault_by}
 use Rattle.sheet_app.specs.SheetViews.{AsksFor, IsBrokenBehind, IsDoneBy, IsEndedBy, IsTask, MakesChoices}
-use Rattle.sheet_app.specs.Sheets.{HasMark, IsAskedList, IsAskedOf, IsAskedSheet, IsBroken, IsBrokenBy, IsChoiceFor, IsEnded}
-use Rattle.sheet_app.specs.Sheets.{IsListBy, IsSheetBy, names_of, records_by}
+use Rattle.sheet_app.specs.Sheets.{HasMark, IsAskedOf, IsBroken, IsBrokenBy, IsChoiceFor, IsEnded, IsMarked, IsSheetBy}
+use Rattle.sheet_app.specs.Sheets.{names_of, records_by}
 use Rattle.sheet_app.specs.declared.sheet_faults.SheetFault.TheVariants as fault
 use Rattle.sheet_app.specs.declared.sheet_faults.SheetFault.{SheetFault}
-use Rattle.sheet_app.specs.declared.sheets.ListedSheet.{ListedSheet}
-use Rattle.sheet_app.specs.declared.sheets.SheetDone.{SheetDone}
 use Rattle.sheet_app.specs.declared.sheets.SheetDone.TheVariants as done
 use Rattle.sheet_app.specs.declared.sheets.WholeSheet.{WholeSheet}
 use Rattle.sheet_app.proofs.MarkLemmas.{behind_mark, nothing}
@@ -41,8 +36,7 @@ pub makes_choices : (task : Task) (lines : List NameLine) (sheet : List ℕ) (kn
 makes_choices task lines sheet known asked task_is is listed = λ choice by.
     let list = listed choice by in
     is_choice task lines (names_of task sheet) list.headings asked sheet list.in_dates (map bare_name list.of_calendars)
-    choice
-    task_is is list.headed list.chosen
+    choice task_is is list.headed list.chosen
 
 -- a fault that was handed on
 pub ended_fault : {W : Type 0} (o : outputs.Ghosts W) (task : Task) (lines : List NameLine) (most : ℕ) (sheet : List ℕ)
@@ -53,20 +47,13 @@ ended_fault o task lines most sheet given written new (Ok done) fault handed bro
 ended_fault o task lines most sheet given written new (Err why) fault handed broken = (rw handed broken, refl)
 
 -- what was made by a choice, behind the mark, is what a task asks
-pub asked_sheet : (task : Task) (lines : List NameLine) (sheet : List ℕ) (choice : SheetChoice) (known : WholeSheet)
-    (old marked new : Option (List ℕ)) → IsChoiceFor task lines sheet choice → Gains old marked (HasMark sheet)
-    → Gains marked new (IsSheetBy choice sheet known) → Gains old new (IsAskedSheet task lines sheet known)
-asked_sheet task lines sheet choice known old marked new chosen mark made =
-    let all = behind_mark sheet (IsSheetBy choice sheet known) old marked new mark made in
-    (all.0, (choice, chosen, all.1), all.2)
-
-pub asked_list : (task : Task) (lines : List NameLine) (most : ℕ) (sheet : List ℕ) (choice : SheetChoice)
-    (known : ListedSheet) (old marked new : Option (List ℕ)) → IsChoiceFor task lines sheet choice
-    → Gains old marked (HasMark sheet) → Gains marked new (IsListBy choice most sheet known)
-    → Gains old new (IsAskedList task lines most sheet known)
-asked_list task lines most sheet choice known old marked new chosen mark made =
-    let all = behind_mark sheet (IsListBy choice most sheet known) old marked new mark made in
-    (all.0, (choice, chosen, all.1), all.2)
+pub asked_behind : (task : Task) (lines : List NameLine) (sheet : List ℕ) (choice : SheetChoice)
+    (Made : SheetChoice → List ℕ → Type 0) (old marked new : Option (List ℕ)) → IsChoiceFor task lines sheet choice
+    → Gains old marked (HasMark sheet) → Gains marked new (Made choice)
+    → Gains old new (λ bytes. (found : SheetChoice) × IsChoiceFor task lines sheet found
+    × IsMarked sheet (Made found) bytes)
+asked_behind task lines sheet choice Made old marked new chosen mark made =
+    let all = behind_mark sheet (Made choice) old marked new mark made in (all.0, (choice, chosen, all.1), all.2)
 
 module _ {W : Type 0} (o : outputs.Ghosts W) where
   -- a sheet that broke off behind its mark
@@ -96,10 +83,25 @@ module _ {W : Type 0} (o : outputs.Ghosts W) where
       → IsChoiceFor task lines sheet choice → Gains (o.contents given) (o.contents marked) (HasMark sheet)
       → IsDoneBy o choice sheet marked written new registers done
       → IsEnded o task lines most sheet given written new registers done
-  asked_done task lines most sheet choice given marked written new registers (done.Whole whole) known chosen mark h =
-      (asked_sheet task lines sheet choice whole _ _ _ chosen mark h.0, h.1, known, choice, chosen, h.2)
-  asked_done task lines most sheet choice given marked written new registers (done.WholeBut fault) known chosen mark h =
-      (h.0, asked_sheet task lines sheet choice h.0 _ _ _ chosen mark h.1, h.2, known, choice, chosen, h.3, h.4, h.5)
+  asked_done task lines most sheet choice given marked written new registers (done.Whole whole) known chosen mark h = (
+    asked_behind task lines sheet choice (λ c. IsSheetBy c sheet whole) _ _ _ chosen mark h.0,
+    h.1,
+    known,
+    choice,
+    chosen,
+    h.2,
+  )
+  asked_done task lines most sheet choice given marked written new registers (done.WholeBut fault) known chosen mark h = (
+    h.0,
+    asked_behind task lines sheet choice (λ c. IsSheetBy c sheet h.0) _ _ _ chosen mark h.1,
+    h.2,
+    known,
+    choice,
+    chosen,
+    h.3,
+    h.4,
+    h.5,
+  )
   asked_done task lines most sheet choice given marked written new registers (done.Listed listed) known chosen mark h =
       absurd h
   asked_done task lines most sheet choice given marked written new registers (done.Broken why) known chosen mark h =
@@ -109,8 +111,7 @@ module _ {W : Type 0} (o : outputs.Ghosts W) where
 pub broken_by : {W : Type 0} (o : outputs.Ghosts W) (choice : SheetChoice) (sheet : List ℕ) (given written : W)
     (c : SheetCause)
     → Produced o given written (sheet_ending (end.Broken c)) (IsMadeSheet choice (records_by choice sheet) (end.Broken
-    c))
-    → IsBrokenBehind o choice sheet given written (fault_by c)
+    c)) → IsBrokenBehind o choice sheet given written (fault_by c)
 broken_by o choice sheet given written cause.NoMemory h = inr h.0
 broken_by o choice sheet given written cause.SinkFault h = h.0
 broken_by o choice sheet given written cause.NoNames h = (h.0, h.1.1)
@@ -118,9 +119,7 @@ broken_by o choice sheet given written cause.TooManyRecords h = (h.0.1.more, inr
 
 -- a sheet that is whole
 pub whole_by : {W : Type 0} (o : outputs.Ghosts W) (choice : SheetChoice) (sheet : List ℕ) (given written : W)
-    (whole : WholeSheet)
-    → Produced o given written (sheet_ending (end.Whole whole.records whole.counts whole.unread))
+    (whole : WholeSheet) → Produced o given written (sheet_ending (end.Whole whole.records whole.counts whole.unread))
     (IsMadeSheet choice (records_by choice sheet) (end.Whole whole.records whole.counts whole.unread))
     → Gains (o.contents given) (o.contents written) (IsSheetBy choice sheet whole) × (o.is_flushed written ≡ true)
-whole_by o choice sheet given written whole h =
-    ((h.0.0, record { whole = h.0.1.0; unread = h.0.1.1 }, h.0.2), h.1)
+whole_by o choice sheet given written whole h = ((h.0.0, record { whole = h.0.1.0; unread = h.0.1.1 }, h.0.2), h.1)

@@ -1,14 +1,12 @@
 -- Which file a fault names.
-use Rattle.std.proofs.Common.{◌≡◌, ◌++◌, ◌<◌, ◌∙◌, ◌∷◌, [], ℕ, List, arith, get_or, inl, length, map, subst, suc, sym, zero}
-use Rattle.std.specs.Prelude.{Contains, Err, IfErr, IsErrAnd, Ok, Result, flat_map}
-use Rattle.std.specs.String.{string_bytes}
+use Rattle.std.proofs.Common.{◌≡◌, ◌++◌, ◌<◌, ◌∙◌, ◌∷◌, [], ℕ, List, arith, get_or, inl, length, map, subst, suc, sym}
+use Rattle.std.proofs.Common.{zero, Contains, Err, IfErr, IsErrAnd, Ok, Result, flat_map}
+use Rattle.sheet_app.proofs.Common.{string_bytes, Text, Task, IsOfOutputs}
 use Rattle.std.proofs.lemmas.List.{get_or-map, length-map}
 use Rattle.std.proofs.lemmas.List.Elements.{Contains-append_left, Contains-append_right, Contains-get_or}
-use Rattle.clap.specs.Words.{Text}
-use Rattle.sheet_arguments.specs.Requests.{Task}
 use Rattle.sheet_app.specs.FileSheets.{outputs_of}
 use Rattle.sheet_app.specs.ProgramFaults.{IsFaultOfFiles}
-use Rattle.sheet_app.specs.SheetViews.{IsOfInputs, IsOfOutputs}
+use Rattle.sheet_app.specs.SheetViews.{IsOfInputs}
 use Rattle.sheet_app.specs.declared.file_sheets.FileFault.{FileFault}
 use Rattle.sheet_app.specs.declared.file_sheets.FileFault.TheVariants as file_fault
 

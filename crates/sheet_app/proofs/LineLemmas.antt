@@ -1,20 +1,16 @@
 -- The lines on sheets.
-use Rattle.std.proofs.Common.{◌≡◌, ◌<◌, ◌+◌, ◌∙◌, ◌++◌, ◌∷◌, ℕ, zero, suc, List, [], Bool, Option, Some, None, ap, append_assoc}
-use Rattle.std.proofs.Common.{append-nil, arith}
-use Rattle.std.proofs.Common.{codes, false, get_or, length, map, min, refl, subst, sym, take, true}
-use Rattle.std.specs.Io.KnownBytes.{Appends}
+use Rattle.std.proofs.Common.{◌≡◌, ◌<◌, ◌+◌, ◌∙◌, ◌++◌, ◌∷◌, ℕ, zero, suc, List, [], Bool, Option, Some, None, ap}
+use Rattle.std.proofs.Common.{append_assoc, append-nil, arith, codes, false, get_or, length, map, min, refl, subst, sym}
+use Rattle.std.proofs.Common.{take, true, ◌==◌, Err, IfErr, IfOk, Ok, Result, if◌then◌else◌}
+use Rattle.sheet_app.proofs.Common.{Appends, Text, DateCounts, Task}
 use Rattle.std.specs.List.{flat_map}
-use Rattle.std.specs.Prelude.{◌==◌, Err, IfErr, IfOk, Ok, Result, if◌then◌else◌}
 use Rattle.std.proofs.lemmas.List.{length-map, take_min, take_more}
 use Rattle.std.proofs.lemmas.List.Concat.{flat_map-append}
 use Rattle.std.proofs.lemmas.List.Elements.{All-pop}
-use Rattle.clap.specs.Words.{Text}
 use Rattle.register_records.specs.declared.outputs.Output as outputs
-use Rattle.register_sheets.specs.declared.date_counts.DateCounts.{DateCounts}
 use Rattle.sheet_app.specs.EndedSheets.{AreReported, ended_lines}
 use Rattle.sheet_app.specs.Lines.{listed, listed_at}
 use Rattle.sheet_app.specs.declared.converting.EndedSheet.{EndedSheet}
-use Rattle.sheet_arguments.specs.Requests.{Task}
 use Rattle.sheet_app.specs.SheetViews.{Says}
 
 -- one text more
@@ -43,15 +39,13 @@ text_more line head (first ∷ texts) (suc i) text within same is =
       same,
       take_more (first ∷ texts) (suc i) [] within,
       listed_more first (take i texts) (get_or texts i []),
-    )
-    (append_assoc head (listed (first ∷ take i texts)) (codes ", " ++ get_or texts i []))
+    ) (append_assoc head (listed (first ∷ take i texts)) (codes ", " ++ get_or texts i []))
 
 -- the numbers of a summary, of their parts
 pub counts_made : (head count refused comma empty : Text)
     → (((head ++ count) ++ refused) ++ comma) ++ empty ≡ head ++ (count ++ (refused ++ (comma ++ empty)))
 counts_made head count refused comma empty =
-    append_assoc ((head ++ count) ++ refused) comma empty
-    ∙ append_assoc (head ++ count) refused (comma ++ empty)
+    append_assoc ((head ++ count) ++ refused) comma empty ∙ append_assoc (head ++ count) refused (comma ++ empty)
     ∙ append_assoc head count (refused ++ (comma ++ empty))
 
 -- what was gone over is what is told
@@ -88,8 +82,7 @@ more_reported e task sheets new sheet before between after more are says = rw mo
       let (first, last) = All-pop (λ (s : EndedSheet _). s.is_reported ≡ true) (sheets ++ sheet ∷ []) sheets (Some sheet)
       refl all in
       rw (flat_map-append (ended_lines task) sheets (sheet ∷ []), append-nil (ended_lines task sheet))
-      (both_gained (e.contents before) (e.contents between) (e.contents after) _ _
-      (are.gained first (says.good good))
+      (both_gained (e.contents before) (e.contents between) (e.contents after) _ _ (are.gained first (says.good good))
       (says.gained last good));
 })
 
@@ -97,13 +90,14 @@ more_reported e task sheets new sheet before between after more are says = rw mo
 pub line_said : {E L X : Type 0} (e : outputs.Ghosts E) (before after : E) (said : Bool) (bytes : L → List ℕ)
     (line : Result L X) (text : List ℕ) → IfOk line (λ l. bytes l ≡ text)
     → IfOk line (λ l. Says e before after said (bytes l))
-    → IfErr line (λ x. (said ≡ false) × (e.has_failed after ≡ false → e.has_failed before ≡ false))
-    → Says e before after said text
+    → IfErr line (λ x. (said ≡ false) × (e.has_failed after ≡ false → e.has_failed before ≡ false)
+    × (e.own_mark after ≡ e.own_mark before)) → Says e before after said text
 line_said e before after said bytes (Ok l) text is says lost =
     subst (λ (t : List ℕ). Says e before after said t) is says
 line_said e before after said bytes (Err x) text is says lost = record {
   good = lost.1;
   gained = λ yes good. let no = lost.0 in absurd (cc);
+  marked = lost.2;
 }
 
 -- one sheet alone was reported

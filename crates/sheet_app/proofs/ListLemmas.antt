@@ -1,18 +1,13 @@
 -- Items that are moved from the front of one list to the end of another.
 use Rattle.std.proofs.Common.{◌≡◌, ◌++◌, ◌∷◌, [], List, All, append_assoc, arith, length, map, subst, sym, ◌≢◌, ◌∙◌}
-use Rattle.std.proofs.Common.{◌⊎◌, ℕ, ap, ap₂, inl, inr, refl, ◌<◌, ◌+◌, Bool, get_or, take, true}
-use Rattle.std.specs.Prelude.{◌==◌}
-use Rattle.std.specs.Borrow.{Bor}
-use Rattle.std.specs.List.{AllZip}
+use Rattle.std.proofs.Common.{◌⊎◌, ℕ, ap, ap₂, inl, inr, refl, ◌<◌, ◌+◌, Bool, get_or, take, true, ◌==◌}
+use Rattle.sheet_app.proofs.Common.{Bor, AllZip, Text, NameLine, Task, IsNewSheet, ending_of, names_ending, sheet_name}
 use Rattle.std.specs.declared.io.traits.Read as reads
 use Rattle.std.proofs.lemmas.List.{get_or-map, length-map, map-append, take_more}
 use Rattle.std.proofs.lemmas.List.Elements.{All-cons, All-nil, All-push, All-head, All-tail}
-use Rattle.clap.specs.Words.{Text}
 use Rattle.register_records.specs.declared.outputs.Output as outputs
-use Rattle.register_sheets.specs.declared.name_lists.NameLine.{NameLine}
-use Rattle.sheet_arguments.specs.Requests.{Task}
 use Rattle.sheet_app.specs.EndedSheets.{IsEndOf, IsEndedSheet, ended_name}
-use Rattle.sheet_app.specs.FileSheets.{IsNewSheet, ending_of, names_ending, register_endings, sheet_name}
+use Rattle.sheet_app.specs.FileSheets.{register_endings}
 use Rattle.sheet_app.specs.declared.converting.EndedSheet.{EndedSheet}
 use Rattle.sheet_app.specs.declared.file_sheets.FileSheet.{FileSheet}
 

@@ -1,6 +1,6 @@
 -- The mark of UTF-8 at the head of a sheet.
 use Rattle.std.proofs.Common.{◌≡◌, ◌∙◌, ◌++◌, ℕ, List, [], Option, ap, drop, refl, subst, sym, take}
-use Rattle.std.specs.Io.KnownBytes.{Appends}
+use Rattle.sheet_app.proofs.Common.{Appends}
 use Rattle.std.proofs.KnownBytes.{Appends-nil, Appends-trans}
 use Rattle.std.proofs.lemmas.List.{take-append-drop}
 use Rattle.csv.specs.Reading.{strip_bom}

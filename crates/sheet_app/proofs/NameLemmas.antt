@@ -1,16 +1,14 @@
 -- Names of outputs, told apart from inputs and from one another.
-use Rattle.std.proofs.Common.{◌≡◌, ◌++◌, ◌∷◌, ◌+◌, ◌<◌, ◌≤◌, [], ℕ, List, All, ap, ap₂, get_or, length, map, refl, subst}
-use Rattle.std.proofs.Common.{append_assoc, Global, rules, String, sym, take}
-use Rattle.std.specs.String.{string_bytes}
-use Rattle.std.specs.Prelude.{AllPairs, Err, IfOk, Ok, OnOk, Result, flat_map}
+use Rattle.std.proofs.Common.{◌≡◌, ◌++◌, ◌∷◌, ◌+◌, ◌<◌, ◌≤◌, [], ℕ, List, All, ap, ap₂, get_or, length, map, refl}
+use Rattle.std.proofs.Common.{subst, append_assoc, Global, rules, String, sym, take, AllPairs, Err, IfOk, Ok, OnOk}
+use Rattle.std.proofs.Common.{Result, flat_map}
+use Rattle.sheet_app.proofs.Common.{string_bytes, place_name, names_ending}
 use Rattle.std.proofs.lemmas.List.{flat_map_more, map-append, take_all, take_more}
 use Rattle.std.proofs.lemmas.List.Elements.{All-append, All-push}
 use Rattle.std.proofs.lemmas.List.Quantifiers.{all_pairs_push}
 use Rattle.programs.specs.Openings.{IsNewlyMade}
-use Rattle.programs.specs.Places.{place_name}
 use Rattle.programs.specs.declared.places.Place.{Place}
 use Rattle.register_records.specs.declared.outputs.Output as outputs
-use Rattle.sheet_app.specs.FileSheets.{names_ending}
 
 -- what holds of the values of the items so far holds of one more, and in the end of all
 pub each_value : {X Y : Type 0} (P : Y → Type 0) (f : X → Y) (xs : List X) (i : ℕ) (d : X) → i < length xs
@@ -61,8 +59,7 @@ apart_more Apart names new name n each pairs = subst (AllPairs Apart) (sym n) (a
 
 -- an output that was made by this name
 pub made_by : {W : Type 0} (o : outputs.Ghosts W) (IsMade : List ℕ → ℕ → W → Type 0) (name same : List ℕ) (mark : ℕ)
-    (output : W) → name ≡ same → IsNewlyMade o IsMade name mark output
-    → (by : ℕ) × IsNewlyMade o IsMade same by output
+    (output : W) → name ≡ same → IsNewlyMade o IsMade name mark output → (by : ℕ) × IsNewlyMade o IsMade same by output
 made_by o IsMade name same mark output e made =
     (mark, subst (λ (n : List ℕ). IsNewlyMade o IsMade n mark output) e made)
 

@@ -1,13 +1,10 @@
 -- Lists of names, one behind the other.
-use Rattle.std.proofs.Common.{◌≡◌, ◌<◌, ◌+◌, ◌++◌, ◌∷◌, [], List, ℕ, append-nil, append_assoc, get_or, length, map, refl, subst}
-use Rattle.std.proofs.Common.{take}
+use Rattle.std.proofs.Common.{◌≡◌, ◌<◌, ◌+◌, ◌++◌, ◌∷◌, [], List, ℕ, append-nil, append_assoc, get_or, length, map}
+use Rattle.std.proofs.Common.{refl, subst, take, Contains}
+use Rattle.sheet_app.proofs.Common.{Bor, Text, NameLine}
 use Rattle.std.proofs.lemmas.List.{get_or-map, length-map, map_push, take_more}
 use Rattle.std.proofs.lemmas.List.Elements.{Contains-get_or}
-use Rattle.std.specs.Borrow.{Bor}
-use Rattle.std.specs.Prelude.{Contains}
 use Rattle.std.specs.declared.io.traits.Read as reads
-use Rattle.clap.specs.Words.{Text}
-use Rattle.register_sheets.specs.declared.name_lists.NameLine.{NameLine}
 use Rattle.sheet_app.specs.Answers.{AreListsIn, IsListIn}
 
 abbrev text : Bor (List ℕ) → List ℕ

@@ -1,6 +1,6 @@
 -- The outputs of a sheet's registers, one after the other.
 use Rattle.std.proofs.Common.{◌≡◌, ◌<◌, ◌++◌, ◌+◌, ℕ, List, [], ◌∷◌, get_or, length, map, take}
-use Rattle.std.specs.List.{AllZip}
+use Rattle.sheet_app.proofs.Common.{AllZip}
 use Rattle.std.proofs.lemmas.List.{map-append, take_more}
 use Rattle.sheet_app.proofs.ListLemmas.{zip_pushed}
 

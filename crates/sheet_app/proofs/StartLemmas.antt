@@ -1,16 +1,12 @@
 -- Why a task is not begun.
-use Rattle.std.proofs.Common.{◌≡◌, ◌≤◌, ◌⊎◌, ◌∷◌, [], ℕ, List, arith, subst}
-use Rattle.std.specs.Prelude.{Contains}
+use Rattle.std.proofs.Common.{◌≡◌, ◌≤◌, ◌⊎◌, ◌∷◌, [], ℕ, List, arith, subst, Contains}
+use Rattle.sheet_app.proofs.Common.{Text, NameLine, Task, calendar_words, IsOfWords}
 use Rattle.std.proofs.lemmas.List.Elements.{Contains-get_or}
 use Rattle.std.specs.declared.io.traits.Read as reads
-use Rattle.clap.specs.Words.{Text}
 use Rattle.programs.specs.Meanings.{work}
-use Rattle.register_sheets.specs.declared.name_lists.NameLine.{NameLine}
-use Rattle.sheet_arguments.specs.Requests.{MeanJust, Task}
+use Rattle.sheet_arguments.specs.Requests.{MeanJust}
 use Rattle.sheet_app.specs.Answers.{AreNamesOf, IsFaultOfStart, IsUnknown}
-use Rattle.sheet_app.specs.CalendarWords.{calendar_words}
 use Rattle.sheet_app.specs.ProgramFaults.{IsFaultOfAsked, IsFaultOfTask, fault_status}
-use Rattle.sheet_app.specs.SheetViews.{IsOfWords}
 use Rattle.sheet_app.specs.declared.program_faults.ProgramFault.{ProgramFault}
 use Rattle.sheet_app.specs.declared.program_faults.ProgramFault.TheVariants as program_fault
 use Rattle.sheet_app.proofs.FaultLemmas.{is_only}

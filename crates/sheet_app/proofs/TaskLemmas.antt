@@ -1,9 +1,8 @@
 -- What arguments ask for is a choice.
 use Rattle.std.proofs.Common.{◌≡◌, ◌≤◌, ◌+◌, ◌*◌, ◌∙◌, ◌⊎◌, ◌++◌, ◌∷◌, ℕ, suc, Bool, List, [], Option, None, Some}
 use Rattle.std.proofs.Common.{Result, Ok, Err, ap, arith, false, get_or, inl, inr, length, length-append, map, refl}
-use Rattle.std.proofs.Common.{subst, sym, true, ap₂}
-use Rattle.std.specs.Borrow.{Bor}
-use Rattle.std.specs.Prelude.{◌==◌, codes, count_by, if◌then◌else◌, nat_lt, unwrap_or}
+use Rattle.std.proofs.Common.{subst, sym, true, ap₂, ◌==◌, codes, count_by, if◌then◌else◌, nat_lt, unwrap_or}
+use Rattle.sheet_app.proofs.Common.{Bor, Text, DateColumn, NameLine, Task}
 use Rattle.std.specs.Cmp.{IsEquivalence}
 use Rattle.std.specs.List.{AllByRecursion, IsDistinct, flat_map, list_any}
 use Rattle.std.specs.Set.{is_member}
@@ -14,7 +13,6 @@ use Rattle.std.proofs.lemmas.List.Sums.{sum_by-cons}
 use Rattle.std.proofs.lemmas.Map.Keys.{IsDistinct-push, apart_from_distinct}
 use Rattle.std.proofs.lemmas.Map.Made.{length-le_from_is_member}
 use Rattle.std.proofs.lemmas.Option.{unwrap_or-slice_get}
-use Rattle.clap.specs.Words.{Text}
 use Rattle.date_texts.specs.Calendars.{target_name}
 use Rattle.programs.specs.Values.{IsValueOf, delimiter_option}
 use Rattle.date_texts.specs.declared.calendar.Calendar.TheVariants as calendar
@@ -23,21 +21,20 @@ use Rattle.date_texts.specs.declared.target.Target.TheVariants as target
 use Rattle.register_records.specs.Entries.{Fields, text_records}
 use Rattle.register_records.specs.SetupRules.{NamesTwice, is_delimiter}
 use Rattle.register_sheets.specs.AskedOfSheets.{HasHeadings, IsChoice, IsChoiceOf, SheetAsked}
-use Rattle.register_sheets.specs.Choices.{AsksOnce, asked_targets, asks_twice, column_limit, date_limit}
-use Rattle.register_sheets.specs.Choices.{added_each, is_church, is_day_number, is_weekday}
+use Rattle.register_sheets.specs.Choices.{AsksOnce, asked_targets, asks_twice, column_limit, date_limit, added_each}
+use Rattle.register_sheets.specs.Choices.{is_church, is_day_number, is_weekday}
 use Rattle.register_sheets.specs.Headings.{AreHeadings, asked_behind, asked_name, asked_names, column_names, mark_names}
 use Rattle.register_sheets.specs.Headings.{wanted_for, wanted_heading}
 use Rattle.register_sheets.specs.declared.choices.AskedColumn.{AskedColumn}
 use Rattle.register_sheets.specs.declared.choices.AskedColumn.TheVariants.{Cells, Church, DayNumber, Weekday}
-use Rattle.register_sheets.specs.declared.choices.DateColumn.{DateColumn}
 use Rattle.register_sheets.specs.declared.choices.SheetChoice.{SheetChoice}
 use Rattle.register_sheets.specs.declared.choices.Spans.{Spans}
 use Rattle.register_sheets.specs.declared.choices.Spans.TheVariants as spans
-use Rattle.register_sheets.specs.declared.name_lists.NameLine.{NameLine}
 use Rattle.sheet_arguments.specs.CommandLine.{Values}
 use Rattle.sheet_arguments.specs.Faults.{Fault, column_twice, unknown_column}
-use Rattle.sheet_arguments.specs.Requests.{Ask, Task}
-use Rattle.sheet_arguments.specs.WordLists.{all_columns, column_named, columns_asked, is_among, names_in, or_fault, with_columns}
+use Rattle.sheet_arguments.specs.Requests.{Ask}
+use Rattle.sheet_arguments.specs.WordLists.{all_columns, column_named, columns_asked, is_among, names_in, or_fault}
+use Rattle.sheet_arguments.specs.WordLists.{with_columns}
 use Rattle.written_dates.specs.declared.fields.CalendarMeaning.{CalendarMeaning}
 use Rattle.written_dates.specs.declared.meanings.Name.{Name}
 use Rattle.sheet_app.specs.SheetViews.{IsTask}

@@ -11,7 +11,7 @@ use Rattle.sheet_arguments.specs.Requests.{Task}
 use Rattle.sheet_arguments.specs.ThreeColumns.{ThreeWords}
 use Rattle.sheet_app.specs.Columns.{IsColumn, NamesNone}
 use Rattle.sheet_app.specs.Sheets.{HasMark, IsEnded, names_of}
-use Rattle.sheet_app.specs.TreeTexts.{IsMadeEnded}
+use Rattle.sheet_app.specs.TreeTexts.{IsFaultBy, fault_of_text, sheet_of}
 use Rattle.sheet_app.specs.declared.sheet_faults.SheetFault.{SheetFault}
 use Rattle.sheet_app.specs.declared.sheet_faults.SheetFault.TheVariants as fault
 use Rattle.sheet_app.specs.declared.sheets.SheetDone.{SheetDone}
@@ -34,8 +34,7 @@ pub record IsJoined (task : Task) (three : ThreeWords) (text sheet : List ℕ) :
 
 -- the word is one of the three and names no column
 abbrev pub LacksOne : Fields → ThreeWords → Text → Type 0
-LacksOne names three word =
-    ((word ≡ three.year) ⊎ (word ≡ three.month) ⊎ (word ≡ three.day)) × NamesNone names word
+LacksOne names three word = ((word ≡ three.year) ⊎ (word ≡ three.month) ⊎ (word ≡ three.day)) × NamesNone names word
 
 -- there is no such sheet for this reason, or memory ran out
 abbrev pub LacksThree : Task → ThreeWords → List ℕ → SheetFault → Type 0
@@ -45,21 +44,20 @@ LacksThree task three text (fault.NoColumn word told) =
     (fields_of told ≡ names_of task text) × LacksOne (names_of task text) three word.now
 LacksThree task three text other = ⊥
 
--- a text that gives no such sheet broke off, and the outputs have gained nothing; or the sheet has ended
-abbrev pub IsJoinedEnded : {W : Type 0} → outputs.Ghosts W → Task → ThreeWords → List NameLine → List ℕ → W → W
-    → List W → List W → SheetDone → Type 0
-IsJoinedEnded o task three lines text given written new registers how =
-    ((why : SheetFault) × LacksThree task three text why × (how ≡ done.Broken why) × (written ≡ given)
-    × (registers ≡ new))
-    ⊎ ((sheet : List ℕ) × IsJoined task three text sheet
-    × IsEnded o task lines MOST_UNKNOWN sheet given written new registers how)
+-- the sheet of a text: with three words the one with their dates, and else the text itself or the sheet of its tree
+abbrev pub IsSheetMade : Option ThreeWords → Task → List ℕ → List ℕ → Type 0
+IsSheetMade None task text sheet = (fault_of_text task text ≡ None) × (sheet ≡ sheet_of task text)
+IsSheetMade (Some three) task text sheet = IsJoined task three text sheet
 
-abbrev pub IsEndedBy : {W : Type 0} → Option ThreeWords → outputs.Ghosts W → Task → List NameLine → List ℕ → W → W
-    → List W → List W → SheetDone → Type 0
-IsEndedBy None o task = IsMadeEnded o task
-IsEndedBy (Some three) o task = IsJoinedEnded o task three
+-- why there is none, or memory ran out for it
+abbrev pub LacksSheet : Option ThreeWords → Task → List ℕ → SheetFault → Type 0
+LacksSheet None task text = IsFaultBy (fault_of_text task text)
+LacksSheet (Some three) task text = LacksThree task three text
 
--- a text has ended so, with what the outputs have gained
+-- a text that gives no sheet broke off, and the outputs have gained nothing; or its sheet has ended so
 abbrev pub IsTextEnded : {W : Type 0} → outputs.Ghosts W → Task → List NameLine → List ℕ → W → W → List W → List W
     → SheetDone → Type 0
-IsTextEnded o task = IsEndedBy task.three o task
+IsTextEnded o task lines text given written new registers how =
+    ((why : SheetFault) × LacksSheet task.three task text why × (how ≡ done.Broken why) × (written ≡ given)
+    × (registers ≡ new)) ⊎ ((sheet : List ℕ) × IsSheetMade task.three task text sheet
+    × IsEnded o task lines MOST_UNKNOWN sheet given written new registers how)

@@ -82,10 +82,11 @@ IsOfOutputs names (file_fault.CannotOpen file) = ⊥
 IsOfOutputs names (file_fault.CannotMake name) = Contains names (string_bytes name)
 IsOfOutputs names file_fault.OutOfMemory = ⊤
 
--- an output that has not failed had not failed before, and has gained this text, if that was said
+-- an output that has not failed had not failed before, and has gained this text, if that was said; its mark stays
 pub record Says {E : Type 0} (e : outputs.Ghosts E) (before after : E) (said : Bool) (text : List ℕ) : Type 0 where
   pub good : e.has_failed after ≡ false → e.has_failed before ≡ false
   pub gained : said ≡ true → e.has_failed after ≡ false → Appends (e.contents before) (e.contents after) text
+  pub marked : e.own_mark after ≡ e.own_mark before
 
 -- what is known makes choices alone
 abbrev pub MakesChoices : AskedByNames → Type 0

@@ -1,15 +1,13 @@
 //! Reads the sheets of a command line, and converts each.
 
-ghost use Rattle.std.specs.Prelude.{◌≡◌, ◌≤◌, ◌↔◌, [], All, true, vec_capacity, vec_len, map};
+ghost use Rattle.std.specs.Prelude.{◌≡◌, ◌≤◌, ◌↔◌, [], All, IfErr, IfOk, map, true, vec_capacity, vec_len};
 ghost use Rattle.std.specs.List.{AllZip};
 ghost use Rattle.programs.specs.Places.{place_name};
 ghost use Rattle.sheet_arguments.specs.Requests.{task_of};
-ghost use Rattle.sheet_arguments.specs.ThreeColumns.{words_seen};
 ghost use Rattle.sheet_app.specs.EndedSheets.{AreReported, IsConverted, IsEndOf, IsUnread, ended_lines, ended_name};
 ghost use Rattle.sheet_app.specs.EndedSheets.{is_complete};
 ghost use Rattle.sheet_app.specs.SheetViews.{IsTask, Says};
-ghost use Rattle.sheet_app.specs.JoinedTexts.{IsJoinedEnded, IsTextEnded};
-ghost use Rattle.sheet_app.specs.TreeTexts.{IsMadeEnded};
+ghost use Rattle.sheet_app.specs.JoinedTexts.{IsSheetMade, IsTextEnded, LacksSheet};
 
 use crate::file_sheets::FileSheet;
 use crate::joined_texts::joined_of;
@@ -20,7 +18,7 @@ use crate::tree_texts::sheet_of;
 use programs::{FileStore, Place};
 use register_records::Output;
 use register_sheets::NameList;
-use sheet_arguments::{Job, ThreeColumns};
+use sheet_arguments::Job;
 use std::alloc::Global;
 use std::io::{ErrorKind, Read};
 
@@ -53,42 +51,15 @@ fn fault_of_reading<'b>(kind: ErrorKind) -> SheetFault<'b>
     }
 }
 
-/// Writes what a job asks of the sheet that a text is, or that is made of its tree, by the names of a list.
-fn convert_made<'b, W: Output>(
-    alloc: Global,
-    list: &NameList,
-    job: &Job<'b>,
-    text: Vec<u8>,
-    output: &mut W,
-    registers: &mut [W],
-) -> SheetDone<'b>
-    requires { IsTask (task_of job.now) }
-    ensures { IsMadeEnded W.Output (task_of job.now) list.now.lines.items text.items output.old output.new
-        registers.old registers.new result }
+/// The sheet that a job converts of a text: with three columns to be joined the text with their dates, and else the text
+/// itself or the sheet of its tree.
+fn sheet_made<'b>(alloc: Global, text: Vec<u8>, job: &Job<'b>) -> Result<Vec<u8>, SheetFault<'b>>
+    ensures sheet { IfOk result (λ sheet. IsSheetMade (task_of job.now).three (task_of job.now) text.items sheet.items) }
+    ensures fault { IfErr result (LacksSheet (task_of job.now).three (task_of job.now) text.items) }
 {
-    match sheet_of(alloc, text, job) {
-        Ok(sheet) => convert_text(alloc, sheet.as_slice(), list, job, output, registers),
-        Err(fault) => SheetDone::Broken(fault),
-    }
-}
-
-/// Writes what a job asks of the sheet of a text with the dates of three of its columns, by the names of a list.
-fn convert_joined<'b, W: Output>(
-    alloc: Global,
-    list: &NameList,
-    job: &Job<'b>,
-    three: ThreeColumns<'b>,
-    text: Vec<u8>,
-    output: &mut W,
-    registers: &mut [W],
-) -> SheetDone<'b>
-    requires { IsTask (task_of job.now) }
-    ensures { IsJoinedEnded W.Output (task_of job.now) (words_seen three.entry) list.now.lines.items text.items output.old
-        output.new registers.old registers.new result }
-{
-    match joined_of(alloc, text, job, three) {
-        Ok(sheet) => convert_text(alloc, sheet.as_slice(), list, job, output, registers),
-        Err(fault) => SheetDone::Broken(fault),
+    match job.three {
+        Some(three) => joined_of(alloc, text, job, three),
+        None => sheet_of(alloc, text, job),
     }
 }
 
@@ -105,9 +76,9 @@ fn convert_read<'b, W: Output>(
     ensures { IsTextEnded W.Output (task_of job.now) list.now.lines.items text.items output.old output.new
         registers.old registers.new result }
 {
-    match job.three {
-        Some(three) => convert_joined(alloc, list, job, three, text, output, registers),
-        None => convert_made(alloc, list, job, text, output, registers),
+    match sheet_made(alloc, text, job) {
+        Ok(sheet) => convert_text(alloc, sheet.as_slice(), list, job, output, registers),
+        Err(fault) => SheetDone::Broken(fault),
     }
 }
 

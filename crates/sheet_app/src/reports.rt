@@ -131,8 +131,8 @@ fn line_of_fault(alloc: Global, name: &str, fault: &SheetFault<'_>) -> Result<Ve
 fn send_line<E: Output>(errors: &mut E, line: Result<Vec<u8>, AllocError>) -> bool
     ensures line { IfOk line (λ line. Says E.Output errors.old errors.new result line.items) }
     ensures lost { IfErr line (λ e. (result ≡ false)
-        × (E.has_failed errors.new ≡ false → E.has_failed errors.old ≡ false)) }
-    ensures mark { E.own_mark errors.new ≡ E.own_mark errors.old }
+        × (E.has_failed errors.new ≡ false → E.has_failed errors.old ≡ false)
+        × (E.own_mark errors.new ≡ E.own_mark errors.old)) }
 {
     match line {
         Ok(line) => {
@@ -200,8 +200,7 @@ fn report_dates<E: Output>(
     one: &[u8],
     more: &[u8],
 ) -> bool
-    ensures line { Says E.Output errors.old errors.new result (dates_line one.now more.now name.now count) }
-    ensures mark { E.own_mark errors.new ≡ E.own_mark errors.old }
+    ensures { Says E.Output errors.old errors.new result (dates_line one.now more.now name.now count) }
 {
     if count == 0 {
         return true;
@@ -212,38 +211,30 @@ fn report_dates<E: Output>(
 
 /// Reports the dates of a sheet that were stopped by names that are not known, if there are some.
 fn report_stopped<E: Output>(alloc: Global, errors: &mut E, name: &str, count: u64) -> bool
-    ensures line { Says E.Output errors.old errors.new result (stopped_line name.now count) }
-    ensures mark { E.own_mark errors.new ≡ E.own_mark errors.old }
+    ensures { Says E.Output errors.old errors.new result (stopped_line name.now count) }
 {
-    if count == 0 {
-        return true;
-    }
-    let line = line_of_dates(
+    report_dates(
         alloc,
+        errors,
         name,
         count,
         b" date has a name that is not known: --unknown lists it\n",
         b" dates have names that are not known: --unknown lists them\n",
-    );
-    send_line(errors, line)
+    )
 }
 
 /// Reports the dates of a sheet that were left empty, if there are some.
 fn report_short<E: Output>(alloc: Global, errors: &mut E, name: &str, count: u64) -> bool
-    ensures line { Says E.Output errors.old errors.new result (short_line name.now count) }
-    ensures mark { E.own_mark errors.new ≡ E.own_mark errors.old }
+    ensures { Says E.Output errors.old errors.new result (short_line name.now count) }
 {
-    if count == 0 {
-        return true;
-    }
-    let line = line_of_dates(
+    report_dates(
         alloc,
+        errors,
         name,
         count,
         b" date has a short year and is left empty: see --short-years\n",
         b" dates have short years and are left empty: see --short-years\n",
-    );
-    send_line(errors, line)
+    )
 }
 
 /// Reports the dates of a sheet that stay for this reason, if there are some.
@@ -254,8 +245,7 @@ fn report_reason<E: Output>(
     counts: &ReasonCounts,
     reason: Reason,
 ) -> bool
-    ensures line { Says E.Output errors.old errors.new result (reason_line name.now counts.now reason) }
-    ensures mark { E.own_mark errors.new ≡ E.own_mark errors.old }
+    ensures { Says E.Output errors.old errors.new result (reason_line name.now counts.now reason) }
 {
     let count = counts.count(reason);
     let (one, more) = words_of(reason);
@@ -269,8 +259,7 @@ fn report_missing<E: Output>(
     name: &str,
     counts: &ReasonCounts,
 ) -> bool
-    ensures lines { Says E.Output errors.old errors.new result (missing_lines name.now counts.now) }
-    ensures mark { E.own_mark errors.new ≡ E.own_mark errors.old }
+    ensures { Says E.Output errors.old errors.new result (missing_lines name.now counts.now) }
 {
     let calendar = report_reason(alloc, errors, name, counts, Reason::NoCalendar);
     let day = report_reason(alloc, errors, name, counts, Reason::NoDay);
@@ -280,8 +269,7 @@ fn report_missing<E: Output>(
 
 /// Reports the dates of a sheet with a sign, or a weekday, that is not theirs.
 fn report_signs<E: Output>(alloc: Global, errors: &mut E, name: &str, counts: &ReasonCounts) -> bool
-    ensures lines { Says E.Output errors.old errors.new result (sign_lines name.now counts.now) }
-    ensures mark { E.own_mark errors.new ≡ E.own_mark errors.old }
+    ensures { Says E.Output errors.old errors.new result (sign_lines name.now counts.now) }
 {
     let character = report_reason(alloc, errors, name, counts, Reason::Character);
     let minus = report_reason(alloc, errors, name, counts, Reason::Minus);
@@ -296,8 +284,7 @@ fn report_others<E: Output>(
     name: &str,
     counts: &ReasonCounts,
 ) -> bool
-    ensures lines { Says E.Output errors.old errors.new result (other_lines name.now counts.now) }
-    ensures mark { E.own_mark errors.new ≡ E.own_mark errors.old }
+    ensures { Says E.Output errors.old errors.new result (other_lines name.now counts.now) }
 {
     let year = report_reason(alloc, errors, name, counts, Reason::NoSuchYear);
     let last = report_reason(alloc, errors, name, counts, Reason::YearLast);
@@ -312,8 +299,7 @@ fn report_reasons<E: Output>(
     name: &str,
     counts: &ReasonCounts,
 ) -> bool
-    ensures lines { Says E.Output errors.old errors.new result (reason_lines name.now counts.now) }
-    ensures mark { E.own_mark errors.new ≡ E.own_mark errors.old }
+    ensures { Says E.Output errors.old errors.new result (reason_lines name.now counts.now) }
 {
     let missing = report_missing(alloc, errors, name, counts);
     let signs = report_signs(alloc, errors, name, counts);
@@ -323,8 +309,7 @@ fn report_reasons<E: Output>(
 
 /// Reports the dates of a sheet that were not read, but for names that are not known.
 fn report_kept<E: Output>(alloc: Global, errors: &mut E, name: &str, unread: &UnreadDates) -> bool
-    ensures lines { Says E.Output errors.old errors.new result (kept_lines name.now unread.now) }
-    ensures mark { E.own_mark errors.new ≡ E.own_mark errors.old }
+    ensures { Says E.Output errors.old errors.new result (kept_lines name.now unread.now) }
 {
     let short = report_short(alloc, errors, name, unread.short as u64);
     let reasons = report_reasons(alloc, errors, name, &unread.reasons);
@@ -333,20 +318,16 @@ fn report_kept<E: Output>(alloc: Global, errors: &mut E, name: &str, unread: &Un
 
 /// Reports the dates of a sheet that were stopped by names that are not listed, if there are some.
 fn report_more<E: Output>(alloc: Global, errors: &mut E, name: &str, count: u64) -> bool
-    ensures line { Says E.Output errors.old errors.new result (more_line name.now count) }
-    ensures mark { E.own_mark errors.new ≡ E.own_mark errors.old }
+    ensures { Says E.Output errors.old errors.new result (more_line name.now count) }
 {
-    if count == 0 {
-        return true;
-    }
-    let line = line_of_dates(
+    report_dates(
         alloc,
+        errors,
         name,
         count,
         b" date has a name that is not among the first 1000, which are listed\n",
         b" dates have names that are not among the first 1000, which are listed\n",
-    );
-    send_line(errors, line)
+    )
 }
 
 /// Reports what is known of a sheet beside the list of its names.
@@ -357,8 +338,7 @@ fn report_listed<E: Output>(
     job: &Job<'_>,
     listed: &ListedSheet,
 ) -> bool
-    ensures lines { Says E.Output errors.old errors.new result (lines_on (task_of job.now) name.now (Listed listed.now)) }
-    ensures mark { E.own_mark errors.new ≡ E.own_mark errors.old }
+    ensures { Says E.Output errors.old errors.new result (lines_on (task_of job.now) name.now (Listed listed.now)) }
 {
     let more = report_more(alloc, errors, name, listed.more);
     let kept = report_kept(alloc, errors, name, &listed.unread);
@@ -373,9 +353,8 @@ fn report_summary<E: Output>(
     job: &Job<'_>,
     whole: &WholeSheet,
 ) -> bool
-    ensures line { Says E.Output errors.old errors.new result
+    ensures { Says E.Output errors.old errors.new result
         (if job.now.summary then summary_line (task_of job.now) name.now whole.now else []) }
-    ensures mark { E.own_mark errors.new ≡ E.own_mark errors.old }
 {
     if !job.summary {
         return true;
@@ -392,8 +371,7 @@ fn report_whole<E: Output>(
     job: &Job<'_>,
     whole: &WholeSheet,
 ) -> bool
-    ensures lines { Says E.Output errors.old errors.new result (lines_on (task_of job.now) name.now (Whole whole.now)) }
-    ensures mark { E.own_mark errors.new ≡ E.own_mark errors.old }
+    ensures { Says E.Output errors.old errors.new result (lines_on (task_of job.now) name.now (Whole whole.now)) }
 {
     let stopped = report_stopped(alloc, errors, name, whole.unread.stopped as u64);
     let kept = report_kept(alloc, errors, name, &whole.unread);
@@ -410,8 +388,7 @@ pub fn report_sheet<E: Output>(
     job: &Job<'_>,
     done: &SheetDone<'_>,
 ) -> bool
-    ensures lines { Says E.Output errors.old errors.new result (lines_on (task_of job.now) name.now done.now) }
-    ensures mark { E.own_mark errors.new ≡ E.own_mark errors.old }
+    ensures { Says E.Output errors.old errors.new result (lines_on (task_of job.now) name.now done.now) }
 {
     match done {
         SheetDone::Whole(whole) => report_whole(alloc, errors, name, job, whole),
@@ -424,8 +401,7 @@ pub fn report_sheet<E: Output>(
 
 /// Reports of a sheet that not all of its outputs have got their names, if so. Says whether there was memory for the line.
 pub fn report_names<E: Output>(alloc: Global, errors: &mut E, name: &str, are_named: bool) -> bool
-    ensures line { Says E.Output errors.old errors.new result (names_line name.now are_named) }
-    ensures mark { E.own_mark errors.new ≡ E.own_mark errors.old }
+    ensures { Says E.Output errors.old errors.new result (names_line name.now are_named) }
 {
     if are_named {
         return true;

@@ -1,6 +1,6 @@
 //! The sheet that the text of a file is, or that is made of it.
 
-ghost use Rattle.std.specs.Prelude.{◌≡◌, IfErr, IfOk, None, OnOk};
+ghost use Rattle.std.specs.Prelude.{◌≡◌, IfErr, IfOk, None};
 ghost use Rattle.std.specs.Str.{is_utf8};
 ghost use Rattle.sheet_arguments.specs.Requests.{task_of};
 ghost use Rattle.family_trees.specs.OwnDates.{own_text};
@@ -37,8 +37,7 @@ fn fault_of_tree<'b>(text: &[u8]) -> Option<SheetFault<'b>>
 
 /// The sheet of the dates of a family tree.
 fn tree_of<'b>(alloc: Global, text: &[u8]) -> Result<Vec<u8>, SheetFault<'b>>
-    ensures sheet { IfOk result (λ sheet. sheet.items ≡ own_text text.now) }
-    ensures fine { OnOk result (fault_spec text.now ≡ None) }
+    ensures sheet { IfOk result (λ sheet. (fault_spec text.now ≡ None) × (sheet.items ≡ own_text text.now)) }
     ensures fault { IfErr result (IsFaultBy (fault_spec text.now)) }
 {
     match fault_of_tree(text) {
@@ -52,8 +51,8 @@ fn tree_of<'b>(alloc: Global, text: &[u8]) -> Result<Vec<u8>, SheetFault<'b>>
 
 /// The sheet that a job converts of the text of a file: with a tree that of its dates, and else the text itself.
 pub fn sheet_of<'b>(alloc: Global, text: Vec<u8>, job: &Job<'b>) -> Result<Vec<u8>, SheetFault<'b>>
-    ensures sheet { IfOk result (λ sheet. sheet.items ≡ sheet_spec (task_of job.now) text.items) }
-    ensures fine { OnOk result (fault_of_text (task_of job.now) text.items ≡ None) }
+    ensures sheet { IfOk result (λ sheet. (fault_of_text (task_of job.now) text.items ≡ None)
+        × (sheet.items ≡ sheet_spec (task_of job.now) text.items)) }
     ensures fault { IfErr result (IsFaultBy (fault_of_text (task_of job.now) text.items)) }
 {
     if !job.tree {

@@ -1,9 +1,8 @@
 -- The words of all columns are those of the job.
 use Rattle.std.proofs.Common.{IfErr, subst, sym}
+use Rattle.sheet_app.proofs.Common.{calendar_words, IsOfWords}
 use Rattle.sheet_arguments.specs.Requests.{wanted_by}
 use Rattle.sheet_arguments.specs.declared.requests.CalendarsAsked.{CalendarsAsked}
-use Rattle.sheet_app.specs.CalendarWords.{calendar_words}
-use Rattle.sheet_app.specs.SheetViews.{IsOfWords}
 use Rattle.sheet_app.proofs.calendar_words.check_calendars.Goals as goal
 
 pub returns-in-All : goal.returns-in-All

@@ -1,7 +1,6 @@
 -- The word that says nothing is one of all.
 use Rattle.std.proofs.Common.{[], List, get_or, map, ℕ}
-use Rattle.std.specs.Borrow.{Bor}
-use Rattle.sheet_app.specs.SheetViews.{IsOfWords}
+use Rattle.sheet_app.proofs.Common.{Bor, IsOfWords}
 use Rattle.sheet_app.proofs.FaultLemmas.{handed}
 use Rattle.sheet_app.proofs.NameListLemmas.{one_of_files}
 use Rattle.sheet_app.proofs.StartLemmas.{of_one}

@@ -1,4 +1,4 @@
-use Rattle.csv.specs.Records.{fields_of}
+use Rattle.sheet_app.proofs.Common.{fields_of}
 use Rattle.sheet_app.specs.Columns.{IsBareWord}
 use Rattle.sheet_app.proofs.ColumnLemmas.{HoldsOfNoneBefore}
 use Rattle.sheet_app.proofs.columns.bare_index_of.Given as goal

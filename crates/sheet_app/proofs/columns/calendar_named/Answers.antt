@@ -1,9 +1,7 @@
 -- The word that is missing is one of the task's.
 use Rattle.std.proofs.Common.{ap, map, option_map}
-use Rattle.std.specs.Borrow.{Bor}
-use Rattle.clap.specs.Words.{Text}
-use Rattle.csv.specs.Records.{fields_of}
-use Rattle.sheet_arguments.specs.Requests.{task_of, wanted_by}
+use Rattle.sheet_app.proofs.Common.{Bor, Text, fields_of, task_of}
+use Rattle.sheet_arguments.specs.Requests.{wanted_by}
 use Rattle.sheet_app.specs.Columns.{IsForWord, IsMissing}
 use Rattle.sheet_app.proofs.ColumnLemmas.{missing_calendar, missing_column, missing_else}
 use Rattle.sheet_app.proofs.FaultLemmas.{handed}

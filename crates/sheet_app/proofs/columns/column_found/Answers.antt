@@ -1,5 +1,5 @@
 -- The column of a number is the one before it.
-use Rattle.csv.specs.Records.{fields_of}
+use Rattle.sheet_app.proofs.Common.{fields_of}
 use Rattle.sheet_app.proofs.ColumnLemmas.{column_by_number, no_column, number_some}
 use Rattle.sheet_app.proofs.columns.column_found.Goals as goal
 

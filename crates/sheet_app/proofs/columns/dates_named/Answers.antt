@@ -1,8 +1,6 @@
 -- Each turn finds the next column.
 use Rattle.std.proofs.Common.{rules, ◌≡◌, ◌<◌, ◌∷◌, ◌++◌, [], get_or, length, arith}
-use Rattle.csv.specs.Records.{fields_of}
-use Rattle.register_sheets.specs.declared.choices.DateColumn.{DateColumn}
-use Rattle.sheet_arguments.specs.Requests.{task_of}
+use Rattle.sheet_app.proofs.Common.{fields_of, DateColumn, task_of}
 use Rattle.sheet_app.proofs.ColumnLemmas.{asked_word, date_column, one_more_date}
 use Rattle.sheet_app.proofs.columns.dates_named.Goals as goal
 

@@ -1,5 +1,4 @@
-use Rattle.csv.specs.Records.{fields_of}
-use Rattle.sheet_arguments.specs.Requests.{task_of}
+use Rattle.sheet_app.proofs.Common.{fields_of, task_of}
 use Rattle.sheet_app.proofs.ColumnLemmas.{AreFirstDates}
 use Rattle.sheet_app.proofs.columns.dates_named.Given as goal
 

@@ -1,4 +1,4 @@
-use Rattle.csv.specs.Records.{fields_of}
+use Rattle.sheet_app.proofs.Common.{fields_of}
 use Rattle.sheet_app.specs.Columns.{IsWord}
 use Rattle.sheet_app.proofs.ColumnLemmas.{HoldsOfNoneBefore}
 use Rattle.sheet_app.proofs.columns.index_of.Given as goal

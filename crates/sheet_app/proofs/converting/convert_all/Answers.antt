@@ -1,6 +1,7 @@
 -- Each turn converts the next sheet.
 use Rattle.std.proofs.Common.{rules, ◌≡◌, ◌≤◌, ◌+◌, ◌++◌, ◌∷◌, [], vec_capacity, vec_len, refl}
-use Rattle.std.specs.Vec.Iter.{into_iter_items, into_iter_len}
+use Rattle.sheet_app.proofs.Common.{into_iter_items}
+use Rattle.std.specs.Vec.Iter.{into_iter_len}
 use Rattle.sheet_app.proofs.LineLemmas.{more_reported, none_reported}
 use Rattle.sheet_app.proofs.ListLemmas.{zip_more}
 use Rattle.sheet_app.proofs.converting.convert_all.Goals as goal

@@ -1,7 +1,6 @@
 use Rattle.std.proofs.Common.{◌≡◌, ◌≤◌, ◌+◌, ◌++◌, vec_capacity, vec_len}
-use Rattle.std.specs.List.{AllZip}
-use Rattle.std.specs.Vec.Iter.{into_iter_items, into_iter_len}
-use Rattle.sheet_arguments.specs.Requests.{task_of}
+use Rattle.sheet_app.proofs.Common.{AllZip, into_iter_items, task_of}
+use Rattle.std.specs.Vec.Iter.{into_iter_len}
 use Rattle.sheet_app.specs.EndedSheets.{AreReported, IsEndOf}
 use Rattle.sheet_app.proofs.converting.convert_all.Given as goal
 

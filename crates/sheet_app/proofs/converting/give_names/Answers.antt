@@ -1,6 +1,6 @@
 -- Each turn names the next output.
 use Rattle.std.proofs.Common.{◌≡◌, ap, arith, get_or, List, ℕ, rules, subst}
-use Rattle.programs.specs.Places.{place_name}
+use Rattle.sheet_app.proofs.Common.{place_name}
 use Rattle.sheet_app.proofs.NameLemmas.{all_values, each_value}
 use Rattle.sheet_app.proofs.converting.give_names.Goals as goal
 use Rattle.sheet_app.proofs.converting.give_names.Goals.{then-not-give_name, else-not-give_name}

@@ -1,5 +1,5 @@
 use Rattle.std.proofs.Common.{◌≡◌, All, map, take, true}
-use Rattle.programs.specs.Places.{place_name}
+use Rattle.sheet_app.proofs.Common.{place_name}
 use Rattle.sheet_app.proofs.converting.give_names.Given as goal
 
 -- where all is well so far, the outputs so far have their names

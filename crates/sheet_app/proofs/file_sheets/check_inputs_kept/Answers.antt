@@ -1,10 +1,5 @@
-use Rattle.std.proofs.Common.{arith, get_or, List, [], ℕ}
-use Rattle.std.specs.Borrow.{Bor}
-use Rattle.std.specs.Prelude.{flat_map}
-use Rattle.std.specs.String.{string_bytes}
-use Rattle.sheet_arguments.specs.Requests.{task_of}
-use Rattle.sheet_app.specs.FileSheets.{IsNoInput, ending_of, names_ending}
-use Rattle.sheet_app.specs.SheetViews.{IsOfOutputs}
+use Rattle.std.proofs.Common.{arith, get_or, List, [], ℕ, flat_map}
+use Rattle.sheet_app.proofs.Common.{Bor, string_bytes, task_of, IsNoInput, ending_of, names_ending, IsOfOutputs}
 use Rattle.sheet_app.proofs.FaultLemmas.{handed, of_list, of_more}
 use Rattle.sheet_app.proofs.NameLemmas.{all_lists, each_list}
 use Rattle.sheet_app.proofs.file_sheets.check_inputs_kept.Goals as goal

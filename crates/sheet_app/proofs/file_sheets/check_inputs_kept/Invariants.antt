@@ -1,8 +1,5 @@
-use Rattle.std.proofs.Common.{All, take}
-use Rattle.std.specs.Prelude.{flat_map}
-use Rattle.std.specs.String.{string_bytes}
-use Rattle.sheet_arguments.specs.Requests.{task_of}
-use Rattle.sheet_app.specs.FileSheets.{IsNoInput, ending_of, names_ending}
+use Rattle.std.proofs.Common.{All, take, flat_map}
+use Rattle.sheet_app.proofs.Common.{string_bytes, task_of, IsNoInput, ending_of, names_ending}
 use Rattle.sheet_app.proofs.file_sheets.check_inputs_kept.Given as goal
 
 -- no output of the files so far is an input

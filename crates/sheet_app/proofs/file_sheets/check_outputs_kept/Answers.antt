@@ -1,9 +1,6 @@
 use Rattle.std.proofs.Common.{◌≡◌, ◌∙◌, ◌++◌, ◌∷◌, [], ap, arith, get_or, Global, List, map, ℕ, rules, String, subst}
-use Rattle.std.specs.String.{string_bytes}
+use Rattle.sheet_app.proofs.Common.{string_bytes, task_of, IsNoInput, ending_of, IsOfOutputs}
 use Rattle.std.proofs.lemmas.List.Elements.{All-cons}
-use Rattle.sheet_arguments.specs.Requests.{task_of}
-use Rattle.sheet_app.specs.FileSheets.{IsNoInput, ending_of}
-use Rattle.sheet_app.specs.SheetViews.{IsOfOutputs}
 use Rattle.sheet_app.proofs.FaultLemmas.{behind, handed, of_more, of_value}
 use Rattle.sheet_app.proofs.NameLemmas.{all_values, each_value}
 use Rattle.sheet_app.proofs.file_sheets.check_outputs_kept.Goals as goal

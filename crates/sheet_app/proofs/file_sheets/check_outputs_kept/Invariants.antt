@@ -1,7 +1,5 @@
 use Rattle.std.proofs.Common.{◌++◌, All, map, take}
-use Rattle.std.specs.String.{string_bytes}
-use Rattle.sheet_arguments.specs.Requests.{task_of}
-use Rattle.sheet_app.specs.FileSheets.{IsNoInput}
+use Rattle.sheet_app.proofs.Common.{string_bytes, task_of, IsNoInput}
 use Rattle.sheet_app.proofs.file_sheets.check_outputs_kept.Given as goal
 
 -- no output for a register so far is an input

@@ -1,7 +1,6 @@
 use Rattle.std.proofs.Common.{arith, List, ℕ}
-use Rattle.std.specs.Borrow.{Bor}
+use Rattle.sheet_app.proofs.Common.{Bor, place_name}
 use Rattle.programs.specs.OutputNames.{IsApartFrom}
-use Rattle.programs.specs.Places.{place_name}
 use Rattle.sheet_app.proofs.NameLemmas.{all_values, each_value}
 use Rattle.sheet_app.proofs.file_sheets.is_among.Goals as goal
 

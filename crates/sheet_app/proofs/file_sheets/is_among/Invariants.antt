@@ -1,6 +1,6 @@
 use Rattle.std.proofs.Common.{All, map, take}
+use Rattle.sheet_app.proofs.Common.{place_name}
 use Rattle.programs.specs.OutputNames.{IsApartFrom}
-use Rattle.programs.specs.Places.{place_name}
 use Rattle.sheet_app.proofs.file_sheets.is_among.Given as goal
 
 -- the names of the files so far were told apart from the output's

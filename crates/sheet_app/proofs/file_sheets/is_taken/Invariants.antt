@@ -1,6 +1,5 @@
 use Rattle.std.proofs.Common.{All, map, take}
-use Rattle.programs.specs.OutputNames.{AreTwoOutputs}
-use Rattle.programs.specs.Places.{place_name}
+use Rattle.sheet_app.proofs.Common.{AreTwoOutputs, place_name}
 use Rattle.sheet_app.proofs.file_sheets.is_taken.Given as goal
 
 -- the output was told apart from the outputs so far

@@ -1,7 +1,6 @@
 -- The output is made by its name, and its place is noted.
 use Rattle.std.proofs.Common.{rules, ◌≡◌, ◌∙◌, ◌++◌, ◌∷◌, [], map}
-use Rattle.programs.specs.OutputNames.{AreTwoOutputs}
-use Rattle.programs.specs.Places.{place_name}
+use Rattle.sheet_app.proofs.Common.{AreTwoOutputs, place_name}
 use Rattle.sheet_app.proofs.NameLemmas.{apart_more, made_by, noted_last}
 use Rattle.sheet_app.proofs.file_sheets.make_output.Goals as goal
 

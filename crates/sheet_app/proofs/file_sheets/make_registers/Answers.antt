@@ -1,10 +1,7 @@
 use Rattle.std.proofs.Common.{◌≡◌, ◌∙◌, ◌++◌, ◌∷◌, [], ℕ, ap, arith, get_or, Global, List, map, rules, String, subst}
-use Rattle.std.specs.List.{AllZip}
-use Rattle.std.specs.String.{string_bytes}
+use Rattle.sheet_app.proofs.Common.{AllZip, string_bytes, place_name, IsOfOutputs}
 use Rattle.std.proofs.lemmas.List.{take_all}
-use Rattle.programs.specs.Places.{place_name}
 use Rattle.sheet_app.specs.FileSheets.{IsMadeFor}
-use Rattle.sheet_app.specs.SheetViews.{IsOfOutputs}
 use Rattle.sheet_app.proofs.FaultLemmas.{handed, of_more, of_value}
 use Rattle.sheet_app.proofs.NameLemmas.{noted_more}
 use Rattle.sheet_app.proofs.RegisterLemmas.{made_more}
@@ -55,15 +52,13 @@ returns-clause-made g c =
 
 pub returns-clause-noted : goal.returns-clause-noted
 returns-clause-noted g c =
-    c.endings.invariant.noted
-    ∙ ap (λ (endings : List (String Global)). map place_name c.args.taken.now.items
+    c.endings.invariant.noted ∙ ap (λ (endings : List (String Global)). map place_name c.args.taken.now.items
     ++ map (λ (ending : String Global). c.args.file.now ++ string_bytes ending) endings)
     (take_all c.endings.ending-index c.args.endings.now (omega (arith, c.endings-test.false)))
 
 pub returns-clause-placed : goal.returns-clause-placed
 returns-clause-placed g c =
-    c.endings.invariant.placed
-    ∙ ap (λ (endings : List (String Global)). map place_name c.args.places.now.items
+    c.endings.invariant.placed ∙ ap (λ (endings : List (String Global)). map place_name c.args.places.now.items
     ++ map (λ (ending : String Global). c.args.file.now ++ string_bytes ending) endings)
     (take_all c.endings.ending-index c.args.endings.now (omega (arith, c.endings-test.false)))
 

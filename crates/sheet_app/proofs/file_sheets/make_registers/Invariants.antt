@@ -1,9 +1,5 @@
-use Rattle.std.proofs.Common.{◌≡◌, ◌++◌, map, take}
-use Rattle.std.specs.Prelude.{AllPairs}
-use Rattle.std.specs.List.{AllZip}
-use Rattle.std.specs.String.{string_bytes}
-use Rattle.programs.specs.OutputNames.{AreTwoOutputs}
-use Rattle.programs.specs.Places.{place_name}
+use Rattle.std.proofs.Common.{◌≡◌, ◌++◌, map, take, AllPairs}
+use Rattle.sheet_app.proofs.Common.{AllZip, string_bytes, AreTwoOutputs, place_name}
 use Rattle.sheet_app.specs.FileSheets.{IsMadeFor}
 use Rattle.sheet_app.proofs.file_sheets.make_registers.Given as goal
 

@@ -1,10 +1,7 @@
 -- An output that is missing is one of the file's.
 use Rattle.std.proofs.Common.{◌≡◌, ◌++◌, ◌∷◌, [], ap, Global, map, String}
-use Rattle.std.specs.String.{string_bytes}
-use Rattle.programs.specs.Places.{place_name}
-use Rattle.sheet_arguments.specs.Requests.{task_of}
-use Rattle.sheet_app.specs.FileSheets.{ending_of, names_ending, source_name}
-use Rattle.sheet_app.specs.SheetViews.{IsOfOutputs}
+use Rattle.sheet_app.proofs.Common.{string_bytes, place_name, task_of, ending_of, names_ending, source_name}
+use Rattle.sheet_app.proofs.Common.{IsOfOutputs}
 use Rattle.sheet_app.proofs.FaultLemmas.{behind, handed, of_more}
 use Rattle.sheet_app.proofs.NameLemmas.{all_placed}
 use Rattle.sheet_app.proofs.file_sheets.make_sheet.Goals as goal

@@ -1,16 +1,9 @@
 -- Each turn makes the outputs of the next file.
-use Rattle.std.proofs.Common.{arith, rules, ◌≡◌, ◌∙◌, ◌++◌, ◌∷◌, [], append-nil, map, subst, sym}
-use Rattle.std.specs.Prelude.{AllPairs, flat_map}
-use Rattle.std.specs.String.{string_bytes}
-use Rattle.std.specs.Vec.Iter.{into_iter_items}
+use Rattle.std.proofs.Common.{arith, rules, ◌≡◌, ◌∙◌, ◌++◌, ◌∷◌, [], append-nil, map, subst, sym, AllPairs, flat_map}
+use Rattle.sheet_app.proofs.Common.{string_bytes, into_iter_items, task_of, AreTwoOutputs, place_name, IsNewSheet}
+use Rattle.sheet_app.proofs.Common.{ending_of, names_ending, sheet_name, source_name, OpenedFile, IsOfOutputs}
 use Rattle.std.proofs.lemmas.List.{nil_from_length}
-use Rattle.sheet_arguments.specs.Requests.{task_of}
-use Rattle.programs.specs.OutputNames.{AreTwoOutputs}
-use Rattle.programs.specs.Places.{place_name}
-use Rattle.sheet_app.specs.FileSheets.{IsNewSheet, ending_of, names_ending, sheet_name, source_name}
 use Rattle.sheet_app.specs.declared.file_sheets.FileSheet.{FileSheet}
-use Rattle.sheet_app.specs.declared.file_sheets.OpenedFile.{OpenedFile}
-use Rattle.sheet_app.specs.SheetViews.{IsOfOutputs}
 use Rattle.sheet_app.proofs.FaultLemmas.{handed, of_left, of_more}
 use Rattle.sheet_app.proofs.ListLemmas.{each_more, first_of_left, made_more, others_left}
 use Rattle.sheet_app.proofs.NameLemmas.{listed_more}

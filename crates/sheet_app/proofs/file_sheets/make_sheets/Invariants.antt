@@ -1,11 +1,6 @@
-use Rattle.std.proofs.Common.{◌≡◌, ◌++◌, All, map}
-use Rattle.std.specs.Prelude.{AllPairs, flat_map}
-use Rattle.std.specs.String.{string_bytes}
-use Rattle.std.specs.Vec.Iter.{into_iter_items}
-use Rattle.sheet_arguments.specs.Requests.{task_of}
-use Rattle.programs.specs.OutputNames.{AreTwoOutputs}
-use Rattle.programs.specs.Places.{place_name}
-use Rattle.sheet_app.specs.FileSheets.{IsNewSheet, ending_of, names_ending, sheet_name, source_name}
+use Rattle.std.proofs.Common.{◌≡◌, ◌++◌, All, map, AllPairs, flat_map}
+use Rattle.sheet_app.proofs.Common.{string_bytes, into_iter_items, task_of, AreTwoOutputs, place_name, IsNewSheet}
+use Rattle.sheet_app.proofs.Common.{ending_of, names_ending, sheet_name, source_name}
 use Rattle.sheet_app.proofs.file_sheets.make_sheets.Given as goal
 
 -- the sheets so far are made, all have their names in order, and the names of outputs were told apart

@@ -1,15 +1,9 @@
 -- The names by which outputs were told apart are those of a task.
-use Rattle.std.proofs.Common.{◌≡◌, ◌∙◌, All, ap, Global, List, map, ℕ, refl, String, subst}
-use Rattle.std.specs.Borrow.{Bor}
-use Rattle.std.specs.Prelude.{AllPairs, IfOk, flat_map}
-use Rattle.std.specs.String.{string_bytes}
-use Rattle.sheet_arguments.specs.Requests.{Task, task_of}
-use Rattle.programs.specs.OutputNames.{AreTwoOutputs}
-use Rattle.sheet_app.specs.FileSheets.{IsNewSheet, IsNoInput, ending_of, names_ending, outputs_of, register_endings}
-use Rattle.sheet_app.specs.FileSheets.{source_name}
+use Rattle.std.proofs.Common.{◌≡◌, ◌∙◌, All, ap, Global, List, map, ℕ, refl, String, subst, AllPairs, IfOk, flat_map}
+use Rattle.sheet_app.proofs.Common.{Bor, string_bytes, Task, task_of, AreTwoOutputs, IsNewSheet, IsNoInput, ending_of}
+use Rattle.sheet_app.proofs.Common.{names_ending, source_name, IsOfOutputs, OpenedFile}
+use Rattle.sheet_app.specs.FileSheets.{outputs_of, register_endings}
 use Rattle.sheet_app.specs.ProgramFaults.{IsFaultOfFiles}
-use Rattle.sheet_app.specs.SheetViews.{IsOfOutputs}
-use Rattle.sheet_app.specs.declared.file_sheets.OpenedFile.{OpenedFile}
 use Rattle.sheet_app.proofs.FaultLemmas.{handed, of_inputs, of_outputs, on_err}
 use Rattle.sheet_app.proofs.NameLemmas.{on_ok, same_names}
 use Rattle.sheet_app.proofs.file_sheets.open_sheets.Goals as goal

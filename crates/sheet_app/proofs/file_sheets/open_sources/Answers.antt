@@ -1,9 +1,7 @@
 -- Each turn opens the next file.
 use Rattle.std.proofs.Common.{rules, ◌≡◌, ◌∙◌, ◌++◌, ◌∷◌, [], List, ℕ, arith, get_or, map, refl}
+use Rattle.sheet_app.proofs.Common.{Bor, source_name, OpenedFile}
 use Rattle.std.proofs.lemmas.List.{length-map, take_all}
-use Rattle.std.specs.Borrow.{Bor}
-use Rattle.sheet_app.specs.FileSheets.{source_name}
-use Rattle.sheet_app.specs.declared.file_sheets.OpenedFile.{OpenedFile}
 use Rattle.sheet_app.proofs.ListLemmas.{each_more, named_more}
 use Rattle.sheet_app.proofs.file_sheets.open_sources.Goals as goal
 

@@ -1,5 +1,5 @@
 use Rattle.std.proofs.Common.{◌≡◌, All, map, take}
-use Rattle.sheet_app.specs.FileSheets.{source_name}
+use Rattle.sheet_app.proofs.Common.{source_name}
 use Rattle.sheet_app.proofs.file_sheets.open_sources.Given as goal
 
 -- the sources are those of the files so far

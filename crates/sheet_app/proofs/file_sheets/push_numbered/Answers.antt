@@ -1,6 +1,7 @@
-use Rattle.std.proofs.Common.{◌≡◌, ◌∙◌, ◌++◌, ◌∷◌, ◌+◌, [], List, ap, append-nil, append_assoc, arith, map, rules, sym, ℕ}
+use Rattle.std.proofs.Common.{◌≡◌, ◌∙◌, ◌++◌, ◌∷◌, ◌+◌, [], List, ap, append-nil, append_assoc, arith, map, rules, sym}
+use Rattle.std.proofs.Common.{ℕ}
+use Rattle.sheet_app.proofs.Common.{string_bytes}
 use Rattle.std.specs.List.{range_with_len}
-use Rattle.std.specs.String.{string_bytes}
 use Rattle.std.proofs.lemmas.List.{map-append}
 use Rattle.std.proofs.lemmas.List.FromFn.{map-range_with_len_more}
 use Rattle.sheet_app.specs.FileSheets.{register_ending}

@@ -1,6 +1,6 @@
 use Rattle.std.proofs.Common.{◌≡◌, ◌++◌, map}
+use Rattle.sheet_app.proofs.Common.{string_bytes}
 use Rattle.std.specs.List.{range_with_len}
-use Rattle.std.specs.String.{string_bytes}
 use Rattle.sheet_app.specs.FileSheets.{register_ending}
 use Rattle.sheet_app.proofs.file_sheets.push_numbered.Given as goal
 

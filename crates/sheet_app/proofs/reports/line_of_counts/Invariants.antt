@@ -1,6 +1,7 @@
 use Rattle.std.proofs.Common.{◌≡◌, ◌-◌, [], ◌++◌, codes, map, take}
+use Rattle.sheet_app.proofs.Common.{head_of}
 use Rattle.std.specs.Fmt.{decimal}
-use Rattle.sheet_app.specs.Lines.{head_of, listed}
+use Rattle.sheet_app.specs.Lines.{listed}
 use Rattle.sheet_app.proofs.reports.line_of_counts.Given as goal
 
 -- the counts so far

@@ -1,14 +1,13 @@
 -- What broke off, or broke off behind the sheet, is told in one line.
 use Rattle.std.proofs.Common.{Global, Vec, ◌++◌, ◌∷◌, [], List, ℕ, ap, inl, inr, subst, sym}
-use Rattle.sheet_app.specs.Lines.{fault_text, head_of, lines_on}
-use Rattle.sheet_arguments.specs.Requests.{task_of}
+use Rattle.sheet_app.proofs.Common.{head_of, task_of, SheetDone}
+use Rattle.sheet_app.specs.Lines.{fault_text, lines_on}
 use Rattle.sheet_app.specs.SheetViews.{Says}
-use Rattle.sheet_app.specs.declared.sheets.SheetDone.{SheetDone}
 use Rattle.sheet_app.proofs.LineLemmas.{line_said}
 use Rattle.sheet_app.proofs.reports.report_sheet.Goals as goal
 
-pub returns-in-WholeBut-clause-lines : goal.returns-in-WholeBut-clause-lines
-returns-in-WholeBut-clause-lines g c =
+pub returns-in-WholeBut : goal.returns-in-WholeBut
+returns-in-WholeBut g c =
     let before = c.args.errors.now in let after = c.send_line.new.errors in
     let line : List ℕ = head_of c.args.name.now ++ (fault_text c.in-WholeBut.fault ++ 10 ∷ []) in
     let said : Says g.E.Output before after c.send_line.result line

@@ -1,6 +1,6 @@
 -- Each turn adds the next name.
 use Rattle.std.proofs.Common.{◌<◌, ◌∙◌, arith, length}
-use Rattle.csv.specs.Records.{fields_of}
+use Rattle.sheet_app.proofs.Common.{fields_of}
 use Rattle.sheet_app.proofs.LineLemmas.{text_more}
 use Rattle.sheet_app.proofs.sheet_faults.push_names.Goals as goal
 

@@ -1,5 +1,5 @@
 use Rattle.std.proofs.Common.{◌≡◌, ◌++◌, take}
-use Rattle.csv.specs.Records.{fields_of}
+use Rattle.sheet_app.proofs.Common.{fields_of}
 use Rattle.sheet_app.specs.Lines.{listed}
 use Rattle.sheet_app.proofs.sheet_faults.push_names.Given as goal
 

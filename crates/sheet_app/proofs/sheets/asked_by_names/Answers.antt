@@ -1,6 +1,5 @@
 -- The fault tells the word that is missing, and the names.
-use Rattle.csv.specs.Records.{fields_of}
-use Rattle.sheet_arguments.specs.Requests.{task_of}
+use Rattle.sheet_app.proofs.Common.{fields_of, task_of}
 use Rattle.sheet_app.proofs.ColumnLemmas.{missing_id}
 use Rattle.sheet_app.proofs.sheets.asked_by_names.Goals as goal
 

@@ -1,10 +1,9 @@
 -- What is known was made of what the task asks, with the names of the list and the headings of the sheet.
 use Rattle.std.proofs.Common.{◌∙◌, ap, map}
+use Rattle.sheet_app.proofs.Common.{task_of, bare_name}
 use Rattle.register_sheets.specs.AskedOfSheets.{asked_in}
 use Rattle.register_sheets.specs.Headings.{items_of}
 use Rattle.register_sheets.proofs.AskedOfSheetLemmas.{listed_choice}
-use Rattle.sheet_arguments.specs.Requests.{task_of}
-use Rattle.written_dates.specs.Fields.{bare_name}
 use Rattle.sheet_app.proofs.EndLemmas.{asks_for, makes_choices}
 use Rattle.sheet_app.proofs.sheets.write_asked.Goals as goal
 

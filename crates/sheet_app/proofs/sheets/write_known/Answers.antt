@@ -1,8 +1,9 @@
 -- What was written by the choice that is known is what the task asks.
 use Rattle.std.proofs.Common.{inr, refl}
-use Rattle.sheet_arguments.specs.Requests.{task_of}
+use Rattle.sheet_app.proofs.Common.{task_of}
+use Rattle.sheet_app.specs.Sheets.{IsListBy}
 use Rattle.sheet_app.specs.declared.sheets.TheConstants.{MOST_UNKNOWN}
-use Rattle.sheet_app.proofs.EndLemmas.{asked_done, asked_list, broken_marked, ended_fault}
+use Rattle.sheet_app.proofs.EndLemmas.{asked_behind, asked_done, broken_marked, ended_fault}
 use Rattle.sheet_app.proofs.sheets.write_known.Goals as goal
 
 pub returns-in_err-write_mark : goal.returns-in_err-write_mark
@@ -30,10 +31,9 @@ pub returns-then-job : goal.returns-then-job
 returns-then-job g c = λ lines asks.
     let choice = c.setup_of-setup.result.choice in
     let chosen = asks choice c.setup_of-setup.ensures.0 c.setup_of-setup.ensures.1 in (
-      asked_list (task_of c.args.job.now) lines MOST_UNKNOWN c.args.sheet.now choice c.in_ok-listed.listed
-          (g.W.Output.contents c.args.output.now) (g.W.Output.contents c.write_mark.new.output)
-          (g.W.Output.contents c.list_unknown.new.output) chosen c.in_ok-write_mark.ensures.ok
-          c.in_ok-listed.ensures.whole,
+      asked_behind (task_of c.args.job.now) lines c.args.sheet.now choice
+          (λ found. IsListBy found MOST_UNKNOWN c.args.sheet.now c.in_ok-listed.listed) _ _ _ chosen
+          c.in_ok-write_mark.ensures.ok c.in_ok-listed.ensures.whole,
       c.in_ok-listed.ensures.flushed,
       c.if-job.true,
       refl,

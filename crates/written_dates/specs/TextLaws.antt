@@ -176,7 +176,7 @@ HasKeptYear choice calendar text =
     → (is_turned choice.order year day ≡ false)
     × ((n : Numeral) → number_of_digits year ≡ Some n → short_rule choice calendar n ≡ Keep)
 
--- what is written for a text is written for itself, unless it is a date with such a year
+-- what is written for a text is written for itself, if it is no date or has such a year
 abbrev pub WrittenTextsStay : Type 0
 WrittenTextsStay =
     (choice : Choice) (calendar : Calendar) (names : List Name) (text : List ℕ) → form calendar ≡ Civil

@@ -10,7 +10,7 @@ use Rattle.register_sheets.specs.declared.choices.AskedColumn.{AskedColumn}
 use Rattle.register_sheets.specs.declared.choices.AskedColumn.TheVariants.{Cells, Church}
 use Rattle.register_sheets.specs.declared.choices.DateColumn.{DateColumn}
 use Rattle.register_sheets.specs.declared.choices.Spans.{Spans}
-use Rattle.register_page_exports.specs.AskedViews.{all_before}
+use Rattle.register_page_exports.specs.private.AskedViews.{all_before}
 use Rattle.register_page_exports.specs.SheetChoices.{asked_by, before, column_by, columns_by, date_by, dates_by, id_by}
 use Rattle.register_page_exports.specs.SheetChoices.{reading_by, spans_by}
 

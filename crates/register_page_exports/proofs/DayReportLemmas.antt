@@ -11,7 +11,8 @@ use Rattle.register_records.specs.Sources.{cause_number}
 use Rattle.register_records.specs.declared.ends.Cause.{Cause}
 use Rattle.register_records.specs.declared.ends.Cause.TheVariants as cause
 use Rattle.register_records.specs.declared.setups.Form.TheVariants.{Sealed}
-use Rattle.register_page_exports.specs.DayReports.{GoesOver, PutsEntries, PutsNoDays, Rooms, ending_by}
+use Rattle.register_page_exports.specs.DayReports.{GoesOver, PutsEntries, PutsNoDays, Rooms}
+use Rattle.register_page_exports.specs.private.DayReports.{ending_by}
 use Rattle.register_page_exports.specs.declared.days.DaysReport.{DaysReport}
 
 -- each cause has a number of its own, from 1

@@ -14,7 +14,7 @@ use Rattle.register_sheets.proofs.AskedOfSheetLemmas.{listed_choice}
 use Rattle.written_dates.specs.Fields.{bare_name, entries}
 use Rattle.written_dates.specs.declared.fields.CalendarName.{CalendarName}
 use Rattle.written_dates.specs.declared.meanings.Name.{Name}
-use Rattle.register_page_exports.specs.KnownViews.{EndsEarly, KnowsAsked, ending_by}
+use Rattle.register_page_exports.specs.private.KnownViews.{EndsEarly, KnowsAsked, ending_by}
 use Rattle.register_page_exports.specs.SheetChoices.{asked_by}
 use Rattle.register_page_exports.specs.SheetTables.{EndsBy, EndsFor, IsChoiceAt}
 use Rattle.register_page_exports.specs.declared.sheet_tables.SheetEnding.{SheetEnding}

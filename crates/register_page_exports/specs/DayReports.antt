@@ -1,5 +1,5 @@
 -- What the numbers of a report of days say.
-use Rattle.std.specs.Prelude.{◌≡◌, ◌≢◌, ◌⊎◌, ℕ, List, [], Some, Result, Ok, Err, length}
+use Rattle.std.specs.Prelude.{◌≡◌, ◌≢◌, ◌⊎◌, ℕ, List, [], Some, length}
 use Rattle.page_rules.specs.EntryDays.{HasDays, PutsDays}
 use Rattle.page_rules.specs.declared.entry_days.EntryDay.{EntryDay}
 use Rattle.register_records.specs.Entries.{HasAllEntries, HasEntries, HasFirstEntries, HasNoHeader, HasTooMany}
@@ -9,11 +9,6 @@ use Rattle.register_records.specs.declared.ends.Cause.{Cause}
 use Rattle.register_records.specs.declared.ends.Cause.TheVariants as cause
 use Rattle.register_records.specs.declared.setups.Form.TheVariants.{Sealed}
 use Rattle.register_page_exports.specs.declared.days.DaysReport.{DaysReport}
-
--- the ending of a register that was gone over, or broke off for a cause
-abbrev pub ending_by : Result Unit Cause → ℕ
-ending_by (Ok done) = 0
-ending_by (Err cause) = cause_number cause
 
 -- a room for days, and one for calendars
 abbrev pub Rooms : Type 0

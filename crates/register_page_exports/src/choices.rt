@@ -1,7 +1,7 @@
 //! What a page chooses of a sheet, in numbers.
 
 ghost use Rattle.std.specs.Prelude.{◌≡◌, ◌++◌, IfOk};
-ghost use Rattle.register_page_exports.specs.AskedViews.{asked_seen, columns_seen, dates_seen};
+ghost use Rattle.register_page_exports.specs.private.AskedViews.{asked_seen, columns_seen, dates_seen};
 ghost use Rattle.register_page_exports.specs.SheetChoices.{asked_by, calendar_by, column_by, columns_by, date_by, dates_by};
 ghost use Rattle.register_page_exports.specs.SheetChoices.{flag_by, id_by, order_in, reading_by, short_by, short_hebrew_by};
 ghost use Rattle.register_page_exports.specs.SheetChoices.{spans_by};

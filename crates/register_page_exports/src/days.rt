@@ -4,7 +4,8 @@ ghost use Rattle.std.specs.Prelude.{◌≡◌, ◌↔◌, [], IfSome, IsSome, fa
 ghost use Rattle.page_rules.specs.Requests.{reading_by};
 ghost use Rattle.register_records.specs.SetupRules.{is_delimiter};
 ghost use Rattle.register_records.specs.Views.{reading_of, targets_of};
-ghost use Rattle.register_page_exports.specs.DayReports.{GoesOver, PutsNoDays, ending_by};
+ghost use Rattle.register_page_exports.specs.DayReports.{GoesOver, PutsNoDays};
+ghost use Rattle.register_page_exports.specs.private.DayReports.{ending_by};
 
 use page_rules::{RequestFault, put_days, register_days as days_of};
 use register_records::{Cause, Form, Setup};

@@ -11,7 +11,7 @@ ghost use Rattle.register_sheets.specs.UnknownNames.{AreUnreadIn, IsUnknown, lis
 ghost use Rattle.register_sheets.specs.declared.asked_of_sheets.AskedByNames.{AskedByNames as AskedByNamesValue};
 ghost use Rattle.register_sheets.specs.declared.choices.DateColumn.{DateColumn as DateColumnValue};
 ghost use Rattle.register_sheets.specs.declared.choices.SheetChoice.{SheetChoice as SheetChoiceValue};
-ghost use Rattle.register_page_exports.specs.KnownViews.{EndsEarly, KnowsAsked, ending_by};
+ghost use Rattle.register_page_exports.specs.private.KnownViews.{EndsEarly, KnowsAsked, ending_by};
 ghost use Rattle.register_page_exports.specs.SheetChoices.{asked_by};
 ghost use Rattle.register_page_exports.specs.SheetReports.{PutsText};
 ghost use Rattle.register_page_exports.specs.SheetTables.{EndsBy, EndsFor, HasFault, IsAskedRegister, IsAskedSheet};

@@ -1,5 +1,5 @@
 use Rattle.std.proofs.Common.{◌≡◌, drop}
-use Rattle.register_page_exports.specs.AskedViews.{all_before}
+use Rattle.register_page_exports.specs.private.AskedViews.{all_before}
 use Rattle.register_page_exports.specs.SheetChoices.{columns_by}
 use Rattle.register_page_exports.proofs.choices.columns_of.Given as goal
 

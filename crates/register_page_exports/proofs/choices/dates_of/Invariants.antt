@@ -1,5 +1,5 @@
 use Rattle.std.proofs.Common.{◌≡◌, length}
-use Rattle.register_page_exports.specs.AskedViews.{all_before}
+use Rattle.register_page_exports.specs.private.AskedViews.{all_before}
 use Rattle.register_page_exports.specs.SheetChoices.{dates_by}
 use Rattle.register_page_exports.proofs.choices.dates_of.Given as goal
 

@@ -1,4 +1,4 @@
--- What a clause sees of what is asked and known. No public contract cites this file.
+-- What a clause sees of what is asked and known.
 use Rattle.std.specs.Prelude.{◌≡◌, ⊤, ℕ, List, IsSome, None}
 use Rattle.register_sheets.specs.AskedOfSheets.{IsChoiceBy}
 use Rattle.register_sheets.specs.declared.asked_of_sheets.AskedByNames.{AskedByNames}

@@ -1,4 +1,4 @@
--- What a clause sees of what a page asks. No public contract cites this file.
+-- What a clause sees of what a page asks.
 use Rattle.std.specs.Prelude.{◌++◌, List, Option, None, Some, Vec}
 use Rattle.std.specs.declared.alloc.Global.{Global}
 use Rattle.register_sheets.specs.AskedOfSheets.{SheetAsked, asked_in}

@@ -1,0 +1,4 @@
+-- What serves private clauses and proofs alone: no public clause reaches it.
+pub mod AskedViews
+pub mod DayReports
+pub mod KnownViews

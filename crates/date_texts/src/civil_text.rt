@@ -23,7 +23,7 @@ use crate::pieces::put_byte;
 use day_numbers::Ymd;
 
 /// The bytes after the letter W, of either case, at the front.
-#[tactic(auto, unfolding(crate::specs::views::CivilReading::after_week_letter))]
+#[tactic(auto, unfolding(crate::specs::private::CivilReading::after_week_letter))]
 fn after_week_letter(bytes: &[u8]) -> Option<&[u8]>
     ensures { seen_rest result ≡ after_letter_spec bytes.now }
 {
@@ -34,7 +34,7 @@ fn after_week_letter(bytes: &[u8]) -> Option<&[u8]>
 }
 
 /// The bytes after what stands before a week, the letter W, and before a month, nothing.
-#[tactic(auto, unfolding(crate::specs::views::CivilReading::after_mark))]
+#[tactic(auto, unfolding(crate::specs::private::CivilReading::after_mark))]
 fn after_mark(grammar: Grammar, bytes: &[u8]) -> Option<&[u8]>
     ensures { seen_rest result ≡ after_mark_spec grammar bytes.now }
 {
@@ -47,7 +47,7 @@ fn after_mark(grammar: Grammar, bytes: &[u8]) -> Option<&[u8]>
 
 /// The year, month and day that the bytes spell, or the year, week and weekday.
 #[inline(always)]
-#[tactic(auto, unfolding(crate::specs::views::CivilReading::civil_at, crate::specs::views::Reading::part_at))]
+#[tactic(auto, unfolding(crate::specs::private::CivilReading::civil_at, crate::specs::private::Reading::part_at))]
 fn civil_at(grammar: Grammar, bytes: &[u8]) -> Option<(i32, u8, u8)>
     ensures value { result ≡ civil_spec grammar bytes.now }
     ensures near { IfSome result (λ d. IsYmd d.0 d.1 d.2) }

@@ -19,7 +19,7 @@ use maya_calendars::LongCount;
 
 /// A place of a long count, and the bytes after the dot behind it.
 #[inline(always)]
-#[tactic(auto, unfolding(crate::specs::views::LongReading::place_at, crate::specs::views::Reading::part_at))]
+#[tactic(auto, unfolding(crate::specs::private::LongReading::place_at, crate::specs::private::Reading::part_at))]
 fn place_at(bytes: &[u8]) -> Option<(u16, &[u8])>
     ensures value { seen_number result ≡ place_spec bytes.now }
     ensures small { IfSome result (λ r. r.0 ≤ 9_999) }
@@ -29,7 +29,7 @@ fn place_at(bytes: &[u8]) -> Option<(u16, &[u8])>
 }
 
 /// The five places of a long count that the bytes spell.
-#[tactic(auto, unfolding(crate::specs::views::LongReading::long_at))]
+#[tactic(auto, unfolding(crate::specs::private::LongReading::long_at))]
 fn long_at(bytes: &[u8]) -> Option<(u16, u16, u16, u16, u16)>
     ensures value { result ≡ long_spec bytes.now }
     ensures near { IfSome result (λ c. ArePlaces c.0 c.1 c.2 c.3 c.4) }

@@ -22,7 +22,7 @@ use crate::pieces::{put_byte, put_text};
 use solar_calendars::{RomanDate, RomanName};
 
 /// The count that the bytes spell, of one or two digits.
-#[tactic(auto, unfolding(crate::specs::views::RomanReading::count_at))]
+#[tactic(auto, unfolding(crate::specs::private::RomanReading::count_at))]
 fn count_at(bytes: &[u8]) -> Option<u8>
     ensures value { result ≡ count_spec bytes.now }
     ensures small { IfSome result (λ count. count ≤ 99) }
@@ -32,7 +32,7 @@ fn count_at(bytes: &[u8]) -> Option<u8>
 }
 
 /// The name of a day that the bytes spell by a letter and a count.
-#[tactic(auto, unfolding(crate::specs::views::RomanReading::counted_at))]
+#[tactic(auto, unfolding(crate::specs::private::RomanReading::counted_at))]
 fn counted_at(bytes: &[u8]) -> Option<RomanName>
     ensures value { result ≡ counted_spec bytes.now }
     ensures small { IfSome result (λ name. count_of name ≤ 99) }
@@ -49,7 +49,7 @@ fn counted_at(bytes: &[u8]) -> Option<RomanName>
 }
 
 /// The name of a day that the bytes spell.
-#[tactic(auto, unfolding(crate::specs::views::RomanReading::name_at))]
+#[tactic(auto, unfolding(crate::specs::private::RomanReading::name_at))]
 fn name_at(bytes: &[u8]) -> Option<RomanName>
     ensures value { result ≡ name_spec bytes.now }
     ensures small { IfSome result (λ name. count_of name ≤ 99) }
@@ -61,7 +61,7 @@ fn name_at(bytes: &[u8]) -> Option<RomanName>
 }
 
 /// The year, month and name of a day that the bytes spell.
-#[tactic(auto, unfolding(crate::specs::views::RomanReading::roman_at, crate::specs::views::Reading::part_at))]
+#[tactic(auto, unfolding(crate::specs::private::RomanReading::roman_at, crate::specs::private::Reading::part_at))]
 fn roman_at(bytes: &[u8]) -> Option<(i32, u8, RomanName)>
     ensures value { result ≡ roman_spec bytes.now }
     ensures near { IfSome result (λ d. IsYear d.0 × (d.1 ≤ 99) × (count_of d.2 ≤ 99)) }

@@ -9,6 +9,9 @@ use arrayvec::ArrayString;
 use register_records::{Output, send};
 use std::alloc::{AllocError, Global};
 
+/// What a program says where memory ran out.
+pub const OUT_OF_MEMORY: &str = "out of memory";
+
 /// A line of a program's own: its name, what is wrong, and the word with which it is wrong.
 ///
 /// # Errors
@@ -61,8 +64,9 @@ pub fn report_out_of_memory<E: Output>(program: &str, errors: &mut E)
     requires short { length program.now ≤ 30 }
     ensures line { E.has_failed errors.new ≡ false
         → Appends (E.contents errors.old) (E.contents errors.new) (memory_line program.now) }
+    ensures goes { E.has_failed errors.new ≡ false → E.has_failed errors.old ≡ false }
     ensures mark { E.own_mark errors.new ≡ E.own_mark errors.old }
 {
-    let line = short_line(program, "out of memory");
+    let line = short_line(program, OUT_OF_MEMORY);
     let _ = send(errors, line.as_str().as_bytes());
 }

@@ -1,6 +1,6 @@
 //! Why nothing is done.
 
-use programs::{FileFault, NOT_BEGUN, Refusal, output_name, own_line};
+use programs::{FileFault, NOT_BEGUN, OUT_OF_MEMORY, Refusal, output_name, own_line};
 use register_arguments::{NAME, RequestFault};
 use std::alloc::{AllocError, Global};
 
@@ -35,12 +35,7 @@ impl Refusal for ProgramFault<'_> {
                 let name = output_name(alloc, file)?;
                 own_line(alloc, NAME, "cannot make ", name.as_str())
             }
-            ProgramFault::Files(FileFault::OutOfMemory) => own_line(
-                alloc,
-                NAME,
-                "out of memory",
-                "",
-            ),
+            ProgramFault::Files(FileFault::OutOfMemory) => own_line(alloc, NAME, OUT_OF_MEMORY, ""),
         }
     }
 }

@@ -6,7 +6,7 @@ ghost use Rattle.register_arguments.specs.Faults.{program_line};
 
 use crate::requests::NAME;
 use date_texts::Target;
-use programs::{FilesFault, NOT_BEGUN, REFUSED, UsageFault, clap_text, own_line};
+use programs::{FilesFault, NOT_BEGUN, OUT_OF_MEMORY, REFUSED, UsageFault, clap_text, own_line};
 use std::alloc::{AllocError, Global};
 
 /// Why the arguments ask for nothing: what is wrong with them, or that memory ran out.
@@ -93,7 +93,7 @@ impl RequestFault<'_> {
         ensures { IfSome (error_line self.now) (λ line. program_line (result.0.now ++ result.1.now) ≡ line) }
     {
         match self {
-            RequestFault::OutOfMemory | RequestFault::Usage(_) => ("out of memory", ""),
+            RequestFault::OutOfMemory | RequestFault::Usage(_) => (OUT_OF_MEMORY, ""),
             RequestFault::UnknownTarget(word) => ("unknown target: ", *word),
             RequestFault::TargetTwice(target) => ("target named twice: ", target.name()),
             RequestFault::BadRing(word) => ("bad ring size: ", *word),

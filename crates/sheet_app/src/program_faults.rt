@@ -6,7 +6,7 @@ ghost use Rattle.sheet_app.specs.ProgramFaults.{list_line as list_line_spec};
 
 use crate::file_sheets::FileFault;
 use itoa::Buffer;
-use programs::{NOT_BEGUN, REFUSED, Refusal, own_line};
+use programs::{NOT_BEGUN, OUT_OF_MEMORY, REFUSED, Refusal, own_line};
 use register_sheets::NameListFault;
 use sheet_arguments::{NAME, RequestFault};
 use std::alloc::{AllocError, Global};
@@ -31,7 +31,7 @@ fn list_line(alloc: Global, file: &str, fault: NameListFault) -> Result<String, 
     ensures { IfOk result (λ text. string_bytes text ≡ list_line_spec file.now fault) }
 {
     let (number, why) = match fault {
-        NameListFault::OutOfMemory => return own_line(alloc, NAME, "out of memory", ""),
+        NameListFault::OutOfMemory => return own_line(alloc, NAME, OUT_OF_MEMORY, ""),
         NameListFault::Header => return own_line(
             alloc,
             NAME,
@@ -78,7 +78,7 @@ impl Refusal for ProgramFault<'_> {
                 own_line(alloc, NAME, "unknown calendar: ", word)
             }
             ProgramFault::Files(FileFault::OutOfMemory) | ProgramFault::OutOfMemory => {
-                own_line(alloc, NAME, "out of memory", "")
+                own_line(alloc, NAME, OUT_OF_MEMORY, "")
             }
         }
     }

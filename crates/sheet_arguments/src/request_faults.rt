@@ -6,7 +6,7 @@ ghost use Rattle.register_sheets.specs.Headings.{asked_name};
 ghost use Rattle.sheet_arguments.specs.Faults.{program_line};
 
 use crate::requests::NAME;
-use programs::{FilesFault, NOT_BEGUN, REFUSED, UsageFault, clap_text, own_line};
+use programs::{FilesFault, NOT_BEGUN, OUT_OF_MEMORY, REFUSED, UsageFault, clap_text, own_line};
 use register_sheets::AskedColumn;
 use std::alloc::{AllocError, Global};
 
@@ -127,7 +127,7 @@ impl RequestFault<'_> {
         ensures { IfSome (error_line self.now) (λ line. program_line (result.0.now ++ result.1.now) ≡ line) }
     {
         match self {
-            RequestFault::OutOfMemory | RequestFault::Usage(_) => ("out of memory", ""),
+            RequestFault::OutOfMemory | RequestFault::Usage(_) => (OUT_OF_MEMORY, ""),
             RequestFault::TreeAtOdds => (
                 "--tree takes no --date, --three, --calendar, --all, --skip and --delimiter",
                 "",

@@ -7,7 +7,9 @@ use Rattle.sheet_app.proofs.program.refuse.Goals as goal
 
 pub returns-clause-status : goal.returns-clause-status
 returns-clause-status g c =
-    status_told fault_status fault_line _ name _ _ _ _ c.report_refusal.ensures.told
+    status_told fault_status fault_line g.E.Output name c.args.why.now c.report_refusal.result _ _
+    c.report_refusal.ensures.told
 
 pub returns-clause-reported : goal.returns-clause-reported
-returns-clause-reported g c = λ arguments. is_reported arguments _ _ _ _ _ c.report_refusal.ensures.told
+returns-clause-reported g c = λ arguments.
+    is_reported arguments g.E.Output c.args.why.now c.report_refusal.result _ _ c.report_refusal.ensures.told

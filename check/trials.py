@@ -216,25 +216,17 @@ def difference(expected, came):
 
 class Counted(unittest.TextTestResult):
     """Counts trials, and tells at once which fail."""
-    passed = failed = parts = 0
+    passed = failed = 0
 
     def count(self, name, error):
-        self.passed, self.failed, self.parts = self.passed + (not error), self.failed + bool(error), self.parts + 1
+        self.passed, self.failed = self.passed + (not error), self.failed + bool(error)
         if error:
             is_told = issubclass(error[0], AssertionError)
             print(f"FAILED: {name}", str(error[1]) if is_told else "".join(traceback.format_exception(*error)), sep="\n",
                   file=self.stream, flush=True)
 
-    def startTest(self, test):
-        super().startTest(test)
-        self.parts = 0
-
     def addSubTest(self, test, subtest, error):
         self.count(subtest.params["what"], error)
-
-    def addSuccess(self, test):
-        if not self.parts:
-            self.count(test.id(), None)
 
     def addFailure(self, test, error):
         self.count(test.id(), error)

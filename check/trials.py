@@ -277,7 +277,8 @@ def main():
         parser.add_argument(f"--{program.name}", metavar="FILE", help="the program, in place of what its launcher builds")
     found = counted([Itself("test_comparison")], itself)
     if (found.passed, found.failed) != (1, 1) or "FAILED: two texts that differ\n" not in itself.getvalue():
-        sys.exit("FAILED: the comparison of texts\n0 passed, 1 failed")
+        print("FAILED: the comparison of texts", "0 passed, 1 failed", sep="\n")
+        sys.exit(1)
     GIVEN.update(vars(parser.parse_args()))
     tests = tests_of(check)
     chosen = [test for test in tests if any(word in test.id().rpartition(".")[2] for word in GIVEN["cases"])]

@@ -294,5 +294,8 @@ def main():
         found = counted(chosen or tests, sys.stdout)
     except KeyboardInterrupt:
         sys.exit(130)
+    is_lost = bool(GIVEN["cases"]) and not found.passed + found.failed
+    if is_lost:
+        print("no trial has this in its name:", *GIVEN["cases"])
     print(f"{found.passed} passed, {found.failed} failed")
-    sys.exit(found.failed > 0 or not found.passed and bool(GIVEN["cases"]))
+    sys.exit(found.failed > 0 or is_lost)

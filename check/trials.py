@@ -61,7 +61,8 @@ class Program:
 
     def help(self):
         """The page of help, as it stands in the source."""
-        return text_of(f"crates/{self.arguments}/src/help.rt").split('HELP: &str = "')[1].split('\n";\n')[0].replace('\\"', '"')
+        source = text_of(f"crates/{self.arguments}/src/help.rt")
+        return source.split('HELP: &str = "')[1].split('\n";\n')[0].replace('\\"', '"')
 
 
 def text_of(name):
@@ -112,7 +113,8 @@ def run(words, text="", seconds=600, **how):
     """Runs a command on a text to its end. After ten minutes, or where this check is ended before, what it started is
     ended too."""
     words = [str(word).encode(*BYTES) for word in ("timeout", "--kill-after=10", seconds, *words)]
-    how = {"stdin": subprocess.PIPE if text else subprocess.DEVNULL, "stdout": subprocess.PIPE, "stderr": subprocess.PIPE} | how
+    how = {"stdin": subprocess.PIPE if text else subprocess.DEVNULL, "stdout": subprocess.PIPE,
+           "stderr": subprocess.PIPE} | how
     with subprocess.Popen(words, **how) as process:
         try:
             written = process.communicate(text.encode(*BYTES) if text else None)
@@ -216,25 +218,18 @@ def difference(expected, came):
 
 class Counted(unittest.TextTestResult):
     """Counts trials, and tells at once which fail."""
-    passed = failed = parts = 0
+    passed = failed = 0
 
     def count(self, name, error):
-        self.passed, self.failed, self.parts = self.passed + (not error), self.failed + bool(error), self.parts + 1
+        self.passed, self.failed = self.passed + (not error), self.failed + bool(error)
         if error:
             is_told = issubclass(error[0], AssertionError)
-            print(f"FAILED: {name}", str(error[1]) if is_told else "".join(traceback.format_exception(*error)), sep="\n",
+            print(f"FAILED: {name}", str(error[1]) if is_told else "".join(traceback.format_exception(*error)),
+                  sep="\n",
                   file=self.stream, flush=True)
-
-    def startTest(self, test):
-        super().startTest(test)
-        self.parts = 0
 
     def addSubTest(self, test, subtest, error):
         self.count(subtest.params["what"], error)
-
-    def addSuccess(self, test):
-        if not self.parts:
-            self.count(test.id(), None)
 
     def addFailure(self, test, error):
         self.count(test.id(), error)
@@ -262,15 +257,16 @@ class Itself(Trials):
 
 
 def end_on_signals():
-    """Lets this program end as by an interrupt where it is asked to end, so that it clears up. What it starts takes such
-    signals, also where this program was started without."""
+    """Lets this program end as by an interrupt where it is asked to end, so that it clears up. What it starts takes
+    such signals, also where this program was started without."""
     for number in (signal.SIGINT, signal.SIGTERM, signal.SIGHUP):
         signal.signal(number, signal.default_int_handler)
 
 
 def tests_of(check):
     """The tests of a check, in their order."""
-    kinds = [it for it in vars(check).values() if isinstance(it, type) and issubclass(it, Trials) and it.__module__ == check.__name__]
+    kinds = [it for it in vars(check).values() if isinstance(it, type) and issubclass(it, Trials)
+             and it.__module__ == check.__name__]
     return [kind(name) for kind in kinds for name in vars(kind) if name.startswith("test_")]
 
 
@@ -280,12 +276,15 @@ def main():
     sys.stdout.reconfigure(encoding="utf-8", errors="backslashreplace", line_buffering=True)
     check, itself = sys.modules["__main__"], io.StringIO()
     parser = argparse.ArgumentParser(description=check.__doc__, formatter_class=argparse.RawDescriptionHelpFormatter)
-    parser.add_argument("cases", nargs="*", metavar="CASE", help="only tests, or else trials, with such a word in their names")
+    parser.add_argument("cases", nargs="*", metavar="CASE",
+                        help="only tests, or else trials, with such a word in their names")
     for program in PROGRAMS:
-        parser.add_argument(f"--{program.name}", metavar="FILE", help="the program, in place of what its launcher builds")
+        parser.add_argument(f"--{program.name}", metavar="FILE",
+                            help="the program, in place of what its launcher builds")
     found = counted([Itself("test_comparison")], itself)
     if (found.passed, found.failed) != (1, 1) or "FAILED: two texts that differ\n" not in itself.getvalue():
-        sys.exit("FAILED: the comparison of texts\n0 passed, 1 failed")
+        print("FAILED: the comparison of texts", "0 passed, 1 failed", sep="\n")
+        sys.exit(1)
     GIVEN.update(vars(parser.parse_args()))
     tests = tests_of(check)
     chosen = [test for test in tests if any(word in test.id().rpartition(".")[2] for word in GIVEN["cases"])]
@@ -295,5 +294,8 @@ def main():
         found = counted(chosen or tests, sys.stdout)
     except KeyboardInterrupt:
         sys.exit(130)
+    is_lost = bool(GIVEN["cases"]) and not found.passed + found.failed
+    if is_lost:
+        print("no trial has this in its name:", *GIVEN["cases"])
     print(f"{found.passed} passed, {found.failed} failed")
-    sys.exit(found.failed > 0 or not found.passed and bool(GIVEN["cases"]))
+    sys.exit(found.failed > 0 or is_lost)

@@ -9,7 +9,8 @@ use Rattle.register_records.specs.Entries.{Fields}
 use Rattle.sheet_arguments.specs.Requests.{CalendarsWanted, all_have, in_columns}
 use Rattle.programs.specs.Values.{IsNumberWord}
 use Rattle.sheet_app.specs.CalendarWords.{SaysNothing}
-use Rattle.sheet_app.specs.Columns.{HoldsOfNone, IsBareWord, IsCalendarField, IsColumn, IsDateColumn, IsForWord}
+use Rattle.sheet_app.specs.Columns.{HoldsOfNone, IsBareWord, IsCalendarField, IsColumn, IsDateColumn}
+use Rattle.sheet_app.specs.private.Columns.{IsForWord}
 use Rattle.sheet_app.specs.Columns.{IsDateField, IsItsOwn, IsMissing, IsWord, NamesNoColumn, NamesNone}
 use Rattle.sheet_app.specs.Columns.{calendar_columns}
 use Rattle.sheet_app.specs.declared.columns.ColumnFault.{ColumnFault}

@@ -12,7 +12,7 @@ use Rattle.register_sheets.specs.declared.sheet_ends.SheetCause.{SheetCause}
 use Rattle.register_sheets.specs.declared.sheet_ends.SheetCause.TheVariants as cause
 use Rattle.register_sheets.specs.declared.sheet_ends.SheetEnd.TheVariants as end
 use Rattle.sheet_app.specs.SheetFaults.{fault_by}
-use Rattle.sheet_app.specs.SheetViews.{AsksFor, IsBrokenBehind, IsDoneBy, IsEndedBy, IsTask, MakesChoices}
+use Rattle.sheet_app.specs.private.SheetViews.{AsksFor, IsBrokenBehind, IsDoneBy, IsEndedBy, IsTask, MakesChoices}
 use Rattle.sheet_app.specs.Sheets.{HasMark, IsAskedOf, IsBroken, IsBrokenBy, IsChoiceFor, IsEnded, IsMarked, IsSheetBy}
 use Rattle.sheet_app.specs.Sheets.{names_of, records_by}
 use Rattle.sheet_app.specs.declared.sheet_faults.SheetFault.TheVariants as fault

@@ -6,7 +6,7 @@ use Rattle.std.proofs.lemmas.List.{get_or-map, length-map}
 use Rattle.std.proofs.lemmas.List.Elements.{Contains-append_left, Contains-append_right, Contains-get_or}
 use Rattle.sheet_app.specs.FileSheets.{outputs_of}
 use Rattle.sheet_app.specs.ProgramFaults.{IsFaultOfFiles}
-use Rattle.sheet_app.specs.SheetViews.{IsOfInputs}
+use Rattle.sheet_app.specs.private.SheetViews.{IsOfInputs}
 use Rattle.sheet_app.specs.declared.file_sheets.FileFault.{FileFault}
 use Rattle.sheet_app.specs.declared.file_sheets.FileFault.TheVariants as file_fault
 

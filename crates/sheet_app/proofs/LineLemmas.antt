@@ -9,9 +9,10 @@ use Rattle.std.proofs.lemmas.List.Concat.{flat_map-append}
 use Rattle.std.proofs.lemmas.List.Elements.{All-pop}
 use Rattle.register_records.specs.declared.outputs.Output as outputs
 use Rattle.sheet_app.specs.EndedSheets.{AreReported, ended_lines}
-use Rattle.sheet_app.specs.Lines.{listed, listed_at}
+use Rattle.sheet_app.specs.Lines.{listed}
+use Rattle.sheet_app.specs.private.Lines.{listed_at}
 use Rattle.sheet_app.specs.declared.converting.EndedSheet.{EndedSheet}
-use Rattle.sheet_app.specs.SheetViews.{Says}
+use Rattle.sheet_app.specs.private.SheetViews.{Says}
 
 -- one text more
 listed_more : (text : Text) (texts : List Text) (one : Text)

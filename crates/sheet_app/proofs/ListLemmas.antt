@@ -6,7 +6,8 @@ use Rattle.std.specs.declared.io.traits.Read as reads
 use Rattle.std.proofs.lemmas.List.{get_or-map, length-map, map-append, take_more}
 use Rattle.std.proofs.lemmas.List.Elements.{All-cons, All-nil, All-push, All-head, All-tail}
 use Rattle.register_records.specs.declared.outputs.Output as outputs
-use Rattle.sheet_app.specs.EndedSheets.{IsEndOf, IsEndedSheet, ended_name}
+use Rattle.sheet_app.specs.EndedSheets.{IsEndedSheet, ended_name}
+use Rattle.sheet_app.specs.private.EndedSheets.{IsEndOf}
 use Rattle.sheet_app.specs.FileSheets.{register_endings}
 use Rattle.sheet_app.specs.declared.converting.EndedSheet.{EndedSheet}
 use Rattle.sheet_app.specs.declared.file_sheets.FileSheet.{FileSheet}

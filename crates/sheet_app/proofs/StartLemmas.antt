@@ -5,7 +5,8 @@ use Rattle.std.proofs.lemmas.List.Elements.{Contains-get_or}
 use Rattle.std.specs.declared.io.traits.Read as reads
 use Rattle.programs.specs.Meanings.{work}
 use Rattle.sheet_arguments.specs.Requests.{MeanJust}
-use Rattle.sheet_app.specs.Answers.{AreNamesOf, IsFaultOfStart, IsUnknown}
+use Rattle.sheet_app.specs.Answers.{AreNamesOf, IsUnknown}
+use Rattle.sheet_app.specs.private.Answers.{IsFaultOfStart}
 use Rattle.sheet_app.specs.ProgramFaults.{IsFaultOfAsked, IsFaultOfTask, fault_status}
 use Rattle.sheet_app.specs.declared.program_faults.ProgramFault.{ProgramFault}
 use Rattle.sheet_app.specs.declared.program_faults.ProgramFault.TheVariants as program_fault

@@ -37,7 +37,7 @@ use Rattle.sheet_arguments.specs.WordLists.{all_columns, column_named, columns_a
 use Rattle.sheet_arguments.specs.WordLists.{with_columns}
 use Rattle.written_dates.specs.declared.fields.CalendarMeaning.{CalendarMeaning}
 use Rattle.written_dates.specs.declared.meanings.Name.{Name}
-use Rattle.sheet_app.specs.SheetViews.{IsTask}
+use Rattle.sheet_app.specs.private.SheetViews.{IsTask}
 use Rattle.sheet_app.specs.Sheets.{IsAskedOf}
 
 -- columns of one name

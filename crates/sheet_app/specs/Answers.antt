@@ -1,6 +1,5 @@
 -- What the program does: what its outputs have gained, and when its arguments are refused.
-use Rattle.std.specs.Prelude.{◌≡◌, ◌≢◌, ◌⊎◌, ◌↔◌, ◌++◌, ◌∷◌, ℕ, All, Contains, List, [], codes, false, true, map, IfSome, Option}
-use Rattle.std.specs.Io.KnownBytes.{Appends}
+use Rattle.std.specs.Prelude.{◌≡◌, ◌≢◌, ◌⊎◌, ◌↔◌, ◌++◌, ◌∷◌, ℕ, All, Contains, List, [], true, map, Option}
 use Rattle.std.specs.declared.io.traits.Read as reads
 use Rattle.clap.specs.Words.{Text}
 use Rattle.programs.specs.Meanings.{help, version, work}
@@ -16,12 +15,10 @@ use Rattle.sheet_arguments.specs.declared.requests.TheConstants.{VERSION}
 use Rattle.sheet_app.specs.CalendarWords.{SaysNothing, calendar_words}
 use Rattle.sheet_app.specs.FileSheets.{AreApartOutputs}
 use Rattle.sheet_app.specs.EndedSheets.{AreReported, Gives, IsConverted, IsEndedSheet, ended_name, is_complete}
-use Rattle.sheet_app.specs.ProgramFaults.{IsFaultOfAsked, IsFaultOfTask, fault_line, fault_status}
+use Rattle.sheet_app.specs.ProgramFaults.{IsFaultOfAsked, fault_line, fault_status}
 use Rattle.sheet_app.specs.Sheets.{GainsList, IsList}
 use Rattle.sheet_app.specs.declared.converting.EndedSheet.{EndedSheet}
 use Rattle.sheet_app.specs.declared.converting.TheConstants.{INPUT}
-use Rattle.sheet_app.specs.declared.program_faults.ProgramFault.{ProgramFault}
-use Rattle.sheet_app.specs.declared.program_faults.ProgramFault.TheVariants as program_fault
 
 -- the line on the version
 abbrev pub version_line : List ℕ
@@ -70,11 +67,6 @@ module _ {R : Type 0} (r : reads.Ghosts R) (IsOpened : Text → R → Type 0) wh
   abbrev pub NameUnknown : List Text → List ℕ → Type 0
   NameUnknown arguments built =
       (task : Task) × MeanJust arguments (work task) × (word : Text) × IsUnknown task built word
-
-  -- a task is not begun for this reason, or since it has such a word
-  abbrev pub IsFaultOfStart : Task → List ℕ → ProgramFault → Type 0
-  IsFaultOfStart task built (program_fault.UnknownCalendar word) = IsUnknown task built word.now
-  IsFaultOfStart task built other = IsFaultOfTask task other
 
 -- the sheet of standard input has ended, with its lines; the status is 0 exactly where it is complete
 pub record IsInputConverted {R W E : Type 0} (r : reads.Ghosts R) (o : outputs.Ghosts W) (e : outputs.Ghosts E)

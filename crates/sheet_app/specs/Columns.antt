@@ -1,5 +1,5 @@
 -- The columns of a sheet that words name.
-use Rattle.std.specs.Prelude.{◌≡◌, ◌≢◌, ◌≤◌, ◌<◌, ◌+◌, ◌^◌, ◌⊎◌, ⊤, ℕ, Contains, List, [], Option, None, Some, get_or, length}
+use Rattle.std.specs.Prelude.{◌≡◌, ◌≢◌, ◌≤◌, ◌<◌, ◌+◌, ◌^◌, ◌⊎◌, ℕ, Contains, List, [], Option, None, Some, get_or, length}
 use Rattle.std.specs.Prelude.{◌==◌, ◌&&◌, Bool, false, is_some, slice_get, true}
 use Rattle.clap.specs.Words.{Text}
 use Rattle.programs.specs.Values.{IsNumberWord}
@@ -15,8 +15,6 @@ use Rattle.sheet_arguments.specs.Requests.{CalendarsWanted, Task, all_have, in_c
 use Rattle.written_dates.specs.Fields.{without_blanks}
 use Rattle.written_dates.specs.declared.fields.CalendarMeaning.{CalendarMeaning}
 use Rattle.sheet_app.specs.CalendarWords.{SaysBy, SaysNothing, calendar_words}
-use Rattle.sheet_app.specs.declared.columns.ColumnFault.{ColumnFault}
-use Rattle.sheet_app.specs.declared.columns.ColumnFault.TheVariants as column_fault
 
 -- at this index stands the first of these names of which this holds
 pub record IsFirst (Holds : Text → Type 0) (names : Fields) (index : ℕ) : Type 0 where
@@ -124,11 +122,6 @@ AreTooFew task words = (length words ≢ 1) × (length words < length task.dates
 abbrev pub HasNoLast : Fields → Type 0
 HasNoLast names = (length names ≡ 0) ⊎ (2 ^ 32 < length names)
 
--- for the word of dates at an index there is no column
-abbrev pub LacksDate : Fields → Task → ℕ → Text → Type 0
-LacksDate names task index word =
-    ((is_joined task index ≡ false) × NamesNone names word) ⊎ ((is_joined task index ≡ true) × HasNoLast names)
-
 -- for this word of a task there is no column among these names: it is to name one and names none, or is to say a calendar
 -- and says none by the names of these lines; or there is no word for a column of dates, which is told as an empty one;
 -- or it is that of joined dates
@@ -138,8 +131,3 @@ IsMissing lines names task word =
     ⊎ (Contains (calendar_words task.calendars) word × SaysNothing lines word)
     ⊎ ((word ≡ []) × AreTooFew task (own_words task.calendars))
     ⊎ ((is_some task.three ≡ true) × Contains task.dates word × HasNoLast names)
-
--- memory ran out, or there is no column for a word of which this holds
-abbrev pub IsForWord : (Text → Type 0) → ColumnFault → Type 0
-IsForWord Holds column_fault.OutOfMemory = ⊤
-IsForWord Holds (column_fault.NoColumn word) = Holds word.now

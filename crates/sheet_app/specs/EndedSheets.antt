@@ -1,18 +1,16 @@
 -- The sheets of a command line, as they have ended.
-use Rattle.std.specs.Prelude.{◌≡◌, ◌&&◌, ◌⊎◌, ◌++◌, ℕ, All, Bool, List, IfSome, false, map, true}
+use Rattle.std.specs.Prelude.{◌≡◌, ◌&&◌, ◌⊎◌, ◌++◌, ℕ, All, Bool, List, IfSome, false, true}
 use Rattle.std.specs.Io.KnownBytes.{Appends}
 use Rattle.std.specs.List.{AllZip, flat_map}
 use Rattle.std.specs.declared.io.traits.Read as reads
 use Rattle.clap.specs.Words.{Text}
-use Rattle.programs.specs.Places.{place_name}
 use Rattle.register_records.specs.declared.outputs.Output as outputs
 use Rattle.register_sheets.specs.declared.name_lists.NameLine.{NameLine}
 use Rattle.sheet_arguments.specs.Requests.{Task}
-use Rattle.sheet_app.specs.FileSheets.{IsMadeFor, ending_of, names_ending, register_endings, sheet_name}
+use Rattle.sheet_app.specs.FileSheets.{IsMadeFor, ending_of, names_ending, register_endings}
 use Rattle.sheet_app.specs.Lines.{lines_on, names_line}
 use Rattle.sheet_app.specs.JoinedTexts.{IsTextEnded}
 use Rattle.sheet_app.specs.declared.converting.EndedSheet.{EndedSheet}
-use Rattle.sheet_app.specs.declared.file_sheets.FileSheet.{FileSheet}
 use Rattle.sheet_app.specs.declared.sheet_faults.SheetFault.{SheetFault}
 use Rattle.sheet_app.specs.declared.sheet_faults.SheetFault.TheVariants as fault
 use Rattle.sheet_app.specs.declared.sheets.SheetDone.{SheetDone}
@@ -59,14 +57,6 @@ pub record AreReported {W E : Type 0} (e : outputs.Ghosts E) (task : Task) (shee
   pub good : e.has_failed after ≡ false → e.has_failed before ≡ false
   pub gained : All (λ sheet. sheet.is_reported ≡ true) sheets → e.has_failed after ≡ false
       → Appends (e.contents before) (e.contents after) (flat_map (ended_lines task) sheets)
-
--- this is how a sheet has ended; its outputs have got their names, where that is said
-pub record IsEndOf {R W : Type 0} (r : reads.Ghosts R) (o : outputs.Ghosts W) (IsNamed : Text → Type 0) (task : Task)
-    (lines : List NameLine) (sheet : FileSheet R W) (ended : EndedSheet W) : Type 0 where
-  pub named : ended_name ended ≡ sheet_name sheet
-  pub converted : IsConverted r o task lines sheet.source sheet.output ended.output sheet.registers.items
-      ended.registers.items ended.done
-  pub names : ended.are_named ≡ true → All IsNamed (map place_name sheet.places.items)
 
 -- a sheet of a file was converted from the file of its name, to outputs that were made by that name with their endings, and
 -- have got these names, where that is said

@@ -1,18 +1,15 @@
 -- The sheets of a command line, as their files are opened.
-use Rattle.std.specs.Prelude.{◌≡◌, ◌==◌, ◌&&◌, ◌++◌, ◌∷◌, [], ℕ, All, AllPairs, List, codes, flat_map, if◌then◌else◌}
+use Rattle.std.specs.Prelude.{◌==◌, ◌&&◌, ◌++◌, ◌∷◌, [], ℕ, All, AllPairs, List, codes, flat_map, if◌then◌else◌}
 use Rattle.std.specs.Prelude.{length, map, not}
 use Rattle.std.specs.Fmt.{decimal}
-use Rattle.std.specs.List.{AllZip, range_with_len}
+use Rattle.std.specs.List.{range_with_len}
 use Rattle.clap.specs.Words.{Text}
 use Rattle.programs.specs.Openings.{IsNewlyMade}
 use Rattle.programs.specs.OutputNames.{AreTwoOutputs, IsApartFrom}
-use Rattle.programs.specs.Places.{place_name}
 use Rattle.register_records.specs.declared.outputs.Output as outputs
 use Rattle.register_sheets.specs.declared.choices.Spans.{Spans}
 use Rattle.register_sheets.specs.declared.choices.Spans.TheVariants as spans
 use Rattle.sheet_arguments.specs.Requests.{Task}
-use Rattle.sheet_app.specs.declared.file_sheets.FileSheet.{FileSheet}
-use Rattle.sheet_app.specs.declared.file_sheets.OpenedFile.{OpenedFile}
 
 -- what the name of a sheet's output ends with
 abbrev pub ending_of : Task → List ℕ
@@ -57,22 +54,6 @@ pub record AreApartOutputs (AreApart : Text → Text → Type 0) (task : Task) :
   pub kept : All (IsNoInput AreApart task) (outputs_of task)
   pub apart : AllPairs (AreTwoOutputs AreApart) (outputs_of task)
 
-abbrev pub source_name : {R : Type 0} → OpenedFile R → Text
-source_name opened = opened.name.now
-
-abbrev pub sheet_name : {R W : Type 0} → FileSheet R W → Text
-sheet_name sheet = sheet.name.now
-
 -- the output was made by the name of a file with this ending, and is fresh
 abbrev pub IsMadeFor : {W : Type 0} → outputs.Ghosts W → (Text → ℕ → W → Type 0) → Text → List ℕ → W → Type 0
 IsMadeFor o IsMade file ending output = (mark : ℕ) × IsNewlyMade o IsMade (file ++ ending) mark output
-
--- the sheet comes from the file of its name, and its output and those of its registers, which end so, were made for it and
--- are to get these names
-pub record IsNewSheet {R W : Type 0} (o : outputs.Ghosts W) (IsOpened : Text → R → Type 0)
-    (IsMade : Text → ℕ → W → Type 0) (task : Task) (endings : List (List ℕ)) (sheet : FileSheet R W) : Type 0 where
-  pub opened : IsOpened (sheet_name sheet) sheet.source
-  pub output : IsMadeFor o IsMade (sheet_name sheet) (ending_of task) sheet.output
-  pub registers : AllZip (IsMadeFor o IsMade (sheet_name sheet)) endings sheet.registers.items
-  pub places : map place_name sheet.places.items ≡ names_ending (ending_of task) (λ ending. ending) endings
-      (sheet_name sheet)

@@ -7,6 +7,6 @@ pub mod TreeTexts
 pub mod JoinedTexts
 pub mod EndedSheets
 pub mod Lines
-pub mod SheetViews
 pub mod ProgramFaults
 pub mod Answers
+pub mod private

@@ -24,10 +24,6 @@ abbrev pub listed : List Text → Text
 listed [] = []
 listed (text ∷ texts) = text ++ flat_map (λ other. codes ", " ++ other) texts
 
--- the text at an index of such a list, with what stands before it
-abbrev pub listed_at : ℕ → Text → Text
-listed_at index text = if index == 0 then text else (codes ", " ++ text)
-
 -- the names of a sheet's columns: the first ten, and dots for more
 abbrev pub told : Fields → Text
 told names = listed (take 10 names) ++ (if nat_lt 10 (length names) then codes ", .." else [])

@@ -1,18 +1,16 @@
 -- What a task asks of a sheet, and what comes of it.
-use Rattle.std.specs.Prelude.{◌≡◌, ◌≤◌, ◌<◌, ◌++◌, ◌⊎◌, ⊤, ℕ, List, [], Result, Ok, Err, get_or, length, false, true}
+use Rattle.std.specs.Prelude.{◌≡◌, ◌≤◌, ◌<◌, ◌++◌, ◌⊎◌, ℕ, List, [], Result, Ok, Err, get_or, length, false, true}
 use Rattle.csv.specs.Reading.{strip_bom}
 use Rattle.register_records.specs.Entries.{Fields, record_limit, text_records}
 use Rattle.register_records.specs.Sources.{Gains}
 use Rattle.register_records.specs.declared.outputs.Output as outputs
 use Rattle.register_sheets.specs.AskedOfSheets.{IsChoice, IsListedChoice, SheetAsked}
 use Rattle.register_sheets.specs.Converted.{ArePartOfSheet, below, IsFullSheet, IsWholeSheet}
-use Rattle.register_sheets.specs.NameLists.{IsFaultOf, IsListOf}
+use Rattle.register_sheets.specs.NameLists.{IsListOf}
 use Rattle.register_sheets.specs.SheetOutputs.{AreMadeRegisters}
 use Rattle.register_sheets.specs.UnknownNames.{AreUnreadIn, IsUnknown, NameCount, list_text}
 use Rattle.register_sheets.specs.declared.choices.SheetChoice.{SheetChoice}
 use Rattle.register_sheets.specs.declared.name_lists.NameLine.{NameLine}
-use Rattle.register_sheets.specs.declared.name_lists.NameListFault.{NameListFault}
-use Rattle.register_sheets.specs.declared.name_lists.NameListFault.TheVariants as list_fault
 use Rattle.register_sheets.specs.declared.sheet_ends.SheetCause.{SheetCause}
 use Rattle.sheet_arguments.specs.Requests.{Task}
 use Rattle.sheet_app.specs.Columns.{AreDateColumns, IsIdField}
@@ -33,11 +31,6 @@ pub record GainsList (text : List ℕ) (old new : List NameLine) : Type 0 where
   pub lines : List NameLine
   pub are_its : IsList text lines
   pub gained : new ≡ old ++ lines
-
--- a text is no list of names for this reason, or memory ran out
-abbrev pub IsFaultOfText : List ℕ → NameListFault → Type 0
-IsFaultOfText text list_fault.OutOfMemory = ⊤
-IsFaultOfText text why = IsFaultOf (text_records 44 text) why
 
 -- the names of a sheet's columns for a task
 abbrev pub names_of : Task → List ℕ → Fields

@@ -3,7 +3,7 @@
 ghost use Rattle.std.specs.Prelude.{◌∷◌, [], IfErr, IfNone, IfOk, IfSome, map};
 ghost use Rattle.sheet_arguments.specs.Requests.{task_of};
 ghost use Rattle.sheet_app.specs.CalendarWords.{SaysBy, SaysNothing, calendar_words};
-ghost use Rattle.sheet_app.specs.SheetViews.{IsOfWords};
+ghost use Rattle.sheet_app.specs.private.SheetViews.{IsOfWords};
 
 use crate::program_faults::ProgramFault;
 use register_sheets::{NameList, calendar_said};

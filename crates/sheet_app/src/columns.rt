@@ -3,8 +3,10 @@
 ghost use Rattle.std.specs.Prelude.{◌≡◌, ◌≢◌, ◌≤◌, ◌<◌, ◌+◌, IfErr, IfNone, IfOk, IfSome, Some, length, map, option_map};
 ghost use Rattle.csv.specs.Records.{fields_of};
 ghost use Rattle.sheet_arguments.specs.Requests.{task_of};
-ghost use Rattle.sheet_app.specs.Columns.{HasNoLast, IsDateField, LacksDate, is_joined as joined_spec, AreDateColumns};
-ghost use Rattle.sheet_app.specs.Columns.{HoldsOfNone, IsBareWord, IsCalendarField, IsColumn, IsFirst, IsForWord};
+ghost use Rattle.sheet_app.specs.Columns.{HasNoLast, IsDateField, is_joined as joined_spec, AreDateColumns};
+ghost use Rattle.sheet_app.specs.private.Columns.{LacksDate};
+ghost use Rattle.sheet_app.specs.Columns.{HoldsOfNone, IsBareWord, IsCalendarField, IsColumn, IsFirst};
+ghost use Rattle.sheet_app.specs.private.Columns.{IsForWord};
 ghost use Rattle.sheet_app.specs.Columns.{IsIdField, IsItsOwn, IsMissing, IsWord, NamesNoColumn, NamesNone, SaysElse};
 ghost use Rattle.sheet_app.specs.CalendarWords.{SaysBy, SaysNothing};
 

@@ -4,9 +4,10 @@ ghost use Rattle.std.specs.Prelude.{◌≡◌, ◌≤◌, ◌↔◌, [], All, If
 ghost use Rattle.std.specs.List.{AllZip};
 ghost use Rattle.programs.specs.Places.{place_name};
 ghost use Rattle.sheet_arguments.specs.Requests.{task_of};
-ghost use Rattle.sheet_app.specs.EndedSheets.{AreReported, IsConverted, IsEndOf, IsUnread, ended_lines, ended_name};
+ghost use Rattle.sheet_app.specs.EndedSheets.{AreReported, IsConverted, IsUnread, ended_lines, ended_name};
+ghost use Rattle.sheet_app.specs.private.EndedSheets.{IsEndOf};
 ghost use Rattle.sheet_app.specs.EndedSheets.{is_complete};
-ghost use Rattle.sheet_app.specs.SheetViews.{IsTask, Says};
+ghost use Rattle.sheet_app.specs.private.SheetViews.{IsTask, Says};
 ghost use Rattle.sheet_app.specs.JoinedTexts.{IsSheetMade, IsTextEnded, LacksSheet};
 
 use crate::file_sheets::FileSheet;

@@ -6,11 +6,13 @@ ghost use Rattle.std.specs.String.{string_bytes};
 ghost use Rattle.programs.specs.OutputNames.{AreTwoOutputs, IsApartFrom};
 ghost use Rattle.programs.specs.Places.{place_name};
 ghost use Rattle.sheet_arguments.specs.Requests.{task_of};
-ghost use Rattle.sheet_app.specs.FileSheets.{AreApartOutputs, IsMadeFor, IsNewSheet, IsNoInput, ending_of, names_ending};
+ghost use Rattle.sheet_app.specs.FileSheets.{AreApartOutputs, IsMadeFor, IsNoInput, ending_of, names_ending};
+ghost use Rattle.sheet_app.specs.private.FileSheets.{IsNewSheet};
 ghost use Rattle.sheet_app.specs.FileSheets.{endings_by as endings_spec, part_endings, register_ending};
-ghost use Rattle.sheet_app.specs.FileSheets.{register_endings, sheet_name, source_name};
+ghost use Rattle.sheet_app.specs.FileSheets.{register_endings};
+ghost use Rattle.sheet_app.specs.private.FileSheets.{sheet_name, source_name};
 ghost use Rattle.sheet_app.specs.ProgramFaults.{IsFaultOfFiles};
-ghost use Rattle.sheet_app.specs.SheetViews.{IsOfInputs, IsOfOutputs};
+ghost use Rattle.sheet_app.specs.private.SheetViews.{IsOfInputs, IsOfOutputs};
 
 use itoa::Buffer;
 use programs::{FileStore, Place, is_of_output, share_file};

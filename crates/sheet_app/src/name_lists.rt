@@ -1,7 +1,8 @@
 //! The lists of names: those of the user, and the built-in one.
 
 ghost use Rattle.std.specs.Prelude.{IfErr, OnOk};
-ghost use Rattle.sheet_app.specs.Sheets.{GainsList, IsFaultOfText};
+ghost use Rattle.sheet_app.specs.Sheets.{GainsList};
+ghost use Rattle.sheet_app.specs.private.Sheets.{IsFaultOfText};
 
 use register_sheets::{NameList, NameListFault};
 use std::alloc::Global;

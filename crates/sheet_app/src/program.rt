@@ -13,10 +13,12 @@ ghost use Rattle.programs.specs.Pages.{IsPrinted};
 ghost use Rattle.sheet_arguments.specs.Requests.{AreWrong, MeanJust, Task as TaskValue, task_of};
 ghost use Rattle.sheet_app.specs.Answers.{AreFilesAnswered, AreListsIn, AreNamesOf, IsInputAnswered, IsInputConverted};
 ghost use Rattle.sheet_app.specs.Answers.{IsListIn, IsPageAnswered, IsReported, IsUnknown};
-ghost use Rattle.sheet_app.specs.Answers.{IsFaultOfStart, NameUnknown};
+ghost use Rattle.sheet_app.specs.Answers.{NameUnknown};
+ghost use Rattle.sheet_app.specs.private.Answers.{IsFaultOfStart};
 ghost use Rattle.sheet_app.specs.EndedSheets.{AreReported, Gives, IsEndedSheet, ended_name, is_complete};
-ghost use Rattle.sheet_app.specs.FileSheets.{AreApartOutputs, IsNewSheet, register_endings, sheet_name};
-ghost use Rattle.sheet_app.specs.SheetViews.{IsTask};
+ghost use Rattle.sheet_app.specs.FileSheets.{AreApartOutputs, register_endings};
+ghost use Rattle.sheet_app.specs.private.FileSheets.{IsNewSheet, sheet_name};
+ghost use Rattle.sheet_app.specs.private.SheetViews.{IsTask};
 ghost use Rattle.sheet_app.specs.ProgramFaults.{IsFaultOfAsked, IsFaultOfTask, fault_status};
 
 use crate::calendar_words::check_calendars;

@@ -3,11 +3,12 @@
 ghost use Rattle.std.specs.Prelude.{◌≡◌, ◌++◌, ◌∷◌, [], ◌==◌, IfErr, IfOk, OnOk, codes, false, if◌then◌else◌};
 ghost use Rattle.std.specs.Fmt.{decimal};
 ghost use Rattle.sheet_app.specs.Lines.{line_of_dates as dates_line};
-ghost use Rattle.sheet_app.specs.Lines.{fault_text, head_of, kept_lines, lines_on, listed_at, missing_lines, more_line};
+ghost use Rattle.sheet_app.specs.Lines.{fault_text, head_of, kept_lines, lines_on, missing_lines, more_line};
+ghost use Rattle.sheet_app.specs.private.Lines.{listed_at};
 ghost use Rattle.sheet_app.specs.Lines.{other_lines, reason_line, reason_lines, reason_words, short_line, sign_lines, stopped_line};
 ghost use Rattle.sheet_app.specs.Lines.{counts_of, names_line, spans_list, summary_line};
 ghost use Rattle.sheet_arguments.specs.Requests.{task_of};
-ghost use Rattle.sheet_app.specs.SheetViews.{Says};
+ghost use Rattle.sheet_app.specs.private.SheetViews.{Says};
 ghost use Rattle.sheet_app.specs.declared.sheets.SheetDone.TheVariants.{Listed, Whole};
 
 use crate::sheet_faults::{SheetFault, push_listed};

@@ -4,8 +4,10 @@ ghost use Rattle.std.specs.Prelude.{◌≡◌, ◌++◌, List, OnOk, codes};
 ghost use Rattle.csv.specs.Records.{fields_of};
 ghost use Rattle.register_sheets.specs.declared.name_lists.NameLine.{NameLine};
 ghost use Rattle.sheet_arguments.specs.Requests.{Task};
-ghost use Rattle.sheet_app.specs.Columns.{IsForWord, IsMissing};
-ghost use Rattle.sheet_app.specs.Lines.{listed_at, told};
+ghost use Rattle.sheet_app.specs.Columns.{IsMissing};
+ghost use Rattle.sheet_app.specs.private.Columns.{IsForWord};
+ghost use Rattle.sheet_app.specs.Lines.{told};
+ghost use Rattle.sheet_app.specs.private.Lines.{listed_at};
 ghost use Rattle.sheet_app.specs.SheetFaults.{IsOfColumns};
 
 use crate::columns::ColumnFault;

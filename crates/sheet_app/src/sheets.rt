@@ -7,7 +7,8 @@ ghost use Rattle.register_sheets.specs.AskedOfSheets.{IsChoice, IsChoiceBy, aske
 ghost use Rattle.register_sheets.specs.declared.name_lists.NameLine.{NameLine as NameLineValue};
 ghost use Rattle.sheet_arguments.specs.Requests.{task_of};
 ghost use Rattle.sheet_app.specs.SheetFaults.{IsOfColumns};
-ghost use Rattle.sheet_app.specs.SheetViews.{AsksFor, IsBrokenBehind, IsDoneBy, IsEndedBy, IsTask, MakesChoices};
+ghost use Rattle.sheet_app.specs.private.SheetViews.{AsksFor, IsBrokenBehind, IsDoneBy, IsEndedBy, IsTask};
+ghost use Rattle.sheet_app.specs.private.SheetViews.{MakesChoices};
 ghost use Rattle.sheet_app.specs.Sheets.{HasMark, IsAskedOf, IsEarly, IsEnded, IsListBy, names_of};
 
 use crate::columns::{dates_named, id_named};

@@ -2,7 +2,8 @@
 use Rattle.std.proofs.Common.{ap, map, option_map}
 use Rattle.sheet_app.proofs.Common.{Bor, Text, fields_of, task_of}
 use Rattle.sheet_arguments.specs.Requests.{wanted_by}
-use Rattle.sheet_app.specs.Columns.{IsForWord, IsMissing}
+use Rattle.sheet_app.specs.Columns.{IsMissing}
+use Rattle.sheet_app.specs.private.Columns.{IsForWord}
 use Rattle.sheet_app.proofs.ColumnLemmas.{missing_calendar, missing_column, missing_else}
 use Rattle.sheet_app.proofs.FaultLemmas.{handed}
 use Rattle.sheet_app.proofs.columns.calendar_named.Goals as goal

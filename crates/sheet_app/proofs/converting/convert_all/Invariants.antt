@@ -1,7 +1,8 @@
 use Rattle.std.proofs.Common.{◌≡◌, ◌≤◌, ◌+◌, ◌++◌, vec_capacity, vec_len}
 use Rattle.sheet_app.proofs.Common.{AllZip, into_iter_items, task_of}
 use Rattle.std.specs.Vec.Iter.{into_iter_len}
-use Rattle.sheet_app.specs.EndedSheets.{AreReported, IsEndOf}
+use Rattle.sheet_app.specs.EndedSheets.{AreReported}
+use Rattle.sheet_app.specs.private.EndedSheets.{IsEndOf}
 use Rattle.sheet_app.proofs.converting.convert_all.Given as goal
 
 -- the sheets so far have ended, and the others are left

@@ -1,6 +1,6 @@
 -- A task is not begun for one of its files, or for one of its words.
 use Rattle.sheet_arguments.specs.Requests.{task_of}
-use Rattle.sheet_app.specs.Answers.{IsFaultOfStart}
+use Rattle.sheet_app.specs.private.Answers.{IsFaultOfStart}
 use Rattle.sheet_app.proofs.FaultLemmas.{handed}
 use Rattle.sheet_app.proofs.StartLemmas.{of_task, of_words}
 use Rattle.sheet_app.proofs.program.prepare.Goals as goal

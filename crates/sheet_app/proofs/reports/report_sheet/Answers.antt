@@ -2,7 +2,7 @@
 use Rattle.std.proofs.Common.{Global, Vec, ◌++◌, ◌∷◌, [], List, ℕ, ap, inl, inr, subst, sym}
 use Rattle.sheet_app.proofs.Common.{head_of, task_of, SheetDone}
 use Rattle.sheet_app.specs.Lines.{fault_text, lines_on}
-use Rattle.sheet_app.specs.SheetViews.{Says}
+use Rattle.sheet_app.specs.private.SheetViews.{Says}
 use Rattle.sheet_app.proofs.LineLemmas.{line_said}
 use Rattle.sheet_app.proofs.reports.report_sheet.Goals as goal
 

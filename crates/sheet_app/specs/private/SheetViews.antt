@@ -1,4 +1,4 @@
--- What clauses see of a sheet on its way. No public contract cites this file.
+-- What clauses see of a sheet on its way.
 use Rattle.std.specs.Prelude.{◌≡◌, ◌==◌, ◌≤◌, ◌<◌, ◌⊎◌, ⊤, ℕ, Bool, Contains, List, Option, Result, Ok, Err, false}
 use Rattle.std.specs.Prelude.{length, nat_lt, true}
 use Rattle.std.specs.Io.KnownBytes.{Appends}

@@ -58,11 +58,12 @@ export function shownRun({ choice, run }) {
 
 export const isRunning = ({ run }) => run !== null && run.jobs.some((job) => ['waits', 'runs'].includes(job.status));
 
-// The job that a file has: one that was given again and is as it was has its table still, if no other has its name.
-function jobOf(jobs, file) {
-  const own = jobs.find((it) => it.file === file), called = jobs.filter((it) => it.file.name === file.name);
+// The job that one of these files has: one that was given again and is as it was has its table still, if no other has its name.
+function jobOf(jobs, files, file) {
+  const isNamesake = ({ name }) => name === file.name, isAlone = files.filter(isNamesake).length === 1;
+  const own = jobs.find((it) => it.file === file), called = jobs.filter((it) => isNamesake(it.file));
   const isAgain = called.length === 1 && isWhole(called[0]) && isSameFile(called[0].file, file);
-  return own || (isAgain ? { ...called[0], file } : null);
+  return own || (isAgain && isAlone ? { ...called[0], file } : null);
 }
 
 /**
@@ -80,7 +81,7 @@ export function chosen(state, change) {
 // The run with the jobs of these files: new ones for those that have none.
 function runWith(run, { files, left }) {
   const all = [...run.jobs, ...run.aside], free = 1 + Math.max(-1, ...all.map(({ number }) => number));
-  const jobs = files.map((file, i) => jobOf(all, file) || newJob(file, free + i));
+  const jobs = files.map((file, i) => jobOf(all, files, file) || newJob(file, free + i));
   const isNow = (job) => jobs.some(isNumber(job));
   const aside = all.filter((job) => !isNow(job) && left.some(({ file }) => file === job.file));
   const opened = jobs.some(({ number }) => number === run.opened) ? run.opened : null;

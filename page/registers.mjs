@@ -78,9 +78,11 @@ export function chosen(state, change) {
   return 'files' in change && state.run !== null ? { ...next, run: runWith(state.run, next.choice) } : next;
 }
 
+const freeNumber = (jobs) => 1 + Math.max(-1, ...jobs.map(({ number }) => number));
+
 // The run with the jobs of these files: new ones for those that have none.
 function runWith(run, { files, left }) {
-  const all = [...run.jobs, ...run.aside], free = 1 + Math.max(-1, ...all.map(({ number }) => number));
+  const all = [...run.jobs, ...run.aside], free = freeNumber(all);
   const jobs = files.map((file, i) => jobOf(all, files, file) || newJob(file, free + i));
   const isNow = (job) => jobs.some(isNumber(job));
   const aside = all.filter((job) => !isNow(job) && left.some(({ file }) => file === job.file));
@@ -133,11 +135,13 @@ function continued(state, run, now) {
  */
 export function started(state, now) {
   if (isRunning(state)) return state;
-  const { choice: { files, columns } } = state, number = state.runs + 1, shown = shownRun(state);
+  const { choice: { files, columns }, run: before } = state, number = state.runs + 1, shown = shownRun(state);
   if (files.length === 0) return state;
   if (shown !== null && !shown.jobs.every(isWhole)) return continued(state, shown, now);
-  const jobs = files.map((file, i) => waitingJob(file, i));
-  const run = { number, columns, begun: now, jobs, aside: [], opened: null, archive: null };
+  // What was left out has its table still, if that has the same columns.
+  const aside = before !== null && before.columns.join() === columns.join() ? before.aside : [], free = freeNumber(aside);
+  const jobs = files.map((file, i) => waitingJob(file, free + i));
+  const run = { number, columns, begun: now, jobs, aside, opened: null, archive: null };
   return scheduled({ ...state, runs: number, run, notice: '' }, now);
 }
 

@@ -62,7 +62,7 @@ function cellsOf(answer, shownEnds) {
 // The texts of a register as they are shown: where these are not what was typed.
 function readOf({ written: [first, last] }, typed) {
   const read = first === last ? [first] : [first, last].filter(Boolean);
-  return read.length === 1 && read[0] === typed.trim() ? '' : read.join('` – `');
+  return read.length === 1 && read[0].trim() === typed.trim() ? '' : read.join('` – `');
 }
 
 const marksOf = ({ mark }) => mark.split(' ').filter(Boolean);

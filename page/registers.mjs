@@ -58,11 +58,12 @@ export function shownRun({ choice, run }) {
 
 export const isRunning = ({ run }) => run !== null && run.jobs.some((job) => ['waits', 'runs'].includes(job.status));
 
-// The job that a file has: one that was given again and is as it was has its table still, if no other has its name.
-function jobOf(jobs, file) {
-  const own = jobs.find((it) => it.file === file), called = jobs.filter((it) => it.file.name === file.name);
+// The job that one of these files has: one that was given again and is as it was has its table still, if no other has its name.
+function jobOf(jobs, files, file) {
+  const isNamesake = ({ name }) => name === file.name, isAlone = files.filter(isNamesake).length === 1;
+  const own = jobs.find((it) => it.file === file), called = jobs.filter((it) => isNamesake(it.file));
   const isAgain = called.length === 1 && isWhole(called[0]) && isSameFile(called[0].file, file);
-  return own || (isAgain ? { ...called[0], file } : null);
+  return own || (isAgain && isAlone ? { ...called[0], file } : null);
 }
 
 /**
@@ -77,10 +78,12 @@ export function chosen(state, change) {
   return 'files' in change && state.run !== null ? { ...next, run: runWith(state.run, next.choice) } : next;
 }
 
+const freeNumber = (jobs) => 1 + Math.max(-1, ...jobs.map(({ number }) => number));
+
 // The run with the jobs of these files: new ones for those that have none.
 function runWith(run, { files, left }) {
-  const all = [...run.jobs, ...run.aside], free = 1 + Math.max(-1, ...all.map(({ number }) => number));
-  const jobs = files.map((file, i) => jobOf(all, file) || newJob(file, free + i));
+  const all = [...run.jobs, ...run.aside], free = freeNumber(all);
+  const jobs = files.map((file, i) => jobOf(all, files, file) || newJob(file, free + i));
   const isNow = (job) => jobs.some(isNumber(job));
   const aside = all.filter((job) => !isNow(job) && left.some(({ file }) => file === job.file));
   const opened = jobs.some(({ number }) => number === run.opened) ? run.opened : null;
@@ -132,11 +135,13 @@ function continued(state, run, now) {
  */
 export function started(state, now) {
   if (isRunning(state)) return state;
-  const { choice: { files, columns } } = state, number = state.runs + 1, shown = shownRun(state);
+  const { choice: { files, columns }, run: before } = state, number = state.runs + 1, shown = shownRun(state);
   if (files.length === 0) return state;
   if (shown !== null && !shown.jobs.every(isWhole)) return continued(state, shown, now);
-  const jobs = files.map((file, i) => waitingJob(file, i));
-  const run = { number, columns, begun: now, jobs, aside: [], opened: null, archive: null };
+  // What was left out has its table still, if that has the same columns.
+  const aside = before !== null && before.columns.join() === columns.join() ? before.aside : [], free = freeNumber(aside);
+  const jobs = files.map((file, i) => waitingJob(file, free + i));
+  const run = { number, columns, begun: now, jobs, aside, opened: null, archive: null };
   return scheduled({ ...state, runs: number, run, notice: '' }, now);
 }
 

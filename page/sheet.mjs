@@ -165,6 +165,19 @@ export function fileChosen(state, given) {
 }
 
 /**
+ * The sheets of these numbers have other files now: what was chosen for them stays, and what came of it goes.
+ * @param {SheetState} state
+ * @param {number[]} numbers
+ * @returns {SheetState}
+ */
+export function tablesGone(state, numbers) {
+  if (numbers.length === 0) return state;
+  const withoutRun = (it) => (it.given !== null && numbers.includes(it.given.number) ? { ...it, run: null } : it);
+  const held = Object.fromEntries(Object.entries(state.held).map(([key, it]) => [key, withoutRun(it)]));
+  return withoutRun({ ...state, held });
+}
+
+/**
  * Choices that were kept are chosen: for the sheet that is there, or else for the next one.
  * @param {SheetState} state
  * @param {File} file

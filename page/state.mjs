@@ -24,6 +24,13 @@ function told(state) {
   return { ...state, door: names.length ? door.asked(state.door, { what: 'replace', names }) : door.arrived(state.door) };
 }
 
+// The numbers of what has another file now.
+function changedNumbers(before, now) {
+  if (before === now) return [];
+  const files = new Map(before.map(({ number, file }) => [number, file]));
+  return now.filter(({ number, file }) => files.has(number) && !isSameFile(files.get(number), file)).map(({ number }) => number);
+}
+
 /** What the door has for another part than it had before is chosen there; and what was chosen there, the door has. */
 function passedOn(before, state) {
   const was = door.partsOf(before.door), is = door.partsOf(state.door), { files } = state.registers.choice;
@@ -31,7 +38,7 @@ function passedOn(before, state) {
   if (state.registers.choice.files !== before.registers.choice.files) {
     return { ...state, door: door.followed(state.door, files) };
   }
-  let { registers: many, sheet: own } = state;
+  let { registers: many } = state, own = sheet.tablesGone(state.sheet, changedNumbers(before.door.entries, state.door.entries));
   if (!isSame(was.registers, is.registers) || !isSame(was.left, is.left)) {
     many = registers.chosen(many, { files: is.registers, left: is.left });
   }

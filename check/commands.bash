@@ -8,6 +8,15 @@ convert() {
   "${home:-.}/$name" $options $columns "$@"
 }
 
+# Runs a command line as one whom permissions bind, as they do not bind root.
+bound() {
+  if [ "$(id -u)" = 0 ]; then
+    setpriv --bounding-set=-dac_override,-dac_read_search bash -u -c "$1"
+  else
+    bash -u -c "$1"
+  fi
+}
+
 # Prints what files hold after a command, and keeps the status of the command.
 after() {
   local status=$? name

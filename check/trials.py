@@ -279,7 +279,7 @@ def main():
     parser.add_argument("cases", nargs="*", metavar="CASE",
                         help="only tests, or else trials, with such a word in their names")
     for program in PROGRAMS:
-        parser.add_argument(f"--{program.name}", metavar="FILE",
+        parser.add_argument(f"--{program.name}", dest=program.name, metavar="FILE",
                             help="the program, in place of what its launcher builds")
     found = counted([Itself("test_comparison")], itself)
     if (found.passed, found.failed) != (1, 1) or "FAILED: two texts that differ\n" not in itself.getvalue():

@@ -139,9 +139,10 @@ def told(status, output="", errors="", files=()):
 
 @functools.cache
 def run_first(path):
-    """Runs a program a first time, which has an end in six hours."""
-    if run([path, "--help"], seconds=6 * 3600).status:
-        raise OSError(f"{path} does not run")
+    """Runs a program a first time, which ends in six hours, in a folder of its own, since a wrong one may write there."""
+    with tempfile.TemporaryDirectory() as folder:
+        if run([path, "--help"], seconds=6 * 3600, cwd=folder).status:
+            raise OSError(f"{path} does not run")
 
 
 def loaded(name):

@@ -139,9 +139,10 @@ def told(status, output="", errors="", files=()):
 
 @functools.cache
 def run_first(path):
-    """Runs a program a first time, which has an end in six hours."""
-    if run([path, "--help"], seconds=6 * 3600).status:
-        raise OSError(f"{path} does not run")
+    """Runs a program a first time, which ends in six hours, in a folder of its own, since a wrong one may write there."""
+    with tempfile.TemporaryDirectory() as folder:
+        if run([path, "--help"], seconds=6 * 3600, cwd=folder).status:
+            raise OSError(f"{path} does not run")
 
 
 def loaded(name):
@@ -279,7 +280,7 @@ def main():
     parser.add_argument("cases", nargs="*", metavar="CASE",
                         help="only tests, or else trials, with such a word in their names")
     for program in PROGRAMS:
-        parser.add_argument(f"--{program.name}", metavar="FILE",
+        parser.add_argument(f"--{program.name}", dest=program.name, metavar="FILE",
                             help="the program, in place of what its launcher builds")
     found = counted([Itself("test_comparison")], itself)
     if (found.passed, found.failed) != (1, 1) or "FAILED: two texts that differ\n" not in itself.getvalue():

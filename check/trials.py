@@ -139,7 +139,7 @@ def told(status, output="", errors="", files=()):
 
 @functools.cache
 def run_first(path):
-    """Runs a program a first time, which ends in six hours, in a folder of its own, since a wrong one may write there."""
+    """Runs a program a first time, which ends in six hours, in a folder of its own: a wrong one may write."""
     with tempfile.TemporaryDirectory() as folder:
         if run([path, "--help"], seconds=6 * 3600, cwd=folder).status:
             raise OSError(f"{path} does not run")

@@ -2,6 +2,8 @@
 // FAULT_CALL is the function, FAULT_PLACE the number of the call among those of that function, from 1. FAULT_ERROR is
 // the number of the error, or 0 for a read or write of one byte alone. FAULT_MARK is a file that gets a line where the
 // fault came: the descriptor of a read or a write, and else -1.
+// FAULT_FILES, as `a.csv:1:7 b.csv:1:8`, has names of files, each with the number of a file system and that of a file: by
+// these the system then knows them.
 #define _GNU_SOURCE
 #include <dlfcn.h>
 #include <errno.h>
@@ -11,6 +13,7 @@
 #include <stdio.h>
 #include <stdlib.h>
 #include <string.h>
+#include <sys/stat.h>
 #include <sys/syscall.h>
 #include <unistd.h>
 
@@ -77,6 +80,26 @@ int ftruncate(int descriptor, off_t size) {
 
 int rename(const char *from, const char *to) {
   return fails("rename", -1) ? -1 : NEXT(rename)(from, to);
+}
+
+int statx(int folder, const char *restrict name, int flags, unsigned wanted, struct statx *restrict found) {
+  static int (*next)(int, const char *restrict, int, unsigned, struct statx *restrict);
+  if (!next) next = NEXT(statx);
+  int result = next(folder, name, flags, wanted, found);
+  const char *files = getenv("FAULT_FILES");
+  char other[64];
+  unsigned file_system;
+  unsigned long file;
+  int size;
+  while (files && sscanf(files, " %63[^:]:%u:%lu%n", other, &file_system, &file, &size) == 3) {
+    files += size;
+    if (result == 0 && strcmp(name, other) == 0) {
+      found->stx_dev_major = 0;
+      found->stx_dev_minor = file_system;
+      found->stx_ino = file;
+    }
+  }
+  return result;
 }
 
 int pthread_create(pthread_t *thread, const pthread_attr_t *how, void *(*body)(void *), void *given) {

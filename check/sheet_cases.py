@@ -64,6 +64,8 @@ REFUSED = {
     "a a --date=1 --all=iso --to=x": "unknown column: x",
     "--skip=x --date=1 --all=iso --order=x": "unknown order: x",
     "--order=x --all=mars --date=1": "unknown order: x",
+    "--short-years=y --order=x --date=1 --all=iso": "unknown order: x",
+    "a a --date=1 --all=mars": "file named twice: a",
     "--register --all=mars --date=1": "--register is for files",
     "--short-years=x --short-hebrew-years=y --skip=z --date=1 --all=iso": "bad short years: x",
     "--skip=z --short-other-years=y --short-hebrew-years=x --date=1 --all=iso": "bad short Hebrew years: x",
@@ -183,6 +185,9 @@ x;1001-1-1;;5;365243;
 """
 TWO_COLUMNS = "--skip 1 --date a --date b --all julian --all gregorian --delimiter semicolon --to rd"
 
+EIGHT = "a,b,c,d,e,f,g,h"
+EIGHT_COLUMNS = " ".join(["--all=julian", *(f"--date={it}" for it in EIGHT.split(","))])
+
 # Dates that say no single day; days and weekdays by Python's datetime.
 SPANS = "No,Date\n1,12 Mai 1806\n2,Mai 1806\n3,ca. 1750\n4,vor 12.5.1806\n5,31.4.1801 bis 5.5.1801\n6,1755-1750\n7,\n"
 SPANS_CONVERTED = """\
@@ -266,6 +271,7 @@ FILES = {
     "periods.csv": "name,means,in\nJh,century 1,\nsiglo,century 0,\nLenz,months 3-5,\ns,decade,\n",
     "own.csv.unknown.csv": "name,means,in\nMeyo,month 5,\n",
     "bad.csv": "name,means,in\nMeyo,month 5,\nJuni,six,\n",
+    "large.csv": "name,means,in\nviel,999999999,\n", "larger.csv": "name,means,in\nviel,1000000000,\n",
     "in.csv": "name,means,in\nMeyo,month 5,mars\n", "both.csv": "name,means,in\nMeyo,mai,mars\n",
     "sign.csv": "name,means,in\nMeyo(,julian,\nMai(,month 6,\n", "empty-name.csv": "name,means,in\n.,month 6,\n",
 }
@@ -346,6 +352,11 @@ STREAMS = [
      "d,julian,refusal\n06-5-12,1806-05-12,\n", ""),
     ("--date 1 --all julian --to julian", "d\n06-5-12\n", 0, "d,julian,refusal\n06-5-12,,5\n",
      lines("standard input: 1 date has a short year and is left empty: see --short-years")),
+    # The first and the last century that can be given.
+    *((f"--date 1 --all julian --short-years {it} --to julian", "d\n06-5-12\n", 0,
+       f"d,julian,refusal\n06-5-12,{year}-05-12,\n", "") for it, year in ((100, "0106"), (2000, "2006"))),
+    *((f"--date 1 --all coptic --short-other-years {it} --to coptic", "d\n06-5-12\n", 0,
+       f"d,coptic,refusal\n06-5-12,{year}-05-12,\n", "") for it, year in ((100, "0106"), (2000, "2006"))),
     # Of other calendars: a century for them alone; where short years are kept and nothing else is said; and where it is.
     (f"{OTHERS_COLUMNS} --short-other-years 1300", OTHERS, 0,
      "d,c,gregorian,refusal\n12.5.41,islamic,1922-12-31,\n12.5.41,coptic,1625-01-17,\n12.5.41,ethiopic,1349-01-15,\n"
@@ -396,6 +407,7 @@ STREAMS = [
     # Short years, and names that are not known, of more than one date.
     ("--date 1 --all julian --to julian", "d\n06-5-12\n7-5-12\n", 0, "d,julian,refusal\n06-5-12,,5\n7-5-12,,5\n",
      lines("standard input: 2 dates have short years and are left empty: see --short-years")),
+    (*unlisted(0), ""),
     (*unlisted(1), lines("standard input: 1 date has a name that is not among the first 1000, which are listed")),
     (*unlisted(2), lines("standard input: 2 dates have names that are not among the first 1000, which are listed")),
     ("--date d --all julian --order day --to julian", "d\n1. zza 1700\n2. zzb 1700\n", 0,
@@ -441,6 +453,10 @@ STREAMS = [
     ("--tree", SHEET, 1, "", lines("standard input: is no family tree: its first line is not 0 HEAD")),
     ("--tree", "", 1, "", lines("standard input: is no family tree: its first line is not 0 HEAD")),
     ("--tree", "0 HEAD\n1 NOTE K\udce4the\n", 1, "", lines("standard input: is not UTF-8")),
+    # As many columns of dates as there may be.
+    (f"{EIGHT_COLUMNS} --to rd", f"{EIGHT}\n{','.join(8 * ['1001-1-1'])}\n", 0,
+     f"{EIGHT},{','.join(f'{it} rd,{it} refusal' for it in EIGHT.split(','))}\n"
+     f"{','.join(8 * ['1001-1-1'] + 8 * ['365249,'])}\n", ""),
     # Dates of three columns, behind all others: of digits, of a name, without blanks at the ends, without a day, of nothing.
     ("--three Jahr,Monat,Tag --all gregorian --order day --to gregorian --spans",
      "Tag,Monat,Jahr\n12,5,1806\n 12 ,Mai,1806\n,Mai,1806 \n,,\n", 0,
@@ -482,7 +498,7 @@ STREAMS = [
     ("--date 12 --all iso", "a,b,c,d,e,f,g,h,i,j,k\n", 1, "",
      lines("standard input: no column 12: the columns are a, b, c, d, e, f, g, h, i, j, ..")),
     ("--date 1 --calendar Stil", "a,b\n", 1, "", lines("standard input: no column Stil: the columns are a, b")),
-    ("--date 4 --all iso --skip 9", SHEET, 1, "", lines("standard input: no record with names")),
+    *((f"--date 4 --all iso --skip {it}", SHEET, 1, "", lines("standard input: no record with names")) for it in (9, 99999)),
     # Lists of names that are none: the first fault in the order of the records, and of one record that of its means.
     ("--date 1 --all iso --names a.csv", "", 3, "", lines("not name,means,in at the head of a.csv")),
     ("--date 1 --all iso --names in.csv", "", 3, "", lines("bad list of names in.csv: in of record 1")),
@@ -490,6 +506,9 @@ STREAMS = [
     ("--date 1 --all iso --names sign.csv", "", 3, "", lines("bad list of names sign.csv: name of record 2")),
     ("--date 1 --all iso --names empty-name.csv", "", 3, "", lines("bad list of names empty-name.csv: name of record 1")),
     ("--date 1 --all iso --names none.csv", "", 3, "", lines("cannot open none.csv")),
+    # The largest number that a name may mean, which is no year of a date, and one that is larger.
+    ("--date 1 --all iso --names large.csv", "", 1, "", lines("standard input: no record with names")),
+    ("--date 1 --all iso --names larger.csv", "", 3, "", lines("bad list of names larger.csv: means of record 1")),
     # A list of names is read before calendars are looked up, and these before files are opened.
     ("--date 1 --all mars --names none.csv", "", 3, "", lines("cannot open none.csv")),
     ("--date 1 --all mars --names names.csv none.csv", "", 2, "", lines("unknown calendar: mars")),

@@ -60,9 +60,8 @@ class Program:
         return os.path.realpath(given or self.built)
 
     def help(self):
-        """The page of help, as it stands in the source."""
-        source = text_of(f"crates/{self.arguments}/src/help.rt")
-        return source.split('HELP: &str = "')[1].split('\n";\n')[0].replace('\\"', '"')
+        """The page of help, as the program prints it, without its last end of a line."""
+        return "\n".join(FACTS["help"][self.name])
 
 
 def text_of(name):

@@ -185,6 +185,7 @@ class Element {
   // Tells the event to it and to all that it is in.
   dispatch(name, more = {}) {
     const event = { target: this, isPrevented: false, preventDefault() { this.isPrevented = true; }, ...more };
+    this.owner.used.add(this.id);
     for (let at = this; at; at = at === this.owner ? null : at.parentNode || this.owner) {
       at.listeners.filter(([kind]) => kind === name).forEach(([, take]) => take(event));
     }
@@ -200,10 +201,13 @@ class Element {
     this.dispatch('click');
     if (this.localName === 'a' && this.download) this.owner.log.push(`saves ${this.download}`);
     if (this.type === 'checkbox' || this.type === 'radio') this.dispatch('change');
-    if (this.localName === 'button' && this.type === 'submit') this.closest('form').dispatch('submit');
+    if (this.localName === 'button' && this.type === 'submit') this.closest('form').send();
   }
 
-  scrollIntoView() { this.owner.log.push(`scrolls to ${this.id}`); }
+  // A form that is sent leaves the page, unless that is prevented.
+  send() { if (!this.dispatch('submit').isPrevented) this.owner.log.push(`sends ${this.id}`); }
+
+  scrollIntoView({ block }) { this.owner.log.push(`scrolls to ${this.id}, ${block}`); }
 
   getBoundingClientRect() { return { bottom: this.owner.bottom }; }
 }
@@ -240,9 +244,12 @@ Object.defineProperty(Element.prototype, 'value', {
   },
 });
 
-/** The document of a text of HTML. What is done that is not to be seen, as what is saved, is told to its `log`. */
+/**
+ * The document of a text of HTML. What is done that is not to be seen, as what is saved, is told to its `log`, and what
+ * is used to `used`, by its id.
+ */
 function documentOf(html) {
-  const document = { listeners: [], log: [], active: null, bottom: 0, parentNode: null };
+  const document = { listeners: [], log: [], used: new Set(), active: null, bottom: 0, parentNode: null };
   const root = new Element('html', document);
   let at = root;
   for (const [, isEnd, name, attributes, text] of html.matchAll(/<(\/?)(\w+)([^>]*)>|([^<]+)/g)) {

@@ -17,6 +17,20 @@ const DAY_FIRST = 1;
 // The columns of dates that a sheet can have, and the numbers of each in a report: how many dates were refused, how many by
 // each reason, how many are empty, and how many are no single day.
 const MOST_DATES = 8, COUNTS = FACTS.refusals.length + 3;
+// What the module is asked by, field by field as it stands in memory, with the bytes of each: a number, or a list, which
+// is a pointer and a length. Longer fields come first, so that there is no gap between two.
+const LIST = 16;
+const REQUESTS = {
+  register: { text: LIST, delimiter: 1, sealed: 1 },
+  pick: { sheet: LIST, places: LIST, most: 8, delimiter: 1 },
+  write: { bytes: LIST, lengths: LIST, width: 8, delimiter: 1 },
+  join: { sheet: LIST, above: 4, year: 4, month: 4, day: 4, delimiter: 1 },
+  stop: { text: LIST, names: LIST, calendar: 1, order: 1 },
+  sheet: { sheet: LIST, dates: LIST, columns: LIST, names: LIST, above: 4, id: 4, order: 4, years: 4, hebrew: 4,
+    others: 4, spans: 4, delimiter: 1, charters: 1 },
+};
+// The numbers of a column of dates in a choice.
+const OF_DATES = 3;
 /** Why dates stay as they are written, in the order of the module's counts, from number 1 on. */
 export const REASONS = ['noCalendar', 'character', 'minus', 'otherWeekday', 'noDay', 'noYear', 'noSuchYear', 'noDate',
   'yearLast'];
@@ -29,6 +43,12 @@ function unreadOf(/** @type {number[]} */ [stopped, short, ...counts]) {
 // How many dates of a column were refused, by the reason, how many are empty, and how many are no single day.
 function dateCountsOf(/** @type {number[]} */ [refused, ...counts]) {
   return { refused, counts: counts.slice(0, -2), empty: counts[COUNTS - 3], spans: counts[COUNTS - 2] };
+}
+
+// A number as it is, and a part as the module takes it: a request by its pointer, a list by its pointer and its length.
+function wordsOf(/** @type {any} */ word) {
+  if (typeof word !== 'object') return [word];
+  return [word.pointer, ...(word.isRequest ? [] : [word.items ?? word.length])].map(BigInt);
 }
 
 /** Memory ran out: what the module answers by an ending 1, and what the heap of this script throws. */
@@ -152,7 +172,7 @@ class Heap {
 
 /**
  * A part of the module's memory, in bytes. Views are of no use after the memory grew, so it is given like this.
- * @typedef {{ pointer: number, length: number, items?: number }} Part
+ * @typedef {{ pointer: number, length: number, items?: number, isRequest?: boolean }} Part
  */
 
 /** An instance of the module, for one task, and dropped with it: what was cut off leaves nothing behind. */
@@ -238,17 +258,33 @@ export class Module {
     return fields;
   }
 
+  // A request of this kind, with these fields, as the module reads it.
+  ask(kind, fields) {
+    const sizes = Object.entries(REQUESTS[kind]), request = this.malloc(sizes.reduce((sum, [, size]) => sum + size, 0));
+    const view = new DataView(this.exports.memory.buffer, request.pointer, request.length);
+    let at = 0;
+    for (const [name, size] of sizes) {
+      const field = fields[name];
+      if (size === 1) view.setUint8(at, field);
+      else if (size === 4) view.setUint32(at, field, true);
+      else wordsOf(field).forEach((word, i) => view.setBigUint64(at + 8 * i, BigInt(word), true));
+      at += size;
+    }
+    return { ...request, isRequest: true };
+  }
+
   // Calls the export `name` and returns the numbers of its report. A BigInt stands for each pointer and length.
   call(name, numbers, words) {
     const report = this.malloc(8 * numbers);
-    this.exports[name](...words.flatMap((word) => {
-      if (typeof word !== 'object') return [word];
-      return [BigInt(word.pointer), BigInt(word.items === undefined ? word.length : word.items)];
-    }), BigInt(report.pointer));
+    this.exports[name](...words.flatMap(wordsOf), BigInt(report.pointer));
     const view = new DataView(this.exports.memory.buffer, report.pointer, report.length);
     const reported = Array.from({ length: numbers }, (_, i) => Number(view.getBigUint64(8 * i, true)));
     this.free(report);
     return reported;
+  }
+
+  registerText(text, { delimiter, sealed }) {
+    return this.ask('register', { text, delimiter, sealed: sealed ? 1 : 0 });
   }
 
   /**
@@ -257,9 +293,9 @@ export class Module {
    * @param {Part} text
    */
   convert(text, setup, guess) {
-    const columns = this.put(Uint8Array.from(setup.columns));
+    const columns = this.put(Uint8Array.from(setup.columns)), register = this.registerText(text, setup);
     const { ending, others: [rows, refused, ...counts], text: table } = this.makeFrom('register_convert', 9,
-      [text, columns, setup.delimiter, setup.sealed ? 1 : 0], [columns], guess);
+      [register, columns], [register, columns], guess);
     return { ending, rows, refused, counts, table };
   }
 
@@ -272,16 +308,15 @@ export class Module {
    * @param {(bytes: Part, lengths: Part, count: number) => any} use
    */
   pickBytes(text, delimiter, columns, most, guess, use) {
-    const numbers = this.putNumbers(columns);
+    const places = this.putNumbers(columns), request = this.ask('pick', { sheet: text, places, most, delimiter });
     let bytes = this.malloc(guess.bytes), lengths = this.malloc(4 * guess.fields);
     for (;;) {
       lengths.items = lengths.length / 4;
-      const [ending, length, count, records, widest] = this.call('sheet_pick', 5,
-        [text, delimiter, numbers, BigInt(most), bytes, lengths]);
+      const [ending, length, count, records, widest] = this.call('sheet_pick', 5, [request, bytes, lengths]);
       checkEnding('sheet_pick', ending);
       if (length <= bytes.length && count <= lengths.items) {
         const used = use({ ...bytes, length }, lengths, count);
-        this.free(lengths, bytes, numbers);
+        this.free(lengths, bytes, request, places);
         return { records, widest, used };
       }
       this.free(lengths, bytes);
@@ -319,8 +354,9 @@ export class Module {
    */
   dateStop(text, calendar, names) {
     const [typed, list] = [text, names].map((it) => this.put(new TextEncoder().encode(it)));
-    const { ending, others: [stop], text: blamed } = this.makeFrom('date_stop', 1,
-      [typed, calendar, DAY_FIRST, list], [list, typed], typed.length + 64);
+    const request = this.ask('stop', { text: typed, names: list, calendar, order: DAY_FIRST });
+    const { ending, others: [stop], text: blamed } = this.makeFrom('date_stop', 1, [request], [request, list, typed],
+      typed.length + 64);
     checkEnding('date_stop', ending);
     const words = new TextDecoder().decode(this.bytes(blamed));
     this.free(blamed);
@@ -349,16 +385,26 @@ export class Module {
     }
   }
 
+  // What is asked of a sheet by the numbers of a choice and of columns, and by the text of a list of names; and the
+  // parts that it is made of.
+  askSheet(sheet, choice, columns, names) {
+    const [delimiter, above, id, order, years, hebrew, others, charters, spans, ...triples] = choice;
+    const dates = { ...this.putNumbers(triples), items: Math.floor(triples.length / OF_DATES) };
+    const asked = this.put(Uint8Array.from(columns)), list = this.put(new TextEncoder().encode(names));
+    const request = this.ask('sheet', { sheet, dates, columns: asked, names: list, above, id, order, years, hebrew,
+      others, spans, delimiter, charters });
+    return [request, list, asked, dates];
+  }
+
   /**
    * Converts a sheet by the numbers of a choice and of the columns asked; `names` is the text of a list of names, and
    * `guess` how long the sheet that comes back may be.
    * @param {Part} text
    */
   convertSheet(text, choice, columns, names, guess) {
-    const list = this.put(new TextEncoder().encode(names)), asked = this.put(Uint8Array.from(columns));
-    const numbers = this.putNumbers(choice);
-    const ofDates = MOST_DATES * COUNTS, { ending, others: [rows, ...counts], text: table } = this.makeFrom('sheet_convert',
-      13 + ofDates, [text, numbers, asked, list], [numbers, asked, list], guess);
+    const lent = this.askSheet(text, choice, columns, names), ofDates = MOST_DATES * COUNTS;
+    const { ending, others: [rows, ...counts], text: table } = this.makeFrom('sheet_convert', 13 + ofDates, [lent[0]],
+      lent, guess);
     const dates = Array.from({ length: MOST_DATES }, (_, k) => dateCountsOf(counts.slice(k * COUNTS, (k + 1) * COUNTS)));
     return { ending, rows, dates, blank: counts[ofDates], table, ...unreadOf(counts.slice(ofDates + 1)) };
   }
@@ -368,9 +414,9 @@ export class Module {
    * @param {Part} text
    */
   sheetRegister(text, choice, column, names, end = 0) {
-    const list = this.put(new TextEncoder().encode(names)), numbers = this.putNumbers(choice);
-    const { ending, text: table } = this.makeFrom('sheet_register', 0,
-      [text, numbers, BigInt(column), end, list], [numbers, list], text.length + PAGE);
+    const lent = this.askSheet(text, choice, [], names);
+    const { ending, text: table } = this.makeFrom('sheet_register', 0, [lent[0], BigInt(column), end], lent,
+      text.length + PAGE);
     return { ending, table };
   }
 
@@ -379,9 +425,9 @@ export class Module {
    * @param {Part} text
    */
   unknownNames(text, choice, names, most) {
-    const list = this.put(new TextEncoder().encode(names)), numbers = this.putNumbers(choice);
+    const lent = this.askSheet(text, choice, [], names);
     const { ending, others: [more, ...counts], text: found } = this.makeFrom('sheet_unknown', 12,
-      [text, numbers, list, BigInt(most)], [numbers, list], PAGE);
+      [lent[0], BigInt(most)], lent, PAGE);
     const { stopped, short, reasons } = unreadOf(counts);
     // Dates stay as they are written for a name that is not known, or for another reason.
     const kept = Object.values(reasons).reduce((sum, count) => sum + count, stopped);
@@ -400,11 +446,12 @@ export class Module {
    * @returns {{ ending: number, days: Uint32Array, calendars: Uint8Array }}
    */
   registerDays(text, delimiter, sealed, guess = expectedRecords(text.length)) {
+    const register = this.registerText(text, { delimiter, sealed });
     const days = { ...this.malloc(4 * guess), items: guess }, calendars = this.malloc(guess);
-    const [ending, length] = this.call('register_days', 2, [text, delimiter, sealed ? 1 : 0, days, calendars]);
+    const [ending, length] = this.call('register_days', 2, [register, days, calendars]);
     const found = length > guess ? null : { ending, days: this.numbersOf(days, length),
       calendars: this.bytes({ ...calendars, length }).slice() };
-    this.free(calendars, days);
+    this.free(calendars, days, register);
     return found || this.registerDays(text, delimiter, sealed, length);
   }
 
@@ -464,7 +511,8 @@ export class Module {
    * @param {number[]} three
    */
   joinedDates(text, delimiter, above, three) {
-    const { ending, text: joined } = this.makeFrom('joined_dates', 0, [text, delimiter, above, ...three], [],
+    const [year, month, day] = three, request = this.ask('join', { sheet: text, above, year, month, day, delimiter });
+    const { ending, text: joined } = this.makeFrom('joined_dates', 0, [request], [request],
       PAGE + text.length + Math.ceil(text.length / 4));
     if (ending !== 0) throw new NoMemory();
     return joined;
@@ -472,8 +520,9 @@ export class Module {
 
   /** A CSV text of the fields, of which each `width` are a record. */
   write(fields, width, delimiter) {
-    const { bytes, lengths } = this.putFields(fields), words = [bytes, lengths, BigInt(width), delimiter];
-    const { ending, text } = this.makeFrom('sheet_write', 0, words, [lengths, bytes], 4096);
+    const { bytes, lengths } = this.putFields(fields);
+    const request = this.ask('write', { bytes, lengths, width, delimiter });
+    const { ending, text } = this.makeFrom('sheet_write', 0, [request], [request, lengths, bytes], 4096);
     checkEnding('sheet_write', ending);
     return text;
   }

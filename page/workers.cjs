@@ -88,6 +88,43 @@ function choiceOf(dates, choices = {}) {
 const source = (it, more = {}) =>
   ({ number: 1, file: it, encoding: 'utf-8', delimiter: COMMA, above: 0, kept: null, ...more });
 
+// An archive of files, each packed; with what is said of it, which stands behind each file in the list at its end and behind
+// that list, and with further fields of each file, which are others in that list.
+function packed(files, { isLocked = false, method = 8, said = '', fields = [0, 0] } = {}) {
+  const parts = [], list = [];
+  let at = 0;
+  for (const [name, text] of Object.entries(files)) {
+    const own = Buffer.from(name), data = method === 8 ? zlib.deflateRawSync(Buffer.from(text)) : Buffer.from(text);
+    const head = Buffer.alloc(26);
+    head.writeUInt16LE(20, 0);
+    head.writeUInt16LE(isLocked ? 1 : 0, 2);
+    head.writeUInt16LE(method, 4);
+    head.writeUInt32LE(data.length, 14);
+    head.writeUInt32LE(Buffer.byteLength(text), 18);
+    head.writeUInt16LE(own.length, 22);
+    const entry = Buffer.alloc(14), [more, listed] = fields.map((length) => Buffer.alloc(length, 'f')), behind = Buffer.from(head);
+    entry.writeUInt16LE(said.length, 0);
+    entry.writeUInt32LE(at, 10);
+    head.writeUInt16LE(more.length, 24);
+    behind.writeUInt16LE(listed.length, 24);
+    const local = Buffer.concat([Buffer.from('PK\x03\x04', 'latin1'), head, own, more, data]);
+    list.push(Buffer.concat([Buffer.from('PK\x01\x02\x14\0', 'latin1'), behind, entry, own, listed, Buffer.from(said)]));
+    parts.push(local);
+    at += local.length;
+  }
+  const entries = Buffer.concat(list), last = Buffer.alloc(22);
+  last.write('PK\x05\x06', 'latin1');
+  last.writeUInt16LE(list.length, 10);
+  last.writeUInt32LE(entries.length, 12);
+  last.writeUInt32LE(at, 16);
+  last.writeUInt16LE(said.length, 20);
+  return Buffer.concat([...parts, entries, last, Buffer.from(said)]);
+}
+
+/** What a step changed of a state: the parts that are others then, as they are. */
+const changed = (before, now) => Object.fromEntries(Object.keys({ ...before, ...now })
+  .filter((name) => JSON.stringify(before[name]) !== JSON.stringify(now[name])).map((name) => [name, now[name]]));
+
 // The lines of a text that was saved, without its mark.
 const linesOf = async (blob) => (await blob.text()).replace(/^\ufeff/, '').split('\n').slice(0, -1);
 
@@ -106,6 +143,6 @@ async function page(processors = 4) {
 }
 
 module.exports = {
-  COMMA, NONE, SEMICOLON, asker, changing, choiceOf, file, linesOf, load, page, source, unreadable, useModule, waiting,
-  workerMaker,
+  COMMA, NONE, SEMICOLON, asker, changed, changing, choiceOf, file, linesOf, load, packed, page, source, unreadable,
+  useModule, waiting, workerMaker,
 };

@@ -7,10 +7,10 @@ use Rattle.csv.specs.Writing.{default_writer, escaped, field_text, fields_text, 
 use Rattle.csv.specs.Writing.{with_delimiter}
 use Rattle.register_records.specs.Entries.{Fields}
 use Rattle.register_records.specs.Lines.{line_text}
-use Rattle.register_sheets.specs.Sheets.{records_text}
+use Rattle.sheets.specs.Sheets.{records_text}
 use Rattle.date_parts.specs.private.SheetViews.{GainsRecords, Holds, writing}
 use Rattle.date_parts.specs.declared.places.DatePlaces.{DatePlaces}
-use Rattle.date_parts.specs.declared.sheets.JoinedSheet.{JoinedSheet}
+use Rattle.date_parts.specs.declared.joined_sheets.JoinedSheet.{JoinedSheet}
 use Rattle.std.proofs.lemmas.List.Concat.{flat_map-append}
 
 -- a line is the same text whether records may differ in length or not

@@ -4,14 +4,14 @@ ghost use Rattle.std.specs.Prelude.{◌≡◌, ◌++◌, [], ℕ, List, IfOk, Ok
 ghost use Rattle.csv.specs.Records.{fields_of};
 ghost use Rattle.register_records.specs.Entries.{text_records};
 ghost use Rattle.date_parts.specs.JoinedDates.{dated_records, joined_text, with_date};
-ghost use Rattle.register_sheets.specs.Reading.{IsReading, left_of};
-ghost use Rattle.register_sheets.specs.Sheets.{records_text, widest};
+ghost use Rattle.sheets.specs.Reading.{IsReading, left_of};
+ghost use Rattle.sheets.specs.Sheets.{records_text, widest};
 ghost use Rattle.date_parts.specs.private.SheetViews.{GainsRecords};
 
+use crate::joined_sheets::JoinedSheet;
 use crate::places::DatePlaces;
-use crate::sheets::JoinedSheet;
 use csv::{ByteRecord, Reader};
-use register_sheets::{read_next, records_of};
+use sheets::{read_next, records_of};
 use std::alloc::{AllocError, Global};
 
 /// Passes over the next records, so many, and says whether there were as many.

@@ -2,9 +2,9 @@
 //! of the dates.
 #![tactic(auto)]
 
+mod joined_sheets;
 mod joining;
 mod places;
-mod sheets;
 
 pub use joining::joined_sheet;
 pub use places::DatePlaces;

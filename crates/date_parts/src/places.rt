@@ -8,7 +8,7 @@ ghost use Rattle.written_dates.specs.Times.{are_digits as digits_spec};
 ghost use Rattle.date_parts.specs.JoinedDates.{date_in, dashed, heading_in, joined_date, spaced};
 
 use csv::ByteRecord;
-use register_sheets::field_at;
+use sheets::field_at;
 use std::alloc::AllocError;
 use written_dates::without_blanks;
 

@@ -8,7 +8,7 @@ use Rattle.csv.specs.Writing.{with_delimiter}
 use Rattle.register_records.specs.Entries.{Fields}
 use Rattle.register_records.specs.Lines.{line_text}
 use Rattle.page_rules.specs.Orders.{records_at}
-use Rattle.register_sheets.specs.Sheets.{records_text}
+use Rattle.sheets.specs.Sheets.{records_text}
 use Rattle.page_rules.specs.private.RecordViews.{AreBounds, HasLines, writing}
 use Rattle.page_rules.specs.declared.lines.RecordLines.{RecordLines}
 use Rattle.std.proofs.Math.Nat.{eq-or-lt_of_le}

@@ -7,7 +7,7 @@ use Rattle.std.proofs.lemmas.List.Concat.{flat_map-append}
 use Rattle.std.proofs.lemmas.List.Elements.{Contains-append_left, Contains-append_right}
 use Rattle.std.proofs.lemmas.List.Folds.{concat-append}
 use Rattle.register_records.specs.Entries.{Fields}
-use Rattle.register_sheets.specs.Sheets.{chosen}
+use Rattle.sheets.specs.Sheets.{chosen}
 use Rattle.page_rules.specs.Picks.{HasLongField, all_chosen}
 
 -- one more place

@@ -2,7 +2,7 @@
 use Rattle.std.specs.Prelude.{◌≡◌, ◌≤◌, ◌^◌, ℕ, List, Any, length, map}
 use Rattle.std.specs.List.{concat, flat_map}
 use Rattle.register_records.specs.Entries.{Fields}
-use Rattle.register_sheets.specs.Sheets.{chosen, widest}
+use Rattle.sheets.specs.Sheets.{chosen, widest}
 use Rattle.page_rules.specs.declared.picking.PickFault.{PickFault}
 use Rattle.page_rules.specs.declared.picking.PickFault.TheVariants as pick_fault
 use Rattle.page_rules.specs.declared.picking.Picked.{Picked}

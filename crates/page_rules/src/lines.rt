@@ -5,11 +5,11 @@ ghost use Rattle.std.specs.Prelude.{slice_get};
 ghost use Rattle.csv.specs.Records.{fields_of};
 ghost use Rattle.register_records.specs.Entries.{Fields, text_records};
 ghost use Rattle.register_records.specs.Lines.{line_text};
-ghost use Rattle.register_sheets.specs.Sheets.{records_text};
+ghost use Rattle.sheets.specs.Sheets.{records_text};
 ghost use Rattle.page_rules.specs.private.RecordViews.{HasLines};
 
 use csv::{ByteRecord, Writer, WriterBuilder};
-use register_sheets::{read_next, records_of};
+use sheets::{read_next, records_of};
 use std::alloc::{AllocError, Global};
 
 /// The lines of records, one behind the other.

@@ -4,12 +4,12 @@ ghost use Rattle.std.specs.Prelude.{◌≡◌, ◌<◌, ◌≤◌, ◌+◌, ◌+
 ghost use Rattle.std.specs.List.{concat};
 ghost use Rattle.csv.specs.Records.{fields_of};
 ghost use Rattle.register_records.specs.Entries.{Fields, text_records};
-ghost use Rattle.register_sheets.specs.Reading.{IsReading, left_of};
-ghost use Rattle.register_sheets.specs.Sheets.{chosen};
+ghost use Rattle.sheets.specs.Reading.{IsReading, left_of};
+ghost use Rattle.sheets.specs.Sheets.{chosen};
 ghost use Rattle.page_rules.specs.Picks.{HasLongField, IsPicked, all_chosen};
 
 use csv::{ByteRecord, Reader};
-use register_sheets::{field_at, read_next, records_of};
+use sheets::{field_at, read_next, records_of};
 use std::alloc::{AllocError, Global};
 
 /// Why no fields are picked.

@@ -2,7 +2,7 @@
 
 ghost use Rattle.std.specs.Prelude.{◌≡◌, ◌≢◌, ◌↔◌, length, Err, IfOk};
 ghost use Rattle.std.specs.Int.{div_ceil};
-ghost use Rattle.register_sheets.specs.Sheets.{records_text};
+ghost use Rattle.sheets.specs.Sheets.{records_text};
 ghost use Rattle.page_rules.specs.Fields.{fields_by, groups};
 
 use crate::field_lists::FieldsLeft;

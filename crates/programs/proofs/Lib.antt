@@ -4,6 +4,7 @@
 --   MeaningLemmas, upon these: arguments mean one thing.
 --   MatchLemmas: `opened`, `made`, `placed`, `kept` and `apart` of `open_files`.
 --   RefusedLemmas: when arguments are refused, and what is reported then, for `answer` of both programs.
+--   PageLemmas: `printed` of `print_page`.
 --   AppendsLemmas: the contract of `write` of `LoggedWriter`.
 mod Common
 pub mod KindLemmas
@@ -12,3 +13,4 @@ pub mod MeaningLemmas
 pub mod RefusedLemmas
 pub mod AppendsLemmas
 pub mod MatchLemmas
+mod PageLemmas

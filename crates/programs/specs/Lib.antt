@@ -10,5 +10,7 @@ pub mod Sides
 pub mod LoggedWriters
 pub mod OwnLines
 pub mod Pages
+pub mod HelpPages
 pub mod Refusals
 pub mod Requests
+pub mod private

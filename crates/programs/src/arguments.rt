@@ -3,13 +3,13 @@
 ghost use Rattle.std.specs.Prelude.{◌≡◌, IfOk, fold, map, option_map, unwrap_or, [], false};
 ghost use Rattle.clap.specs.Words.{all_of, app_of, first_of, found_of, one_of, rows_of, rule_of};
 ghost use Rattle.programs.specs.Rules.{bare_command, files_rule, flag_rule, is_set, option_rule, repeated_rule};
-ghost use Rattle.programs.specs.ArgumentRules.{rule_by, with_argument};
+ghost use Rattle.programs.specs.ArgumentRules.{app_with, rule_by, value_name};
 
 use clap::{Arg, ArgAction, ArgMatches, Command};
 use std::alloc::{AllocError, Global};
 
 /// An option that takes a value, which the page of usage calls `value`.
-pub fn option<'a>(alloc: Global, name: &'a str, value: &'a str) -> Arg<'a>
+fn option<'a>(alloc: Global, name: &'a str, value: &'a str) -> Arg<'a>
     ensures rule { rule_of result ≡ option_rule name.entry.now }
     ensures local { result.global ≡ false }
 {
@@ -17,7 +17,7 @@ pub fn option<'a>(alloc: Global, name: &'a str, value: &'a str) -> Arg<'a>
 }
 
 /// The same, as often as wanted.
-pub fn repeated_option<'a>(alloc: Global, name: &'a str, value: &'a str) -> Arg<'a>
+fn repeated_option<'a>(alloc: Global, name: &'a str, value: &'a str) -> Arg<'a>
     ensures rule { rule_of result ≡ repeated_rule name.entry.now }
     ensures local { result.global ≡ false }
 {
@@ -28,7 +28,7 @@ pub fn repeated_option<'a>(alloc: Global, name: &'a str, value: &'a str) -> Arg<
 }
 
 /// A flag.
-pub fn flag<'a>(alloc: Global, name: &'a str) -> Arg<'a>
+fn flag<'a>(alloc: Global, name: &'a str) -> Arg<'a>
     ensures rule { rule_of result ≡ flag_rule name.entry.now }
     ensures local { result.global ≡ false }
 {
@@ -36,7 +36,7 @@ pub fn flag<'a>(alloc: Global, name: &'a str) -> Arg<'a>
 }
 
 /// The arguments that are no options, as many as there are.
-pub fn files_argument<'a>(alloc: Global, name: &'a str, value: &'a str) -> Arg<'a>
+fn files_argument<'a>(alloc: Global, name: &'a str, value: &'a str) -> Arg<'a>
     ensures rule { rule_of result ≡ files_rule name.entry.now }
     ensures local { result.global ≡ false }
 {
@@ -45,33 +45,83 @@ pub fn files_argument<'a>(alloc: Global, name: &'a str, value: &'a str) -> Arg<'
         .action(ArgAction::Append)
 }
 
-/// An argument of a command line: its name, and what the page of usage calls its value.
+/// What an option takes for its value.
 #[derive(Clone, Copy)]
-pub enum Argument<'a> {
-    /// An option that takes a value.
-    Valued(&'a str, &'a str),
-    /// The same, as often as wanted.
-    Repeated(&'a str, &'a str),
-    /// A flag.
-    Flag(&'a str),
-    /// The arguments that are no options, as many as there are.
-    Files(&'a str, &'a str),
+pub enum Value<'a> {
+    /// A text of its own, for which this name stands.
+    Text(&'a str),
+    /// A number from the least to the most, for which this name stands.
+    Number {
+        name: &'a str,
+        least: usize,
+        most: usize,
+    },
+    /// One of these words, between which bars stand; one in capitals stands for others. The page of help has the name
+    /// for all of them.
+    Words {
+        name: &'a str,
+        words: &'a str,
+    },
 }
 
-/// An argument, as clap takes it.
+impl<'a> Value<'a> {
+    /// What stands for the value where clap names it.
+    pub fn usage(self) -> &'a str {
+        match self {
+            Value::Text(name) | Value::Number { name, .. } => name,
+            Value::Words { words, .. } => words,
+        }
+    }
+
+    /// What stands for the value in the page of help.
+    pub fn name(self) -> &'a str
+        ensures { result.now ≡ value_name self.entry }
+    {
+        match self {
+            Value::Text(name) | Value::Number { name, .. } | Value::Words { name, .. } => name,
+        }
+    }
+}
+
+/// What kind an option is of.
+#[derive(Clone, Copy)]
+pub enum Kind<'a> {
+    /// It takes a value.
+    Valued(Value<'a>),
+    /// The same, as often as wanted.
+    Repeated(Value<'a>),
+    /// It takes none.
+    Flag,
+}
+
+/// An option of a command line: all that is known of it, for clap, for the page of help, and for what is made of both.
+#[derive(Clone, Copy)]
+pub struct Argument<'a> {
+    /// Its name, without dashes.
+    pub name: &'a str,
+    /// Whether it takes a value, and which one.
+    pub kind: Kind<'a>,
+    /// What it does, as the page of help has it: lines of up to 56 columns, before which 22 blanks stand but in the first.
+    pub help: &'a str,
+}
+
+/// The name of the arguments that are no options, and what stands for them.
+const FILES: (&str, &str) = ("file", "FILE");
+
+/// An option, as clap takes it.
 fn made<'a>(alloc: Global, argument: Argument<'a>) -> Arg<'a>
     ensures rule { rule_of result ≡ rule_by argument.entry }
     ensures local { result.global ≡ false }
 {
-    match argument {
-        Argument::Valued(name, value) => option(alloc, name, value),
-        Argument::Repeated(name, value) => repeated_option(alloc, name, value),
-        Argument::Flag(name) => flag(alloc, name),
-        Argument::Files(name, value) => files_argument(alloc, name, value),
+    let name = argument.name;
+    match argument.kind {
+        Kind::Valued(value) => option(alloc, name, value.usage()),
+        Kind::Repeated(value) => repeated_option(alloc, name, value.usage()),
+        Kind::Flag => flag(alloc, name),
     }
 }
 
-/// The command of this name with these arguments. A loop over them, since an exit at each cost the prover much.
+/// The command of this name with these options, and files. A loop over them, since an exit at each cost the prover much.
 ///
 /// # Errors
 ///
@@ -82,13 +132,13 @@ pub fn command_with<'a>(
     version: &'a str,
     arguments: &[Argument<'a>],
 ) -> Result<Command<'a>, AllocError>
-    ensures { IfOk result (λ c. app_of c ≡ fold with_argument (bare_command name.entry.now) arguments.now) }
+    ensures { IfOk result (λ c. app_of c ≡ app_with name.entry.now arguments.now) }
 {
     let mut whole = empty_command(alloc, name, version);
     'arguments: for &argument in arguments {
         whole = whole.arg(made(alloc, argument))?;
     }
-    Ok(whole)
+    whole.arg(files_argument(alloc, FILES.0, FILES.1))
 }
 
 /// The command of this name with none of its arguments.

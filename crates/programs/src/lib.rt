@@ -20,8 +20,7 @@ mod terminal;
 mod values;
 
 pub use arguments::{
-    Argument, clap_text, command_with, empty_command, files_argument, flag, is_given, option,
-    repeated_option, value_given, values_given,
+    Argument, Kind, Value, clap_text, command_with, is_given, value_given, values_given,
 };
 pub use disk::{Destination, Disk, Exclusive, Source};
 pub use file_store::{FileStore, is_of_output, share_file};
@@ -29,7 +28,7 @@ pub use files::{FilesFault, MAX_FILES, check_files};
 pub use logged_writer::LoggedWriter;
 pub use opening::{FileFault, Opened, open_files, output_name};
 pub use own_lines::{OUT_OF_MEMORY, own_line, report_out_of_memory, version_line};
-pub use pages::print_page;
+pub use pages::{Help, Page, print_page};
 pub use places::Place;
 pub use refusals::{Refusal, report_refusal};
 pub use requests::{Request, UsageFault, read_arguments};

@@ -20,8 +20,8 @@ use Rattle.programs.specs.OwnLines as lines
 use Rattle.programs.specs.Pages.{IsPrinted}
 use Rattle.programs.specs.Refusals as refusals
 use Rattle.register_arguments.specs.Faults.{name}
+use Rattle.register_arguments.specs.HelpPage.{help_page}
 use Rattle.register_arguments.specs.Requests.{IsSetupOf, MeanJust, Task}
-use Rattle.register_arguments.specs.declared.help.TheConstants.{HELP}
 use Rattle.register_arguments.specs.declared.requests.TheConstants.{VERSION}
 
 -- the line on the version
@@ -31,7 +31,7 @@ version_line = lines.version_line name VERSION.now
 -- the arguments ask for this page
 abbrev pub AskForPage : List (List ℕ) → List ℕ → Type 0
 AskForPage arguments page =
-    (MeanJust arguments help × (page ≡ HELP.now)) ⊎ (MeanJust arguments version × (page ≡ version_line))
+    (MeanJust arguments help × (page ≡ help_page)) ⊎ (MeanJust arguments version × (page ≡ version_line))
 
 -- tables were made: the threads of each source, which ran as is handed on, were started by the task's setup, with its
 -- ring and its stripes, those that are written, or else those that fit a machine of some number of processors, which the

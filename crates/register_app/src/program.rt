@@ -10,6 +10,7 @@ ghost use Rattle.programs.specs.Openings.{AreMade, IsFresh, IsNewlyMade};
 ghost use Rattle.register_app.specs.ProgramFaults.{IsFaultOfAsked, fault_status};
 ghost use Rattle.register_app.specs.Reports.{lines_from};
 ghost use Rattle.register_arguments.specs.Faults.{name};
+ghost use Rattle.programs.specs.HelpPages.{page_text};
 ghost use Rattle.programs.specs.Pages.{IsPrinted};
 ghost use Rattle.programs.specs.FileLists.{most_files};
 ghost use Rattle.programs.specs.Meanings.{work};
@@ -19,10 +20,10 @@ use crate::naming::name_tables;
 use crate::program_faults::ProgramFault;
 use crate::reporting::report_ends;
 use programs::{
-    COMPLETE, FileStore, INCOMPLETE, NOT_BEGUN, Opened, Request, open_files, print_page,
+    COMPLETE, FileStore, INCOMPLETE, NOT_BEGUN, Opened, Page, Request, open_files, print_page,
     report_out_of_memory, report_refusal, version_line,
 };
-use register_arguments::{HELP, Job, MAX_FILES, NAME, RequestFault, VERSION, read_request};
+use register_arguments::{Job, MAX_FILES, NAME, RequestFault, VERSION, page_of_help, read_request};
 use register_records::Output;
 use register_run::{MAX_SOURCES, Ran, Report, Verdict, run};
 use std::alloc::Global;
@@ -80,11 +81,11 @@ fn refuse<W: Output, E: Output>(
 /// Prints a page.
 fn answer_page<W: Output, E: Output>(
     alloc: Global,
-    page: &str,
+    page: Page<'_>,
     output: W,
     errors: &mut E,
 ) -> Outcome<W>
-    ensures printed { IsPrinted W.Output E.Output name page.now result.status
+    ensures printed { IsPrinted W.Output E.Output name (page_text page.entry) result.status
         output result.output errors.old errors.new }
     ensures statuses { (result.status ≡ 0) ⊎ (result.status ≡ 1) }
     ensures none { result.outputs.items ≡ [] }
@@ -330,10 +331,10 @@ pub fn answer<
     ensures errors_mark { E.own_mark errors.new ≡ E.own_mark errors.old }
 {
     match read_request(alloc, arguments) {
-        Ok(Request::Help) => answer_page(alloc, HELP, output, errors),
+        Ok(Request::Help) => answer_page(alloc, page_of_help(), output, errors),
         Ok(Request::Version) => {
             let line = version_line(NAME, VERSION);
-            answer_page(alloc, line.as_str(), output, errors)
+            answer_page(alloc, Page::Text(line.as_str()), output, errors)
         }
         Ok(Request::Convert(job)) => {
             if job.files.is_empty() {

@@ -4,5 +4,6 @@
 mod breaking;
 mod fits;
 pub mod helpers;
+pub mod pages;
 mod streams;
 mod terminal;

@@ -6,9 +6,8 @@ use Rattle.programs.specs.Rules.{bare_command, files_rule, flag_rule, is_set, op
 -- the rules of the arguments: four options with a value each, two flags, and files
 abbrev pub argument_rules : List Rule
 argument_rules =
-    option_rule (codes "to") ∷ option_rule (codes "ring") ∷ option_rule (codes "stripes")
-    ∷ option_rule (codes "delimiter") ∷ flag_rule (codes "sealed") ∷ flag_rule (codes "summary")
-    ∷ files_rule (codes "file") ∷ []
+    option_rule (codes "to") ∷ option_rule (codes "delimiter") ∷ flag_rule (codes "sealed") ∷ flag_rule (codes "summary")
+    ∷ option_rule (codes "ring") ∷ option_rule (codes "stripes") ∷ files_rule (codes "file") ∷ []
 
 -- the command line: the command with all arguments
 abbrev pub command_line : App

@@ -3,4 +3,5 @@ pub mod OptionValues
 pub mod Fittings
 pub mod CommandLine
 pub mod Requests
+pub mod HelpPage
 pub mod private

@@ -1,8 +1,103 @@
-//! The page of help.
+//! The options, and the page of help.
+
+ghost use Rattle.std.specs.Prelude.{◌≡◌};
+ghost use Rattle.programs.specs.HelpPages.{page_text};
+ghost use Rattle.register_arguments.specs.HelpPage.{help_page};
+
+use programs::{Argument, Help, Kind, Page, Value};
+use register_records::{MAX_RING, MAX_STRIPES};
+
+/// What `--to` does.
+const TO: &str = "the columns, in the order wanted, separated by commas:
+                      calendars, haab, tzolkin; or the word none. Without
+                      it: all but republican, in the order above.";
+
+/// What `--delimiter` does.
+const DELIMITER: &str = "what stands between two fields, in text and table:
+                      comma, semicolon or tab. Without it: comma.";
+
+/// What `--sealed` does.
+const SEALED: &str = "break off where records were lost: the last line is
+                      END,N, or END;N with semicolons, for N records; write
+                      it after the export from a spreadsheet. The header is
+                      id,calendar,date,note, and the table has a column
+                      note. Without it: no note and no such line.";
+
+/// What `--summary` does.
+const SUMMARY: &str = "report on standard error, for each whole table, its
+                      rows and how many were refused by each number.";
+
+/// What `--ring` does.
+const RING: &str = "how many records may wait between two threads, 1 to
+                      4096. Without it: what fits the machine.";
+
+/// What `--stripes` does.
+const STRIPES: &str = "how many threads convert each register, 1 to 4.
+                      Without it: what fits the machine. Neither N changes a
+                      table.";
+
+/// The options, in the order of the page of help.
+pub const ARGUMENTS: [Argument<'static>; 6] = [
+    Argument {
+        name: "to",
+        kind: Kind::Valued(Value::Text("LIST")),
+        help: TO,
+    },
+    Argument {
+        name: "delimiter",
+        kind: Kind::Valued(Value::Words {
+            name: "WORD",
+            words: "comma|semicolon|tab",
+        }),
+        help: DELIMITER,
+    },
+    Argument {
+        name: "sealed",
+        kind: Kind::Flag,
+        help: SEALED,
+    },
+    Argument {
+        name: "summary",
+        kind: Kind::Flag,
+        help: SUMMARY,
+    },
+    Argument {
+        name: "ring",
+        kind: Kind::Valued(Value::Number {
+            name: "N",
+            least: 1,
+            most: MAX_RING,
+        }),
+        help: RING,
+    },
+    Argument {
+        name: "stripes",
+        kind: Kind::Valued(Value::Number {
+            name: "N",
+            least: 1,
+            most: MAX_STRIPES,
+        }),
+        help: STRIPES,
+    },
+];
+
+/// The page of help, by its parts.
+pub static HELP: Help<'static> = Help {
+    above: ABOVE,
+    arguments: &ARGUMENTS,
+    below: BELOW,
+};
 
 /// What `--help` prints: what goes in, what comes out, the calendars, the options, the refusals and how a
 /// run ends.
-pub const HELP: &str = "register converts the dates of historical registers.
+pub fn page_of_help() -> Page<'static>
+    ensures { page_text result ≡ help_page }
+{
+    Page::Help(&HELP)
+}
+
+/// What stands above the options.
+const ABOVE: &str = "register converts the dates of historical registers.
 
 Usage: register [OPTIONS] [FILE..]
 
@@ -49,26 +144,10 @@ the date was converted. Else it has the first reason why it was not:
 
 Options:
 
-    --to LIST         the columns, in the order wanted, separated by commas:
-                      calendars, haab, tzolkin; or the word none. Without
-                      it: all but republican, in the order above.
-    --delimiter WORD  what stands between two fields, in text and table:
-                      comma, semicolon or tab. Without it: comma.
-    --sealed          break off where records were lost: the last line is
-                      END,N, or END;N with semicolons, for N records; write
-                      it after the export from a spreadsheet. The header is
-                      id,calendar,date,note, and the table has a column
-                      note. Without it: no note and no such line.
-    --summary         report on standard error, for each whole table, its
-                      rows and how many were refused by each number.
-    --ring N          how many records may wait between two threads, 1 to
-                      4096. Without it: what fits the machine.
-    --stripes N       how many threads convert each register, 1 to 4.
-                      Without it: what fits the machine. Neither N changes a
-                      table.
-    -h, --help        print this page and read nothing.
-    -V, --version     print the version and read nothing.
+";
 
+/// What stands below them.
+const BELOW: &str = "
 Exit status:
 
     0  every register was converted to its end, refused records included

@@ -9,7 +9,7 @@ mod request_faults;
 mod requests;
 
 pub use fittings::{Fit, fitting};
-pub use help::HELP;
+pub use help::{ARGUMENTS, HELP, page_of_help};
 pub use jobs::Job;
 pub use option_values::{NO_TARGET, Ring, Stripes};
 pub use programs::MAX_FILES;

@@ -11,6 +11,7 @@ ghost use Rattle.register_arguments.specs.Requests.{AreTargetsOf, Ask, IsTargetF
 ghost use Rattle.register_arguments.specs.Requests.{register_line, task_of, value_checks};
 ghost use Rattle.register_arguments.specs.private.Requests.{values_by};
 
+use crate::help::ARGUMENTS;
 use crate::jobs::Job;
 use crate::option_values::{chosen_delimiter, chosen_ring, chosen_stripes, read_targets};
 use crate::request_faults::RequestFault;
@@ -18,8 +19,7 @@ use clap::{ArgMatches, Command};
 use date_texts::Target;
 use date_texts::laws::{default_targets, one_target};
 use programs::{
-    Argument, Request, check_files, command_with, is_given, read_arguments, value_given,
-    values_given,
+    Request, check_files, command_with, is_given, read_arguments, value_given, values_given,
 };
 use register_records::Form;
 use std::alloc::{AllocError, Global};
@@ -29,17 +29,6 @@ pub const NAME: &str = "register";
 
 /// The version of the program.
 pub const VERSION: &str = "1.2.0";
-
-/// The options and flags, and the files.
-const ARGUMENTS: [Argument<'static>; 7] = [
-    Argument::Valued("to", "LIST"),
-    Argument::Valued("ring", "N"),
-    Argument::Valued("stripes", "N"),
-    Argument::Valued("delimiter", "comma|semicolon|tab"),
-    Argument::Flag("sealed"),
-    Argument::Flag("summary"),
-    Argument::Files("file", "FILE"),
-];
 
 /// The values of the options and the files, as the arguments have them.
 #[derive(Drop)]

@@ -7,12 +7,14 @@ mod calendars;
 mod fits;
 mod named;
 mod options;
+mod pages;
 mod tables;
 
 use calendars::{calendar_facts, target_facts};
 use fits::fit_facts;
 use named::Named;
 use options::{option_facts, sheet_option_facts};
+use pages::pages_of_help;
 use programs::{COMPLETE, INCOMPLETE, NOT_BEGUN, REFUSED};
 use register_arguments::{MAX_FILES, VERSION};
 use register_records::{CALENDAR_LIMIT, DATE_LIMIT, ID_LIMIT, MAX_RECORDS, NOTE_LIMIT};
@@ -87,6 +89,7 @@ impl Serialize for Facts {
         write_part(out, "fits", fit_facts(alloc))?;
         write_part(out, "sheet_options", sheet_option_facts(alloc))?;
         write_part(out, "limits", known_limits(alloc))?;
+        write_part(out, "help", pages_of_help(alloc))?;
         out.end_map()
     }
 }

@@ -1,12 +1,10 @@
-//! The options of the command line: what clap has of them, and what the program takes.
+//! The options of the command line: what their table has of them, and what the program takes.
 
 use crate::calendars::names_of;
-use crate::tables::displayed;
 use clap::{Arg, Command};
 use date_texts::Target;
-use itoa::Buffer;
-use programs::Request;
-use register_arguments::{NO_TARGET, command, read_request};
+use programs::{Argument, Kind, Request, Value};
+use register_arguments::{ARGUMENTS, NO_TARGET, command, read_request};
 use register_records::Setup;
 use serde::Serialize;
 use std::alloc::{AllocError, Global};
@@ -25,8 +23,8 @@ pub struct OptionFacts {
     default: Option<String>,
 }
 
-/// More than any number that is taken.
-const MOST: usize = 1 << 17;
+/// The option that takes a list of columns.
+const LIST: &str = "to";
 
 /// What is asked of a run: its setup on a machine of one processor, and whether the ring and the stripes are written.
 #[derive(Clone, Copy)]
@@ -72,22 +70,37 @@ fn are_alike(one: &Asked, other: &Asked) -> bool {
 }
 
 impl OptionFacts {
-    /// An option of clap, written as `--ring <N>`, of whose values nothing is known yet.
+    /// An option of clap, of whose values nothing is known yet.
     fn new(alloc: Global, argument: &Arg<'_>) -> Result<OptionFacts, AllocError> {
-        let written = displayed(alloc, argument)?;
-        let value = match written.as_str().split_once(" <") {
-            Some((_, value)) => Some(String::from_str(alloc, value.trim_end_matches('>'))?),
-            None => None,
-        };
         Ok(OptionFacts {
             name: String::from_str(alloc, argument.get_long().unwrap_or(""))?,
             letter: argument.get_short(),
-            value,
+            value: None,
             words: Vec::new(alloc),
             least: None,
             most: None,
             default: None,
         })
+    }
+
+    /// Takes what the table has of its value: of words those that stand for themselves.
+    fn take_value(&mut self, alloc: Global, value: Value<'_>) -> Result<(), AllocError> {
+        self.value = Some(String::from_str(alloc, value.usage())?);
+        match value {
+            Value::Text(_) => (),
+            Value::Number { least, most, .. } => {
+                self.least = Some(least);
+                self.most = Some(most);
+            }
+            Value::Words { words, .. } => {
+                for word in words.split('|') {
+                    if !word.bytes().all(|byte| byte.is_ascii_uppercase()) {
+                        self.words.push(String::from_str(alloc, word)?)?;
+                    }
+                }
+            }
+        }
+        Ok(())
     }
 
     /// Asks for this value. Returns whether it is taken.
@@ -111,67 +124,41 @@ impl OptionFacts {
         Ok(true)
     }
 
-    /// Asks for this word.
-    fn try_word(&mut self, alloc: Global, without: &Asked, word: &str) -> Result<(), AllocError> {
-        if self.try_value(alloc, without, word)? {
-            self.words.push(String::from_str(alloc, word)?)?;
-        }
-        Ok(())
-    }
-
-    /// Asks for this number. Returns whether it is taken.
-    fn try_number(
-        &mut self,
-        alloc: Global,
-        without: &Asked,
-        number: usize,
-    ) -> Result<bool, AllocError> {
-        let mut buffer = Buffer::new();
-        self.try_value(alloc, without, buffer.format(number))
-    }
-
-    /// Asks for numbers: for the greatest by halving, where 1 is taken.
-    fn try_numbers(&mut self, alloc: Global, without: &Asked) -> Result<(), AllocError> {
-        if !self.try_number(alloc, without, 1)? {
-            return Ok(());
-        }
-        let (mut taken, mut other) = (1usize, MOST);
-        for _ in 0..MOST.ilog2() {
-            let middle = taken.midpoint(other);
-            if self.try_number(alloc, without, middle)? {
-                taken = middle;
-            } else {
-                other = middle;
-            }
-        }
-        let takes_zero = self.try_number(alloc, without, 0)?;
-        self.least = Some(usize::from(!takes_zero));
-        self.most = Some(taken);
-        Ok(())
-    }
-
-    /// Finds out which values it takes: a list of names, those names, the words between the bars of what stands for its
-    /// value, and numbers.
-    fn try_values(&mut self, alloc: Global, without: &Asked) -> Result<(), AllocError> {
-        let Some(value) = &self.value else {
-            return Ok(());
-        };
-        let named = value.clone()?;
+    /// Asks for the names that stand in a list of columns, of which each that is taken is one of its words, and for a
+    /// list.
+    fn try_names(&mut self, alloc: Global, without: &Asked) -> Result<(), AllocError> {
         let list = names_of(alloc, without.setup.targets())?.join(alloc, ",")?;
         self.try_value(alloc, without, list.as_str())?;
-        for target in Target::ALL {
-            self.try_word(alloc, without, target.name())?;
+        for name in names_of(alloc, &Target::ALL)? {
+            if self.try_value(alloc, without, name)? {
+                self.words.push(String::from_str(alloc, name)?)?;
+            }
         }
-        self.try_word(alloc, without, NO_TARGET)?;
-        for word in named.as_str().split('|') {
-            self.try_word(alloc, without, word)?;
+        if self.try_value(alloc, without, NO_TARGET)? {
+            self.words.push(String::from_str(alloc, NO_TARGET)?)?;
         }
-        self.try_numbers(alloc, without)
+        Ok(())
+    }
+
+    /// Asks for each of its words.
+    fn try_words(&mut self, alloc: Global, without: &Asked) -> Result<(), AllocError> {
+        let mut taken = Vec::new(alloc);
+        for word in &self.words {
+            taken.push(word.clone()?)?;
+        }
+        for word in &taken {
+            self.try_value(alloc, without, word.as_str())?;
+        }
+        Ok(())
     }
 }
 
-/// The options of a command, in the order in which clap has them, of whose values nothing is known yet.
-fn options_of(alloc: Global, mut command: Command<'_>) -> io::Result<Vec<OptionFacts>> {
+/// The options of a command, in the order in which clap has them, with what their table has of each.
+fn options_of(
+    alloc: Global,
+    mut command: Command<'_>,
+    arguments: &[Argument<'_>],
+) -> io::Result<Vec<OptionFacts>> {
     // This adds those for help and version.
     command.render_help()?;
     let mut all = Vec::new(alloc);
@@ -180,20 +167,34 @@ fn options_of(alloc: Global, mut command: Command<'_>) -> io::Result<Vec<OptionF
             all.push(OptionFacts::new(alloc, argument)?)?;
         }
     }
-    Ok(all)
-}
-
-/// What is known of each option.
-pub fn option_facts(alloc: Global) -> io::Result<Vec<OptionFacts>> {
-    let without = asked_for(alloc, &[])?;
-    let mut all = options_of(alloc, command(alloc)?)?;
-    for option in &mut all {
-        option.try_values(alloc, &without)?;
+    for (option, argument) in all.iter_mut().zip(arguments) {
+        match argument.kind {
+            Kind::Valued(value) | Kind::Repeated(value) => option.take_value(alloc, value)?,
+            Kind::Flag => (),
+        }
     }
     Ok(all)
 }
 
-/// The options of `register-sheet`, with what stands for their values.
+/// What is known of each option, with the values that ask for the same as none.
+pub fn option_facts(alloc: Global) -> io::Result<Vec<OptionFacts>> {
+    let without = asked_for(alloc, &[])?;
+    let mut all = options_of(alloc, command(alloc)?, &ARGUMENTS)?;
+    for option in &mut all {
+        if option.name.as_str() == LIST {
+            option.try_names(alloc, &without)?;
+        } else {
+            option.try_words(alloc, &without)?;
+        }
+    }
+    Ok(all)
+}
+
+/// The options of `register-sheet`.
 pub fn sheet_option_facts(alloc: Global) -> io::Result<Vec<OptionFacts>> {
-    options_of(alloc, sheet_arguments::command(alloc)?)
+    options_of(
+        alloc,
+        sheet_arguments::command(alloc)?,
+        &sheet_arguments::ARGUMENTS,
+    )
 }

@@ -12,7 +12,7 @@ use programs::{
     open_nothing, unread_arguments,
 };
 use register_records::PlainOutput;
-use sheet_app::{Outcome, answer};
+use sheet_app::{Outcome, Streams, answer};
 use sheet_arguments::NAME;
 use std::alloc::AllocError;
 use std::process::ExitCode;
@@ -37,8 +37,10 @@ fn main(rt: HostRuntime) -> ExitCode {
     let Ok(names) = whole_list(&rt) else {
         return end_without_memory(&rt, NAME);
     };
-    let input = Source::Input(rt.stdin());
-    let output = PlainOutput::new(LoggedWriter::new(Destination::Output(rt.stdout())), 1);
+    let streams = Streams {
+        input: Source::Input(rt.stdin()),
+        output: PlainOutput::new(LoggedWriter::new(Destination::Output(rt.stdout())), 1),
+    };
     let mut errors = PlainOutput::new(LoggedWriter::new(lines_to(rt.stderr(), NAME)), 0);
     let Outcome {
         status,
@@ -48,8 +50,7 @@ fn main(rt: HostRuntime) -> ExitCode {
         rt.alloc(),
         names.as_slice(),
         arguments.as_slice(),
-        input,
-        output,
+        streams,
         &Disk::new(&rt),
         &mut errors,
     );

@@ -1,8 +1,8 @@
 -- What words say of the calendar of dates.
 use Rattle.std.proofs.Common.{◌≡◌, ◌∙◌, ◌∷◌, [], List, Option, None, Some, IfSome, ap, map, refl, subst, sym, ℕ, IfNone}
 use Rattle.sheet_app.proofs.Common.{Text, NameLine, bare_name}
-use Rattle.register_sheets.specs.NameLists.{calendar_names_in, calendar_seen}
-use Rattle.register_sheets.specs.NameMeanings.{SaysCalendar}
+use Rattle.sheets.specs.NameLists.{calendar_names_in, calendar_seen}
+use Rattle.sheets.specs.NameMeanings.{SaysCalendar}
 use Rattle.written_dates.specs.Fields.{calendar_meant, without_blanks}
 use Rattle.written_dates.specs.declared.fields.CalendarMeaning.{CalendarMeaning}
 use Rattle.written_dates.specs.declared.fields.CalendarName.{CalendarName}

@@ -3,40 +3,40 @@ use Rattle.std.proofs.Common.{◌≡◌, ℕ, List, [], Option, false, inl, inr,
 use Rattle.sheet_app.proofs.Common.{NameLine, Task, bare_name, SheetDone}
 use Rattle.register_records.specs.Sources.{Gains}
 use Rattle.register_records.specs.declared.outputs.Output as outputs
-use Rattle.register_sheets.specs.AskedOfSheets.{IsChoiceBy, IsListedChoice, SheetAsked}
-use Rattle.register_sheets.specs.declared.asked_of_sheets.AskedByNames.{AskedByNames}
-use Rattle.register_sheets.specs.declared.choices.SheetChoice.{SheetChoice}
-use Rattle.register_sheets.specs.Produced.{Produced}
-use Rattle.register_sheets.specs.SheetOutputs.{IsMadeSheet, sheet_ending}
-use Rattle.register_sheets.specs.declared.sheet_ends.SheetCause.{SheetCause}
-use Rattle.register_sheets.specs.declared.sheet_ends.SheetCause.TheVariants as cause
-use Rattle.register_sheets.specs.declared.sheet_ends.SheetEnd.TheVariants as end
+use Rattle.sheets.specs.Converted.{records_by}
+use Rattle.sheets.specs.AskedOfSheets.{IsChoiceBy, IsListedChoice, SheetAsked}
+use Rattle.sheets.specs.declared.asked_of_sheets.AskedByNames.{AskedByNames}
+use Rattle.sheets.specs.declared.choices.SheetChoice.{SheetChoice}
+use Rattle.sheets.specs.Produced.{Produced}
+use Rattle.sheets.specs.SheetOutputs.{IsMadeSheet, sheet_ending}
+use Rattle.sheets.specs.declared.sheet_ends.SheetCause.{SheetCause}
+use Rattle.sheets.specs.declared.sheet_ends.SheetCause.TheVariants as cause
+use Rattle.sheets.specs.declared.sheet_ends.SheetEnd.TheVariants as end
 use Rattle.sheet_app.specs.SheetFaults.{fault_by}
-use Rattle.sheet_app.specs.private.SheetViews.{AsksFor, IsBrokenBehind, IsDoneBy, IsEndedBy, IsTask, MakesChoices}
+use Rattle.sheet_app.specs.private.SheetViews.{AsksFor, IsBrokenBehind, IsDoneBy, IsEndedBy, IsTask}
 use Rattle.sheet_app.specs.Sheets.{HasMark, IsAskedOf, IsBroken, IsBrokenBy, IsChoiceFor, IsEnded, IsMarked, IsSheetBy}
-use Rattle.sheet_app.specs.Sheets.{names_of, records_by}
+use Rattle.sheet_app.specs.Sheets.{names_of}
 use Rattle.sheet_app.specs.declared.sheet_faults.SheetFault.TheVariants as fault
 use Rattle.sheet_app.specs.declared.sheet_faults.SheetFault.{SheetFault}
-use Rattle.sheet_app.specs.declared.sheets.SheetDone.TheVariants as done
-use Rattle.sheet_app.specs.declared.sheets.WholeSheet.{WholeSheet}
+use Rattle.sheet_app.specs.declared.conversions.SheetDone.TheVariants as done
+use Rattle.sheet_app.specs.declared.conversions.WholeSheet.{WholeSheet}
 use Rattle.sheet_app.proofs.MarkLemmas.{behind_mark, nothing}
 use Rattle.sheet_app.proofs.TaskLemmas.{is_choice}
 
 -- what is known was made of what a task asks
 pub asks_for : (task : Task) (lines : List NameLine) (sheet : List ℕ) (known : AskedByNames) (asked : SheetAsked)
-    → IsAskedOf task lines (names_of task sheet) asked
+    → IsTask task → IsAskedOf task lines (names_of task sheet) asked
     → ((choice : SheetChoice) → IsChoiceBy known choice → IsListedChoice asked lines sheet choice)
     → AsksFor task lines sheet known
-asks_for task lines sheet known asked is listed = λ choice by good.
-    record { asked = asked; is_asked = is; listed = listed choice by; is_choice = good }
-
-pub makes_choices : (task : Task) (lines : List NameLine) (sheet : List ℕ) (known : AskedByNames) (asked : SheetAsked)
-    → IsTask task → IsAskedOf task lines (names_of task sheet) asked
-    → ((choice : SheetChoice) → IsChoiceBy known choice → IsListedChoice asked lines sheet choice) → MakesChoices known
-makes_choices task lines sheet known asked task_is is listed = λ choice by.
+asks_for task lines sheet known asked task_is is listed = λ choice by.
     let list = listed choice by in
-    is_choice task lines (names_of task sheet) list.headings asked sheet list.in_dates (map bare_name list.of_calendars)
-    choice task_is is list.headed list.chosen
+    record {
+      asked = asked;
+      is_asked = is;
+      listed = list;
+      is_choice = is_choice task lines (names_of task sheet) list.headings asked sheet list.in_dates
+          (map bare_name list.of_calendars) choice task_is is list.headed list.chosen;
+    }
 
 -- a fault that was handed on
 pub ended_fault : {W : Type 0} (o : outputs.Ghosts W) (task : Task) (lines : List NameLine) (most : ℕ) (sheet : List ℕ)

@@ -1,6 +1,6 @@
 -- Items that are moved from the front of one list to the end of another.
-use Rattle.std.proofs.Common.{◌≡◌, ◌++◌, ◌∷◌, [], List, All, append_assoc, arith, length, map, subst, sym, ◌≢◌, ◌∙◌}
-use Rattle.std.proofs.Common.{◌⊎◌, ℕ, ap, ap₂, inl, inr, refl, ◌<◌, ◌+◌, Bool, get_or, take, true, ◌==◌}
+use Rattle.std.proofs.Common.{◌≡◌, ◌++◌, ◌∷◌, [], List, All, append_assoc, arith, length, map, subst, sym, ◌∙◌}
+use Rattle.std.proofs.Common.{ℕ, ap, ap₂, refl, ◌<◌, ◌+◌, Bool, get_or, take, true, ◌==◌}
 use Rattle.sheet_app.proofs.Common.{Bor, AllZip, Text, NameLine, Task, IsNewSheet, ending_of, names_ending, sheet_name}
 use Rattle.std.specs.declared.io.traits.Read as reads
 use Rattle.std.proofs.lemmas.List.{get_or-map, length-map, map-append, take_more}
@@ -30,10 +30,6 @@ first_of_left P left rest x l each = All-head P x rest (subst (All P) l each)
 
 pub others_left : {X : Type 0} (P : X → Type 0) (left rest : List X) (x : X) → left ≡ x ∷ rest → All P left → All P rest
 others_left P left rest x l each = All-tail P x rest (subst (All P) l each)
-
-pub none_or_some : {X : Type 0} (xs : List X) → (xs ≡ []) ⊎ (xs ≢ [])
-none_or_some [] = inl refl
-none_or_some (x ∷ xs) = inr (λ e. cc)
 
 -- with one item more, and its end
 pub zip_pushed : {X Y : Type 0} (R : X → Y → Type 0) (xs : List X) (ys : List Y) (x : X) (y : Y) → AllZip R xs ys → R x y

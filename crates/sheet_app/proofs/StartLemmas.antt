@@ -47,6 +47,12 @@ module _ {R : Type 0} (r : reads.Ghosts R) (IsOpened : Text → R → Type 0) (t
   of_words lines (program_fault.UnreadList file) named is = absurd is
   of_words lines (program_fault.NoList file fault) named is = absurd is
 
+  three : {A : Type 0} (status : ℕ) → (status ≡ 3) ⊎ (status ≡ 3)
+      → (2 ≤ status) × (status ≤ 3) × (status ≡ 2 → A)
+  three status either =
+      let is : status ≡ 3 = grind (arith, either) in
+      (omega (arith, is), omega (arith, is), λ two. absurd (omega (arith, is, two)))
+
   -- a task that is not begun gives status 3, or 2 for such a word
   pub gives_three : (why : ProgramFault) (status : ℕ) → IsFaultOfStart r IsOpened task built why
       → (status ≡ 3) ⊎ (status ≡ fault_status why)
@@ -54,18 +60,10 @@ module _ {R : Type 0} (r : reads.Ghosts R) (IsOpened : Text → R → Type 0) (t
   gives_three (program_fault.UnknownCalendar word) status is either =
       (grind (arith, either), grind (arith, either), λ two. (word.now, is))
   gives_three (program_fault.Arguments error) status is either = absurd is
-  gives_three (program_fault.Files fault) status is either =
-      let three : status ≡ 3 = grind (arith, either) in
-      (omega (arith, three), omega (arith, three), λ two. absurd (omega (arith, three, two)))
-  gives_three (program_fault.UnreadList file) status is either =
-      let three : status ≡ 3 = grind (arith, either) in
-      (omega (arith, three), omega (arith, three), λ two. absurd (omega (arith, three, two)))
-  gives_three (program_fault.NoList file fault) status is either =
-      let three : status ≡ 3 = grind (arith, either) in
-      (omega (arith, three), omega (arith, three), λ two. absurd (omega (arith, three, two)))
-  gives_three program_fault.OutOfMemory status is either =
-      let three : status ≡ 3 = grind (arith, either) in
-      (omega (arith, three), omega (arith, three), λ two. absurd (omega (arith, three, two)))
+  gives_three (program_fault.Files fault) status is either = three status either
+  gives_three (program_fault.UnreadList file) status is either = three status either
+  gives_three (program_fault.NoList file fault) status is either = three status either
+  gives_three program_fault.OutOfMemory status is either = three status either
 
   -- and it is the one that arguments ask for
   pub of_asked : (arguments : List Text) (why : ProgramFault) → MeanJust arguments (work task)

@@ -20,16 +20,16 @@ use Rattle.date_texts.specs.declared.target.Target.{Target}
 use Rattle.date_texts.specs.declared.target.Target.TheVariants as target
 use Rattle.register_records.specs.Entries.{Fields, text_records}
 use Rattle.register_records.specs.SetupRules.{NamesTwice, is_delimiter}
-use Rattle.register_sheets.specs.AskedOfSheets.{HasHeadings, IsChoice, IsChoiceOf, SheetAsked}
-use Rattle.register_sheets.specs.Choices.{AsksOnce, asked_targets, asks_twice, column_limit, date_limit, added_each}
-use Rattle.register_sheets.specs.Choices.{is_church, is_day_number, is_weekday}
-use Rattle.register_sheets.specs.Headings.{AreHeadings, asked_behind, asked_name, asked_names, column_names, mark_names}
-use Rattle.register_sheets.specs.Headings.{wanted_for, wanted_heading}
-use Rattle.register_sheets.specs.declared.choices.AskedColumn.{AskedColumn}
-use Rattle.register_sheets.specs.declared.choices.AskedColumn.TheVariants.{Cells, Church, DayNumber, Weekday}
-use Rattle.register_sheets.specs.declared.choices.SheetChoice.{SheetChoice}
-use Rattle.register_sheets.specs.declared.choices.Spans.{Spans}
-use Rattle.register_sheets.specs.declared.choices.Spans.TheVariants as spans
+use Rattle.sheets.specs.AskedOfSheets.{HasHeadings, IsChoice, IsChoiceOf, SheetAsked}
+use Rattle.sheets.specs.Choices.{AsksOnce, asked_targets, asks_twice, column_limit, date_limit, added_each}
+use Rattle.sheets.specs.Choices.{is_church, is_day_number, is_weekday}
+use Rattle.sheets.specs.Headings.{AreHeadings, asked_behind, asked_name, asked_names, column_names, mark_names}
+use Rattle.sheets.specs.Headings.{wanted_for, wanted_heading}
+use Rattle.sheets.specs.declared.choices.AskedColumn.{AskedColumn}
+use Rattle.sheets.specs.declared.choices.AskedColumn.TheVariants.{Cells, Church, DayNumber, Weekday}
+use Rattle.sheets.specs.declared.choices.SheetChoice.{SheetChoice}
+use Rattle.sheets.specs.declared.choices.Spans.{Spans}
+use Rattle.sheets.specs.declared.choices.Spans.TheVariants as spans
 use Rattle.sheet_arguments.specs.CommandLine.{Values}
 use Rattle.sheet_arguments.specs.Faults.{Fault, column_twice, unknown_column}
 use Rattle.sheet_arguments.specs.Requests.{Ask}
@@ -154,51 +154,43 @@ none_counted : (p : AskedColumn → Bool) (column : AskedColumn) (columns : List
     → count_by p columns ≤ 1 → count_by p (column ∷ columns) ≤ 1
 none_counted p column columns isnt rest = grind (arith, isnt, rest)
 
-at_most_one : (p : AskedColumn → Bool) (columns : List AskedColumn)
-    → ((one other : AskedColumn) → p one ≡ true → p other ≡ true → alike one other ≡ true)
+at_most_one : (p : AskedColumn → Bool) (only : AskedColumn) (columns : List AskedColumn)
+    → ((column : AskedColumn) → p column ≡ true → column ≡ only)
     → IsDistinct alike columns → count_by p columns ≤ 1
 unfolding IsDistinct
-at_most_one p [] both so = omega arith
-at_most_one p (column ∷ columns) both so =
-    let rest = at_most_one p columns both so.1 in
+at_most_one p only [] is_only so = omega arith
+at_most_one p only (column ∷ columns) is_only so =
+    let rest = at_most_one p only columns is_only so.1 in
     elim (told (p column)) [
       | inl holds ↦
-          one_counted p column columns holds (no_other p column columns (λ other is. both column other holds is) so.0)
+          one_counted p column columns holds (no_other p column columns
+          (λ other is. rw (is_only column holds, is_only other is) (alike_equiv.refl only)) so.0)
       | inr isnt ↦ none_counted p column columns isnt rest
     ]
 
-both_days : (one other : AskedColumn) → is_day_number one ≡ true → is_day_number other ≡ true → alike one other ≡ true
-both_days DayNumber DayNumber a b = refl
-both_days DayNumber Weekday a b = absurd (cc)
-both_days DayNumber Church a b = absurd (cc)
-both_days DayNumber (Cells target) a b = absurd (cc)
-both_days Weekday other a b = absurd (cc)
-both_days Church other a b = absurd (cc)
-both_days (Cells target) other a b = absurd (cc)
+only_day : (column : AskedColumn) → is_day_number column ≡ true → column ≡ DayNumber
+only_day DayNumber is = refl
+only_day Weekday is = absurd (cc)
+only_day Church is = absurd (cc)
+only_day (Cells target) is = absurd (cc)
 
-both_weekdays : (one other : AskedColumn) → is_weekday one ≡ true → is_weekday other ≡ true → alike one other ≡ true
-both_weekdays Weekday Weekday a b = refl
-both_weekdays Weekday DayNumber a b = absurd (cc)
-both_weekdays Weekday Church a b = absurd (cc)
-both_weekdays Weekday (Cells target) a b = absurd (cc)
-both_weekdays DayNumber other a b = absurd (cc)
-both_weekdays Church other a b = absurd (cc)
-both_weekdays (Cells target) other a b = absurd (cc)
+only_weekday : (column : AskedColumn) → is_weekday column ≡ true → column ≡ Weekday
+only_weekday Weekday is = refl
+only_weekday DayNumber is = absurd (cc)
+only_weekday Church is = absurd (cc)
+only_weekday (Cells target) is = absurd (cc)
 
-both_churches : (one other : AskedColumn) → is_church one ≡ true → is_church other ≡ true → alike one other ≡ true
-both_churches Church Church a b = refl
-both_churches Church DayNumber a b = absurd (cc)
-both_churches Church Weekday a b = absurd (cc)
-both_churches Church (Cells target) a b = absurd (cc)
-both_churches DayNumber other a b = absurd (cc)
-both_churches Weekday other a b = absurd (cc)
-both_churches (Cells target) other a b = absurd (cc)
+only_church : (column : AskedColumn) → is_church column ≡ true → column ≡ Church
+only_church Church is = refl
+only_church DayNumber is = absurd (cc)
+only_church Weekday is = absurd (cc)
+only_church (Cells target) is = absurd (cc)
 
 asked_once : (all : List AskedColumn) → IsDistinct alike all → asks_twice all ≡ false
 asked_once all so =
-    let days = at_most_one is_day_number all both_days so in
-    let weekdays = at_most_one is_weekday all both_weekdays so in
-    let churches = at_most_one is_church all both_churches so in grind (arith, days, weekdays, churches)
+    let days = at_most_one is_day_number DayNumber all only_day so in
+    let weekdays = at_most_one is_weekday Weekday all only_weekday so in
+    let churches = at_most_one is_church Church all only_church so in grind (arith, days, weekdays, churches)
 
 -- targets stand apart as their columns do
 other_targets : (one : Target) (columns : List AskedColumn)
@@ -228,16 +220,10 @@ none_twice targets so (i, j, before, within, same) =
     let alike_too = nat_list_eq_equiv.refl (target_name (get_or targets j d)) in
     let other : target_alike (get_or targets j d) (get_or targets j d) ≡ false = rw here at apart in cc
 
--- the columns that arguments ask for are asked once
-pub once : (list : Option Text) (all : List AskedColumn) (choice : SheetChoice) → columns_asked list ≡ Ok all
-    → choice.columns.now ≡ all → AsksOnce choice
-once list all choice is same =
-    let so = asked_distinct list all is in
-    record {
-      few = rw same (few all so);
-      day = rw same (asked_once all so);
-      targets = rw same (none_twice (asked_targets all) (targets_distinct all so));
-    }
+-- the columns of a task are asked once
+once : (task : Task) (choice : SheetChoice) → IsTask task → choice.columns.now ≡ task.columns → AsksOnce choice
+once task choice is same =
+    record { few = rw same is.few_columns; day = rw same is.once; targets = rw same is.targets }
 
 -- there are as many headings as are wanted
 headings_long : (taken wanted headings : Fields) → AreHeadings taken wanted headings → length headings ≡ length wanted
@@ -293,7 +279,7 @@ is_choice task lines names headings asked sheet in_dates of_calendars choice tas
     let few : nat_lt date_limit (length task.dates) ≡ false = task_is.few_dates in
     record {
       dated = record { some = grind (arith, dates, some); few = rw dates few };
-      once = once task_is.list task.columns choice task_is.columns (of.columns ∙ is.columns);
+      once = once task choice task_is (of.columns ∙ is.columns);
       delimited = rw (of.delimiter ∙ is.delimiter) task_is.delimited;
       headed = made ∙ long ∙ wanted
           ∙ ap₂ (λ (m n : ℕ). m * added_each asked.spans n) (sym (ap length of.dates)) (sym (ap length of.columns))
@@ -307,10 +293,13 @@ delimiter_is (Some word) byte (inr (inl semicolon)) = rw semicolon.1 refl
 delimiter_is (Some word) byte (inr (inr tab)) = rw tab.1 refl
 
 pub is_task : (values : Values) (task : Task) → Ask values task → IsTask task
-is_task values task ask = record {
-  some_dates = rw ask.dates ask.some_dates;
-  few_dates = rw ask.dates ask.few_dates;
-  delimited = delimiter_is values.delimiter task.delimiter ask.delimiter;
-  list = values.to;
-  columns = ask.columns;
-}
+is_task values task ask =
+    let distinct = asked_distinct values.to task.columns ask.columns in
+    record {
+      some_dates = rw ask.dates ask.some_dates;
+      few_dates = rw ask.dates ask.few_dates;
+      delimited = delimiter_is values.delimiter task.delimiter ask.delimiter;
+      few_columns = few task.columns distinct;
+      once = asked_once task.columns distinct;
+      targets = none_twice (asked_targets task.columns) (targets_distinct task.columns distinct);
+    }

@@ -8,9 +8,9 @@ use Rattle.programs.specs.Pages.{IsPrinted}
 use Rattle.programs.specs.Refusals as refusals
 use Rattle.sheet_arguments.specs.Faults.{name}
 use Rattle.register_records.specs.declared.outputs.Output as outputs
-use Rattle.register_sheets.specs.declared.name_lists.NameLine.{NameLine}
+use Rattle.sheets.specs.declared.name_lists.NameLine.{NameLine}
+use Rattle.sheet_arguments.specs.HelpPage.{help_page}
 use Rattle.sheet_arguments.specs.Requests.{MeanJust, Task}
-use Rattle.sheet_arguments.specs.declared.help.TheConstants.{HELP}
 use Rattle.sheet_arguments.specs.declared.requests.TheConstants.{VERSION}
 use Rattle.sheet_app.specs.CalendarWords.{SaysNothing, calendar_words}
 use Rattle.sheet_app.specs.FileSheets.{AreApartOutputs}
@@ -27,7 +27,7 @@ version_line = lines.version_line name VERSION.now
 -- the arguments ask for this page
 abbrev pub AskForPage : List Text → List ℕ → Type 0
 AskForPage arguments page =
-    (MeanJust arguments help × (page ≡ HELP.now)) ⊎ (MeanJust arguments version × (page ≡ version_line))
+    (MeanJust arguments help × (page ≡ help_page)) ⊎ (MeanJust arguments version × (page ≡ version_line))
 
 -- standard error has gained the line on why nothing is done, with this status: what it names is of the arguments; of
 -- arguments that are not taken, clap says more than the definitions

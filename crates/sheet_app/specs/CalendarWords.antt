@@ -1,9 +1,9 @@
 -- The words of a command line that say the calendar of dates.
 use Rattle.std.specs.Prelude.{◌≡◌, List, Option, None, Some, map, option_to_list}
 use Rattle.clap.specs.Words.{Text}
-use Rattle.register_sheets.specs.NameLists.{calendar_names_in}
-use Rattle.register_sheets.specs.NameMeanings.{SaysCalendar}
-use Rattle.register_sheets.specs.declared.name_lists.NameLine.{NameLine}
+use Rattle.sheets.specs.NameLists.{calendar_names_in}
+use Rattle.sheets.specs.NameMeanings.{SaysCalendar}
+use Rattle.sheets.specs.declared.name_lists.NameLine.{NameLine}
 use Rattle.sheet_arguments.specs.Requests.{CalendarsWanted, all_have, in_columns}
 use Rattle.written_dates.specs.Fields.{calendar_meant, without_blanks}
 use Rattle.written_dates.specs.declared.fields.CalendarMeaning.{CalendarMeaning}

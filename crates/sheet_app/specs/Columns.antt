@@ -4,13 +4,13 @@ use Rattle.std.specs.Prelude.{◌==◌, ◌&&◌, Bool, false, is_some, slice_ge
 use Rattle.clap.specs.Words.{Text}
 use Rattle.programs.specs.Values.{IsNumberWord}
 use Rattle.register_records.specs.Entries.{Fields}
-use Rattle.register_sheets.specs.declared.choices.CalendarColumn.{CalendarColumn}
-use Rattle.register_sheets.specs.declared.choices.CalendarField.{CalendarField}
-use Rattle.register_sheets.specs.declared.choices.CalendarField.TheVariants as calendar
-use Rattle.register_sheets.specs.declared.choices.DateColumn.{DateColumn}
-use Rattle.register_sheets.specs.declared.choices.IdField.{IdField}
-use Rattle.register_sheets.specs.declared.choices.IdField.TheVariants as id
-use Rattle.register_sheets.specs.declared.name_lists.NameLine.{NameLine}
+use Rattle.sheets.specs.declared.choices.CalendarColumn.{CalendarColumn}
+use Rattle.sheets.specs.declared.choices.CalendarField.{CalendarField}
+use Rattle.sheets.specs.declared.choices.CalendarField.TheVariants as calendar
+use Rattle.sheets.specs.declared.choices.DateColumn.{DateColumn}
+use Rattle.sheets.specs.declared.choices.IdField.{IdField}
+use Rattle.sheets.specs.declared.choices.IdField.TheVariants as id
+use Rattle.sheets.specs.declared.name_lists.NameLine.{NameLine}
 use Rattle.sheet_arguments.specs.Requests.{CalendarsWanted, Task, all_have, in_columns}
 use Rattle.written_dates.specs.Fields.{without_blanks}
 use Rattle.written_dates.specs.declared.fields.CalendarMeaning.{CalendarMeaning}

@@ -5,7 +5,7 @@ use Rattle.std.specs.List.{AllZip, flat_map}
 use Rattle.std.specs.declared.io.traits.Read as reads
 use Rattle.clap.specs.Words.{Text}
 use Rattle.register_records.specs.declared.outputs.Output as outputs
-use Rattle.register_sheets.specs.declared.name_lists.NameLine.{NameLine}
+use Rattle.sheets.specs.declared.name_lists.NameLine.{NameLine}
 use Rattle.sheet_arguments.specs.Requests.{Task}
 use Rattle.sheet_app.specs.FileSheets.{IsMadeFor, ending_of, names_ending, register_endings}
 use Rattle.sheet_app.specs.Lines.{lines_on, names_line}
@@ -13,8 +13,8 @@ use Rattle.sheet_app.specs.JoinedTexts.{IsTextEnded}
 use Rattle.sheet_app.specs.declared.converting.EndedSheet.{EndedSheet}
 use Rattle.sheet_app.specs.declared.sheet_faults.SheetFault.{SheetFault}
 use Rattle.sheet_app.specs.declared.sheet_faults.SheetFault.TheVariants as fault
-use Rattle.sheet_app.specs.declared.sheets.SheetDone.{SheetDone}
-use Rattle.sheet_app.specs.declared.sheets.SheetDone.TheVariants as done
+use Rattle.sheet_app.specs.declared.conversions.SheetDone.{SheetDone}
+use Rattle.sheet_app.specs.declared.conversions.SheetDone.TheVariants as done
 
 -- the source gives this text, as far as its bytes are known
 abbrev pub Gives : {R : Type 0} → reads.Ghosts R → R → List ℕ → Type 0

@@ -7,8 +7,8 @@ use Rattle.clap.specs.Words.{Text}
 use Rattle.programs.specs.Openings.{IsNewlyMade}
 use Rattle.programs.specs.OutputNames.{AreTwoOutputs, IsApartFrom}
 use Rattle.register_records.specs.declared.outputs.Output as outputs
-use Rattle.register_sheets.specs.declared.choices.Spans.{Spans}
-use Rattle.register_sheets.specs.declared.choices.Spans.TheVariants as spans
+use Rattle.sheets.specs.declared.choices.Spans.{Spans}
+use Rattle.sheets.specs.declared.choices.Spans.TheVariants as spans
 use Rattle.sheet_arguments.specs.Requests.{Task}
 
 -- what the name of a sheet's output ends with

@@ -6,7 +6,7 @@ use Rattle.date_parts.specs.JoinedDates.{joined_text}
 use Rattle.date_parts.specs.declared.places.DatePlaces.{DatePlaces}
 use Rattle.register_records.specs.Entries.{Fields, text_records}
 use Rattle.register_records.specs.declared.outputs.Output as outputs
-use Rattle.register_sheets.specs.declared.name_lists.NameLine.{NameLine}
+use Rattle.sheets.specs.declared.name_lists.NameLine.{NameLine}
 use Rattle.sheet_arguments.specs.Requests.{Task}
 use Rattle.sheet_arguments.specs.ThreeColumns.{ThreeWords}
 use Rattle.sheet_app.specs.Columns.{IsColumn, NamesNone}
@@ -14,9 +14,9 @@ use Rattle.sheet_app.specs.Sheets.{HasMark, IsEnded, names_of}
 use Rattle.sheet_app.specs.TreeTexts.{IsFaultBy, fault_of_text, sheet_of}
 use Rattle.sheet_app.specs.declared.sheet_faults.SheetFault.{SheetFault}
 use Rattle.sheet_app.specs.declared.sheet_faults.SheetFault.TheVariants as fault
-use Rattle.sheet_app.specs.declared.sheets.SheetDone.{SheetDone}
-use Rattle.sheet_app.specs.declared.sheets.SheetDone.TheVariants as done
-use Rattle.sheet_app.specs.declared.sheets.TheConstants.{MOST_UNKNOWN}
+use Rattle.sheet_app.specs.declared.conversions.SheetDone.{SheetDone}
+use Rattle.sheet_app.specs.declared.conversions.SheetDone.TheVariants as done
+use Rattle.sheet_app.specs.declared.conversions.TheConstants.{MOST_UNKNOWN}
 
 -- the three words name the columns at these places
 pub record ArePlaces (names : Fields) (three : ThreeWords) (places : DatePlaces) : Type 0 where

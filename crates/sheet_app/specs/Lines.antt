@@ -5,19 +5,19 @@ use Rattle.std.specs.List.{flat_map}
 use Rattle.clap.specs.Words.{Text}
 use Rattle.csv.specs.Records.{fields_of}
 use Rattle.register_records.specs.Entries.{Fields}
-use Rattle.register_sheets.specs.DateStops.{count_of}
-use Rattle.register_sheets.specs.declared.choices.Spans.{Spans}
-use Rattle.register_sheets.specs.declared.choices.Spans.TheVariants as spans
-use Rattle.register_sheets.specs.declared.reasons.Reason.{Reason}
-use Rattle.register_sheets.specs.declared.reasons.Reason.TheVariants as reasons
-use Rattle.register_sheets.specs.declared.reasons.ReasonCounts.{ReasonCounts}
-use Rattle.register_sheets.specs.declared.unread_dates.UnreadDates.{UnreadDates}
+use Rattle.sheets.specs.DateStops.{count_of}
+use Rattle.sheets.specs.declared.choices.Spans.{Spans}
+use Rattle.sheets.specs.declared.choices.Spans.TheVariants as spans
+use Rattle.sheets.specs.declared.reasons.Reason.{Reason}
+use Rattle.sheets.specs.declared.reasons.Reason.TheVariants as reasons
+use Rattle.sheets.specs.declared.reasons.ReasonCounts.{ReasonCounts}
+use Rattle.sheets.specs.declared.unread_dates.UnreadDates.{UnreadDates}
 use Rattle.sheet_arguments.specs.Requests.{Task}
 use Rattle.sheet_app.specs.declared.sheet_faults.SheetFault.{SheetFault}
 use Rattle.sheet_app.specs.declared.sheet_faults.SheetFault.TheVariants as fault
-use Rattle.sheet_app.specs.declared.sheets.SheetDone.{SheetDone}
-use Rattle.sheet_app.specs.declared.sheets.SheetDone.TheVariants as done
-use Rattle.sheet_app.specs.declared.sheets.WholeSheet.{WholeSheet}
+use Rattle.sheet_app.specs.declared.conversions.SheetDone.{SheetDone}
+use Rattle.sheet_app.specs.declared.conversions.SheetDone.TheVariants as done
+use Rattle.sheet_app.specs.declared.conversions.WholeSheet.{WholeSheet}
 
 -- texts with a comma and a space between two
 abbrev pub listed : List Text → Text
@@ -80,25 +80,17 @@ abbrev pub reason_line : Text → ReasonCounts → Reason → Text
 reason_line name counts reason =
     line_of_dates (reason_words reason).0 (reason_words reason).1 name (count_of counts reason)
 
--- the lines on dates that say too little, on those with a sign or a weekday that is not theirs, and on the others
-abbrev pub missing_lines : Text → ReasonCounts → Text
-missing_lines name counts =
-    reason_line name counts reasons.NoCalendar
-    ++ (reason_line name counts reasons.NoDay ++ reason_line name counts reasons.NoYear)
+abbrev pub three_lines : Text → ReasonCounts → Reason → Reason → Reason → Text
+three_lines name counts first second third =
+    reason_line name counts first ++ (reason_line name counts second ++ reason_line name counts third)
 
-abbrev pub sign_lines : Text → ReasonCounts → Text
-sign_lines name counts =
-    reason_line name counts reasons.Character
-    ++ (reason_line name counts reasons.Minus ++ reason_line name counts reasons.OtherWeekday)
-
-abbrev pub other_lines : Text → ReasonCounts → Text
-other_lines name counts =
-    reason_line name counts reasons.NoSuchYear
-    ++ (reason_line name counts reasons.YearLast ++ reason_line name counts reasons.NoDate)
-
--- the lines on dates that stay as they are written, for each reason
+-- the lines on dates that stay as they are written, for each reason: on those that say too little, on those with a sign or
+-- a weekday that is not theirs, and on the others
 abbrev pub reason_lines : Text → ReasonCounts → Text
-reason_lines name counts = missing_lines name counts ++ (sign_lines name counts ++ other_lines name counts)
+reason_lines name counts =
+    three_lines name counts reasons.NoCalendar reasons.NoDay reasons.NoYear
+    ++ (three_lines name counts reasons.Character reasons.Minus reasons.OtherWeekday
+    ++ three_lines name counts reasons.NoSuchYear reasons.YearLast reasons.NoDate)
 
 -- the lines on dates that were not read, but for names that are not known
 abbrev pub kept_lines : Text → UnreadDates → Text

@@ -1,11 +1,11 @@
 -- Why nothing is done, and what standard error gets of it.
-use Rattle.std.specs.Prelude.{◌≡◌, ◌++◌, ◌⊎◌, ⊤, ℕ, Contains, IfSome, List, codes, Option, Some}
+use Rattle.std.specs.Prelude.{◌++◌, ◌⊎◌, ⊤, ℕ, Contains, IfSome, List, codes, Option, Some}
 use Rattle.std.specs.Fmt.{decimal}
 use Rattle.std.specs.String.{string_bytes}
 use Rattle.clap.specs.Words.{Text}
 use Rattle.programs.specs.Meanings.{work}
-use Rattle.register_sheets.specs.declared.name_lists.NameListFault.{NameListFault}
-use Rattle.register_sheets.specs.declared.name_lists.NameListFault.TheVariants as list_fault
+use Rattle.sheets.specs.declared.name_lists.NameListFault.{NameListFault}
+use Rattle.sheets.specs.declared.name_lists.NameListFault.TheVariants as list_fault
 use Rattle.sheet_arguments.specs.Faults.{error_line, fault_of_error, memory_line, program_line, status_of_fault}
 use Rattle.sheet_arguments.specs.Requests.{IsFaultOf, MeanJust, Task}
 use Rattle.sheet_app.specs.CalendarWords.{calendar_words}

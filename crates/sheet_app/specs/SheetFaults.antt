@@ -2,9 +2,9 @@
 use Rattle.std.specs.Prelude.{◌≡◌, ⊤, List}
 use Rattle.csv.specs.Records.{fields_of}
 use Rattle.register_records.specs.Entries.{Fields}
-use Rattle.register_sheets.specs.declared.name_lists.NameLine.{NameLine}
-use Rattle.register_sheets.specs.declared.sheet_ends.SheetCause.{SheetCause}
-use Rattle.register_sheets.specs.declared.sheet_ends.SheetCause.TheVariants as cause
+use Rattle.sheets.specs.declared.name_lists.NameLine.{NameLine}
+use Rattle.sheets.specs.declared.sheet_ends.SheetCause.{SheetCause}
+use Rattle.sheets.specs.declared.sheet_ends.SheetCause.TheVariants as cause
 use Rattle.sheet_arguments.specs.Requests.{Task}
 use Rattle.sheet_app.specs.Columns.{IsMissing}
 use Rattle.sheet_app.specs.declared.sheet_faults.SheetFault.{SheetFault}

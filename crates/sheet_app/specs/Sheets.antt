@@ -4,23 +4,23 @@ use Rattle.csv.specs.Reading.{strip_bom}
 use Rattle.register_records.specs.Entries.{Fields, record_limit, text_records}
 use Rattle.register_records.specs.Sources.{Gains}
 use Rattle.register_records.specs.declared.outputs.Output as outputs
-use Rattle.register_sheets.specs.AskedOfSheets.{IsChoice, IsListedChoice, SheetAsked}
-use Rattle.register_sheets.specs.Converted.{ArePartOfSheet, below, IsFullSheet, IsWholeSheet}
-use Rattle.register_sheets.specs.NameLists.{IsListOf}
-use Rattle.register_sheets.specs.SheetOutputs.{AreMadeRegisters}
-use Rattle.register_sheets.specs.UnknownNames.{AreUnreadIn, IsUnknown, NameCount, list_text}
-use Rattle.register_sheets.specs.declared.choices.SheetChoice.{SheetChoice}
-use Rattle.register_sheets.specs.declared.name_lists.NameLine.{NameLine}
-use Rattle.register_sheets.specs.declared.sheet_ends.SheetCause.{SheetCause}
+use Rattle.sheets.specs.AskedOfSheets.{IsChoice, IsListedChoice, SheetAsked}
+use Rattle.sheets.specs.Converted.{ArePartOfSheet, below, IsFullSheet, IsWholeSheet, records_by}
+use Rattle.sheets.specs.NameLists.{IsListOf}
+use Rattle.sheets.specs.SheetOutputs.{AreMadeRegisters}
+use Rattle.sheets.specs.UnknownNames.{AreUnreadIn, IsUnknown, NameCount, list_text}
+use Rattle.sheets.specs.declared.choices.SheetChoice.{SheetChoice}
+use Rattle.sheets.specs.declared.name_lists.NameLine.{NameLine}
+use Rattle.sheets.specs.declared.sheet_ends.SheetCause.{SheetCause}
 use Rattle.sheet_arguments.specs.Requests.{Task}
 use Rattle.sheet_app.specs.Columns.{AreDateColumns, IsIdField}
 use Rattle.sheet_app.specs.SheetFaults.{IsOfColumns, fault_by}
 use Rattle.sheet_app.specs.declared.sheet_faults.SheetFault.{SheetFault}
 use Rattle.sheet_app.specs.declared.sheet_faults.SheetFault.TheVariants as fault
-use Rattle.sheet_app.specs.declared.sheets.ListedSheet.{ListedSheet}
-use Rattle.sheet_app.specs.declared.sheets.SheetDone.{SheetDone}
-use Rattle.sheet_app.specs.declared.sheets.SheetDone.TheVariants as done
-use Rattle.sheet_app.specs.declared.sheets.WholeSheet.{WholeSheet}
+use Rattle.sheet_app.specs.declared.conversions.ListedSheet.{ListedSheet}
+use Rattle.sheet_app.specs.declared.conversions.SheetDone.{SheetDone}
+use Rattle.sheet_app.specs.declared.conversions.SheetDone.TheVariants as done
+use Rattle.sheet_app.specs.declared.conversions.WholeSheet.{WholeSheet}
 
 -- these are the lines of a text that is a list of names
 abbrev pub IsList : List ℕ → List NameLine → Type 0
@@ -52,10 +52,6 @@ pub record IsChoiceFor (task : Task) (lines : List NameLine) (sheet : List ℕ) 
   pub is_asked : IsAskedOf task lines (names_of task sheet) asked
   pub listed : IsListedChoice asked lines sheet choice
   pub is_choice : IsChoice choice
-
--- the records of a sheet by a choice
-abbrev pub records_by : SheetChoice → List ℕ → List Fields
-records_by choice sheet = text_records choice.delimiter sheet
 
 -- these bytes are the sheet with the columns asked by a choice, of which this is known: how many records it has, and how many
 -- dates were refused, are empty, or were not read

@@ -6,8 +6,8 @@ ghost use Rattle.sheet_app.specs.CalendarWords.{SaysBy, SaysNothing, calendar_wo
 ghost use Rattle.sheet_app.specs.private.SheetViews.{IsOfWords};
 
 use crate::program_faults::ProgramFault;
-use register_sheets::{NameList, calendar_said};
 use sheet_arguments::{CalendarsAsked, Job};
+use sheets::{NameList, calendar_said};
 use std::alloc::{AllocError, Global};
 use written_dates::{CalendarMeaning, CalendarNames};
 

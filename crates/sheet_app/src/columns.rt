@@ -13,8 +13,8 @@ ghost use Rattle.sheet_app.specs.CalendarWords.{SaysBy, SaysNothing};
 use crate::calendar_words::calendar_by;
 use csv::ByteRecord;
 use programs::number_named;
-use register_sheets::{CalendarColumn, CalendarField, DateColumn, IdField, NameList, field_at};
 use sheet_arguments::{CalendarsAsked, Job};
+use sheets::{CalendarColumn, CalendarField, DateColumn, IdField, NameList, field_at};
 use std::alloc::{AllocError, Global};
 use written_dates::{CalendarMeaning, without_blanks};
 

@@ -1,30 +1,30 @@
 //! Reads the sheets of a command line, and converts each.
 
-ghost use Rattle.std.specs.Prelude.{◌≡◌, ◌≤◌, ◌↔◌, [], All, IfErr, IfOk, map, true, vec_capacity, vec_len};
+ghost use Rattle.std.specs.Prelude.{◌≡◌, ◌↔◌, All, IfErr, IfOk, map, true};
 ghost use Rattle.std.specs.List.{AllZip};
 ghost use Rattle.programs.specs.Places.{place_name};
 ghost use Rattle.sheet_arguments.specs.Requests.{task_of};
-ghost use Rattle.sheet_app.specs.EndedSheets.{AreReported, IsConverted, IsUnread, ended_lines, ended_name};
+ghost use Rattle.sheet_app.specs.EndedSheets.{AreReported, IsConverted, IsUnread, ended_lines, is_complete};
+ghost use Rattle.sheet_app.specs.private.Conversions.{lines_by, task_by};
 ghost use Rattle.sheet_app.specs.private.EndedSheets.{IsEndOf};
-ghost use Rattle.sheet_app.specs.EndedSheets.{is_complete};
-ghost use Rattle.sheet_app.specs.private.SheetViews.{IsTask, Says};
+ghost use Rattle.sheet_app.specs.private.SheetViews.{Says};
 ghost use Rattle.sheet_app.specs.JoinedTexts.{IsSheetMade, IsTextEnded, LacksSheet};
 
+use crate::conversions::{SheetDone, convert_text};
 use crate::file_sheets::FileSheet;
 use crate::joined_texts::joined_of;
+use crate::prepared::{Conversion, RoomySheets};
 use crate::reports::{report_names, report_sheet};
 use crate::sheet_faults::SheetFault;
-use crate::sheets::{SheetDone, convert_text};
 use crate::tree_texts::sheet_of;
 use programs::{FileStore, Place};
 use register_records::Output;
-use register_sheets::NameList;
 use sheet_arguments::Job;
 use std::alloc::Global;
 use std::io::{ErrorKind, Read};
 
 /// What standard input is called.
-const INPUT: &str = "standard input";
+pub(crate) const INPUT: &str = "standard input";
 
 /// A sheet that was converted or broke off.
 #[derive(Drop)]
@@ -64,41 +64,37 @@ fn sheet_made<'b>(alloc: Global, text: Vec<u8>, job: &Job<'b>) -> Result<Vec<u8>
     }
 }
 
-/// Writes what a job asks of the sheet of a text, by the names of a list.
+/// Writes what is asked of the sheet of a text.
 fn convert_read<'b, W: Output>(
     alloc: Global,
-    list: &NameList,
-    job: &Job<'b>,
+    by: &Conversion<'_, 'b>,
     text: Vec<u8>,
     output: &mut W,
     registers: &mut [W],
 ) -> SheetDone<'b>
-    requires { IsTask (task_of job.now) }
-    ensures { IsTextEnded W.Output (task_of job.now) list.now.lines.items text.items output.old output.new
-        registers.old registers.new result }
+    ensures { IsTextEnded W.Output (task_by by.now) (lines_by by.now) text.items output.old output.new registers.old
+        registers.new result }
 {
-    match sheet_made(alloc, text, job) {
-        Ok(sheet) => convert_text(alloc, sheet.as_slice(), list, job, output, registers),
+    match sheet_made(alloc, text, by.job) {
+        Ok(sheet) => convert_text(alloc, sheet.as_slice(), by, output, registers),
         Err(fault) => SheetDone::Broken(fault),
     }
 }
 
-/// Reads a sheet, and writes what a job asks of it, by the names of a list.
+/// Reads a sheet, and writes what is asked of it.
 fn convert_source<'b, R: Read, W: Output>(
     alloc: Global,
-    list: &NameList,
-    job: &Job<'b>,
+    by: &Conversion<'_, 'b>,
     source: &mut R,
     output: &mut W,
     registers: &mut [W],
 ) -> SheetDone<'b>
-    requires { IsTask (task_of job.now) }
-    ensures { IsConverted R.Read W.Output (task_of job.now) list.now.lines.items source.old output.old output.new
+    ensures { IsConverted R.Read W.Output (task_by by.now) (lines_by by.now) source.old output.old output.new
         registers.old registers.new result }
 {
     let mut text = Vec::new(alloc);
     match source.read_to_end(&mut text) {
-        Ok(_) => convert_read(alloc, list, job, text, output, registers),
+        Ok(_) => convert_read(alloc, by, text, output, registers),
         Err(error) => SheetDone::Broken(fault_of_reading(error.kind())),
     }
 }
@@ -117,19 +113,16 @@ fn give_names<R, W: Output, P: FileStore<R, W>>(store: &P, places: &[Place]) -> 
 }
 
 /// Converts a sheet, gives its outputs their names, and reports how it has ended.
-fn convert_one<'a, R: Read + Drop, W: Output + Drop, P: FileStore<R, W>, E: Output>(
+pub fn convert_one<'a, R: Read + Drop, W: Output + Drop, P: FileStore<R, W>, E: Output>(
     alloc: Global,
-    list: &NameList,
-    job: &Job<'a>,
+    by: &Conversion<'_, 'a>,
     sheet: FileSheet<'a, R, W>,
     store: &P,
     errors: &mut E,
 ) -> EndedSheet<'a, W>
-    requires { IsTask (task_of job.now) }
-    ensures ended { IsEndOf R.Read W.Output (P.is_named store.now) (task_of job.now) list.now.lines.items sheet.entry
+    ensures ended { IsEndOf R.Read W.Output (P.is_named store.now) (task_by by.now) (lines_by by.now) sheet.entry
         result }
-    ensures lines { Says E.Output errors.old errors.new result.is_reported (ended_lines (task_of job.now) result) }
-    ensures errors_mark { E.own_mark errors.new ≡ E.own_mark errors.old }
+    ensures lines { Says E.Output errors.old errors.new result.is_reported (ended_lines (task_by by.now) result) }
 {
     let FileSheet {
         name,
@@ -138,16 +131,10 @@ fn convert_one<'a, R: Read + Drop, W: Output + Drop, P: FileStore<R, W>, E: Outp
         mut registers,
         places,
     } = sheet;
-    let done = convert_source(
-        alloc,
-        list,
-        job,
-        &mut source,
-        &mut output,
-        registers.as_mut_slice(),
-    );
+    let files = registers.as_mut_slice();
+    let done = convert_source(alloc, by, &mut source, &mut output, files);
     let are_named = give_names(store, places.as_slice());
-    let is_told = report_sheet(alloc, errors, name, job, &done);
+    let is_told = report_sheet(alloc, errors, name, by.job, &done);
     let is_reported = report_names(alloc, errors, name, are_named) && is_told;
     EndedSheet {
         name,
@@ -159,56 +146,25 @@ fn convert_one<'a, R: Read + Drop, W: Output + Drop, P: FileStore<R, W>, E: Outp
     }
 }
 
-/// Converts each sheet. There is room for the converted ones.
+/// Converts each sheet.
 pub fn convert_all<'a, R: Read + Drop, W: Output + Drop, P: FileStore<R, W>, E: Output>(
     alloc: Global,
-    list: &NameList,
-    job: &Job<'a>,
-    sheets: Vec<FileSheet<'a, R, W>>,
-    room: Vec<EndedSheet<'a, W>>,
+    by: &Conversion<'_, 'a>,
+    files: RoomySheets<'a, R, W>,
     store: &P,
     errors: &mut E,
 ) -> Vec<EndedSheet<'a, W>>
-    requires task { IsTask (task_of job.now) }
-    requires none { room.items ≡ [] }
-    requires room { vec_len sheets ≤ vec_capacity room }
-    ensures ended { AllZip (IsEndOf R.Read W.Output (P.is_named store.now) (task_of job.now) list.now.lines.items)
-        sheets.entry.items result.items }
-    ensures lines { AreReported E.Output (task_of job.now) result.items errors.old errors.new }
+    ensures ended { AllZip (IsEndOf R.Read W.Output (P.is_named store.now) (task_by by.now) (lines_by by.now))
+        files.entry.sheets.items result.items }
+    ensures lines { AreReported E.Output (task_by by.now) result.items errors.old errors.new }
     ensures errors_mark { E.own_mark errors.new ≡ E.own_mark errors.old }
 {
+    let RoomySheets { sheets, room } = files;
     let mut ended = room;
     'sheets: for sheet in sheets {
-        ended.push_reserved(convert_one(alloc, list, job, sheet, store, errors));
+        ended.push_reserved(convert_one(alloc, by, sheet, store, errors));
     }
     ended
-}
-
-/// Converts the sheet that standard input gives.
-pub fn convert_input<'a, R: Read + Drop, W: Output + Drop, P: FileStore<R, W>, E: Output>(
-    alloc: Global,
-    list: &NameList,
-    job: &Job<'a>,
-    input: R,
-    output: W,
-    store: &P,
-    errors: &mut E,
-) -> EndedSheet<'a, W>
-    requires { IsTask (task_of job.now) }
-    ensures name { ended_name result ≡ INPUT.now }
-    ensures converted { IsConverted R.Read W.Output (task_of job.now) list.now.lines.items input output result.output []
-        result.registers.items result.done }
-    ensures lines { Says E.Output errors.old errors.new result.is_reported (ended_lines (task_of job.now) result) }
-    ensures errors_mark { E.own_mark errors.new ≡ E.own_mark errors.old }
-{
-    let sheet = FileSheet {
-        name: INPUT,
-        source: input,
-        output,
-        registers: Vec::new(alloc),
-        places: Vec::new(alloc),
-    };
-    convert_one(alloc, list, job, sheet, store, errors)
 }
 
 impl<W> EndedSheet<'_, W> {

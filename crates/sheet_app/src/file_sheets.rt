@@ -17,8 +17,8 @@ ghost use Rattle.sheet_app.specs.private.SheetViews.{IsOfInputs, IsOfOutputs};
 use itoa::Buffer;
 use programs::{FileStore, Place, is_of_output, share_file};
 use register_records::Output;
-use register_sheets::Spans;
 use sheet_arguments::Job;
+use sheets::Spans;
 use std::alloc::{AllocError, Global};
 
 /// Why the files of a command line are not opened.

@@ -7,12 +7,12 @@ ghost use Rattle.sheet_arguments.specs.ThreeColumns.{words_seen};
 ghost use Rattle.sheet_app.specs.JoinedTexts.{ArePlaces, IsJoined, LacksOne, LacksThree};
 
 use crate::columns::column_named;
+use crate::conversions::mark_of;
 use crate::sheet_faults::SheetFault;
-use crate::sheets::mark_of;
 use csv::ByteRecord;
 use date_parts::{DatePlaces, joined_sheet};
-use register_sheets::head_record;
 use sheet_arguments::{Job, ThreeColumns};
+use sheets::head_record;
 use std::alloc::Global;
 
 /// The places of three columns, or the first word that names none.

@@ -5,17 +5,18 @@
 
 mod calendar_words;
 mod columns;
+mod conversions;
 mod converting;
 mod file_sheets;
 mod joined_texts;
 mod name_lists;
+mod prepared;
 mod program;
 mod program_faults;
 mod reports;
 mod sheet_faults;
-mod sheets;
 mod tree_texts;
 
 pub use converting::EndedSheet;
-pub use program::{Outcome, answer};
+pub use program::{Outcome, Streams, answer};
 pub use programs::{COMPLETE, INCOMPLETE};

@@ -4,7 +4,7 @@ ghost use Rattle.std.specs.Prelude.{IfErr, OnOk};
 ghost use Rattle.sheet_app.specs.Sheets.{GainsList};
 ghost use Rattle.sheet_app.specs.private.Sheets.{IsFaultOfText};
 
-use register_sheets::{NameList, NameListFault};
+use sheets::{NameList, NameListFault};
 use std::alloc::Global;
 
 /// Appends the names of a text that is a list of names.

@@ -1,37 +1,33 @@
 //! What the program does with its arguments: it prints a page, or converts, and returns how that ended.
 
-ghost use Rattle.std.specs.Prelude.{◌≡◌, ◌≢◌, ◌≤◌, ◌⊎◌, ◌↔◌, ◌++◌, ℕ, List, [], All, Contains, IfErr, IfOk, OnOk, map, false};
-ghost use Rattle.std.specs.Prelude.{true};
-ghost use Rattle.std.specs.Prelude.{vec_capacity, vec_len};
-ghost use Rattle.std.specs.Io.KnownBytes.{Appends};
+ghost use Rattle.std.specs.Prelude.{◌≡◌, ◌≢◌, ◌≤◌, ◌⊎◌, ◌↔◌, ◌++◌, List, [], Contains, IfErr, IfOk, OnOk, map, false, true};
 ghost use Rattle.std.specs.String.{string_bytes};
-ghost use Rattle.programs.specs.Meanings.{work};
 ghost use Rattle.programs.specs.Openings.{IsFresh};
-ghost use Rattle.register_sheets.specs.declared.name_lists.NameLine.{NameLine as NameLineValue};
-ghost use Rattle.sheet_arguments.specs.Faults.{name};
+ghost use Rattle.programs.specs.HelpPages.{page_text};
 ghost use Rattle.programs.specs.Pages.{IsPrinted};
-ghost use Rattle.sheet_arguments.specs.Requests.{AreWrong, MeanJust, Task as TaskValue, task_of};
-ghost use Rattle.sheet_app.specs.Answers.{AreFilesAnswered, AreListsIn, AreNamesOf, IsInputAnswered, IsInputConverted};
-ghost use Rattle.sheet_app.specs.Answers.{IsListIn, IsPageAnswered, IsReported, IsUnknown};
-ghost use Rattle.sheet_app.specs.Answers.{NameUnknown};
-ghost use Rattle.sheet_app.specs.private.Answers.{IsFaultOfStart};
-ghost use Rattle.sheet_app.specs.EndedSheets.{AreReported, Gives, IsEndedSheet, ended_name, is_complete};
-ghost use Rattle.sheet_app.specs.FileSheets.{AreApartOutputs, register_endings};
-ghost use Rattle.sheet_app.specs.private.FileSheets.{IsNewSheet, sheet_name};
+ghost use Rattle.sheets.specs.declared.name_lists.NameLine.{NameLine as NameLineValue};
+ghost use Rattle.sheet_arguments.specs.Faults.{name};
+ghost use Rattle.sheet_arguments.specs.Requests.{AreWrong, Task as TaskValue, task_of};
+ghost use Rattle.sheet_app.specs.Answers.{AreFilesAnswered, AreListsIn, AreNamesOf, IsInputAnswered, IsListIn};
+ghost use Rattle.sheet_app.specs.Answers.{IsPageAnswered, IsReported, NameUnknown};
+ghost use Rattle.sheet_app.specs.private.Answers.{IsFaultOfStart, IsInputDone, IsPrepared, IsRefusal, IsTaskAnswered};
+ghost use Rattle.sheet_app.specs.private.Conversions.{lines_by, task_by};
+ghost use Rattle.sheet_app.specs.EndedSheets.{Gives};
 ghost use Rattle.sheet_app.specs.private.SheetViews.{IsTask};
-ghost use Rattle.sheet_app.specs.ProgramFaults.{IsFaultOfAsked, IsFaultOfTask, fault_status};
+ghost use Rattle.sheet_app.specs.ProgramFaults.{IsFaultOfTask};
 
 use crate::calendar_words::check_calendars;
-use crate::converting::{EndedSheet, are_complete, convert_all, convert_input};
+use crate::converting::{EndedSheet, INPUT, are_complete, convert_all, convert_one};
 use crate::file_sheets::{FileFault, FileSheet, open_sheets};
 use crate::name_lists::push_list;
+use crate::prepared::{Conversion, Prepared, RoomySheets};
 use crate::program_faults::ProgramFault;
 use programs::{
-    COMPLETE, FileStore, INCOMPLETE, Request, print_page, report_refusal, version_line,
+    COMPLETE, FileStore, INCOMPLETE, Page, Request, print_page, report_refusal, version_line,
 };
 use register_records::Output;
-use register_sheets::{NameList, NameListFault};
-use sheet_arguments::{HELP, Job, NAME, VERSION, read_request};
+use sheet_arguments::{Job, NAME, VERSION, page_of_help, read_request};
+use sheets::{NameList, NameListFault};
 use std::alloc::Global;
 use std::io::{ErrorKind, Read};
 
@@ -46,6 +42,15 @@ pub struct Outcome<'a, W> {
     pub sheets: Vec<EndedSheet<'a, W>>,
 }
 
+/// The standard streams that the program reads and writes.
+#[derive(Drop)]
+pub struct Streams<R, W> {
+    /// Standard input.
+    pub input: R,
+    /// Standard output.
+    pub output: W,
+}
+
 /// Does nothing but report why.
 fn refuse<'a, W: Output, E: Output>(
     alloc: Global,
@@ -53,12 +58,7 @@ fn refuse<'a, W: Output, E: Output>(
     errors: &mut E,
     why: &ProgramFault<'_>,
 ) -> Outcome<'a, W>
-    ensures status { (result.status ≡ 3) ⊎ (result.status ≡ fault_status why.now) }
-    ensures reported { (arguments : List (List ℕ)) → IsFaultOfAsked arguments why.now → E.has_failed errors.new ≡ false
-        → IsReported arguments result.status (E.contents errors.old) (E.contents errors.new) }
-    ensures untouched { result.output ≡ output }
-    ensures none { result.sheets.items ≡ [] }
-    ensures mark { E.own_mark errors.new ≡ E.own_mark errors.old }
+    ensures { IsRefusal E.Output why.now output result errors.old errors.new }
 {
     Outcome {
         status: report_refusal(alloc, NAME, errors, why),
@@ -70,13 +70,13 @@ fn refuse<'a, W: Output, E: Output>(
 /// Prints a page.
 fn answer_page<'a, W: Output, E: Output>(
     alloc: Global,
-    page: &str,
+    page: Page<'_>,
     output: W,
     errors: &mut E,
 ) -> Outcome<'a, W>
-    ensures printed { IsPrinted W.Output E.Output name page.now result.status
+    ensures printed { IsPrinted W.Output E.Output name (page_text page.entry) result.status
         output result.output errors.old errors.new }
-    ensures statuses { (result.status ≡ 0) ⊎ (result.status ≡ 1) }
+    ensures statuses { result.status ≤ 1 }
     ensures none { result.sheets.items ≡ [] }
     ensures mark { W.own_mark result.output ≡ W.own_mark output }
     ensures errors_mark { E.own_mark errors.new ≡ E.own_mark errors.old }
@@ -180,17 +180,9 @@ fn read_list<'a, R: Read + Drop, W: Output, P: FileStore<R, W>>(
 /// The status of a run of which all sheets are complete, or not.
 fn status_of(are_complete: bool) -> u8
     ensures complete { (result ≡ 0) ↔ (are_complete ≡ true) }
-    ensures statuses { (result ≡ 0) ⊎ (result ≡ 1) }
+    ensures statuses { result ≤ 1 }
 {
     if are_complete { COMPLETE } else { INCOMPLETE }
-}
-
-/// What a job needs before its first sheet is read: the names, the sheets of its files, and room for these.
-#[derive(Drop)]
-struct Prepared<'a, R, W> {
-    list: NameList,
-    sheets: Vec<FileSheet<'a, R, W>>,
-    room: Vec<EndedSheet<'a, W>>,
 }
 
 /// Reads the lists of names, looks up the calendars that the job names, opens all files, and then makes the outputs.
@@ -200,14 +192,8 @@ fn prepare<'a, R: Read + Drop, W: Output + Drop, P: FileStore<R, W>>(
     store: &P,
     job: &Job<'a>,
 ) -> Result<Prepared<'a, R, W>, ProgramFault<'a>>
-    ensures lists { IfOk result (λ prepared.
-        AreNamesOf R.Read (P.is_opened store.now) (task_of job.now) built.now prepared.list.lines.items) }
-    ensures named { IfOk result (λ prepared. map sheet_name prepared.sheets.items ≡ (task_of job.now).files) }
-    ensures made { IfOk result (λ prepared. All (IsNewSheet W.Output (P.is_opened store.now) (P.is_made store.now)
-        (task_of job.now) (register_endings (task_of job.now))) prepared.sheets.items) }
-    ensures apart { OnOk result (AreApartOutputs (P.are_apart store.now) (task_of job.now)) }
-    ensures room { IfOk result (λ prepared. (prepared.room.items ≡ [])
-        × (vec_len prepared.sheets ≤ vec_capacity prepared.room)) }
+    ensures prepared { IfOk result (IsPrepared R.Read W.Output (P.is_opened store.now) (P.is_made store.now)
+        (P.are_apart store.now) (task_of job.now) built.now) }
     ensures fault { IfErr result (IsFaultOfStart R.Read (P.is_opened store.now) (task_of job.now) built.now) }
 {
     let list = read_list(alloc, built, store, job)?;
@@ -217,7 +203,10 @@ fn prepare<'a, R: Read + Drop, W: Output + Drop, P: FileStore<R, W>>(
         Err(fault) => return Err(ProgramFault::Files(fault)),
     };
     match Vec::with_capacity(alloc, sheets.len()) {
-        Ok(room) => Ok(Prepared { list, sheets, room }),
+        Ok(room) => Ok(Prepared {
+            list,
+            files: RoomySheets { sheets, room },
+        }),
         Err(_) => Err(ProgramFault::OutOfMemory),
     }
 }
@@ -225,21 +214,22 @@ fn prepare<'a, R: Read + Drop, W: Output + Drop, P: FileStore<R, W>>(
 /// Converts what standard input gives.
 fn run_input<'a, R: Read + Drop, W: Output + Drop, P: FileStore<R, W>, E: Output>(
     alloc: Global,
-    list: &NameList,
-    job: &Job<'a>,
-    input: R,
-    output: W,
+    by: &Conversion<'_, 'a>,
+    streams: Streams<R, W>,
     store: &P,
     errors: &mut E,
 ) -> Outcome<'a, W>
-    requires { IsTask (task_of job.now) }
-    ensures answered { IsInputConverted R.Read W.Output E.Output (task_of job.now) list.now.lines.items result.status
-        input output result.output errors.old errors.new }
-    ensures none { result.sheets.items ≡ [] }
-    ensures statuses { (result.status ≡ 0) ⊎ (result.status ≡ 1) }
-    ensures errors_mark { E.own_mark errors.new ≡ E.own_mark errors.old }
+    ensures { IsInputDone R.Read W.Output E.Output (task_by by.now) (lines_by by.now) streams.input streams.output result
+        errors.old errors.new }
 {
-    let ended = convert_input(alloc, list, job, input, output, store, errors);
+    let sheet = FileSheet {
+        name: INPUT,
+        source: streams.input,
+        output: streams.output,
+        registers: Vec::new(alloc),
+        places: Vec::new(alloc),
+    };
+    let ended = convert_one(alloc, by, sheet, store, errors);
     Outcome {
         status: status_of(ended.is_complete()),
         output: ended.output,
@@ -252,53 +242,34 @@ fn run_job<'a, R: Read + Drop, W: Output + Drop, P: FileStore<R, W>, E: Output>(
     alloc: Global,
     built: &[u8],
     job: &Job<'a>,
-    input: R,
-    output: W,
+    streams: Streams<R, W>,
     store: &P,
     errors: &mut E,
 ) -> Outcome<'a, W>
     requires { IsTask (task_of job.now) }
-    ensures input { result.status ≤ 1 → (task_of job.now).files ≡ [] → (lines : List NameLineValue)
-        × AreNamesOf R.Read (P.is_opened store.now) (task_of job.now) built.now lines
-        × (result.sheets.items ≡ [])
-        × IsInputConverted R.Read W.Output E.Output (task_of job.now) lines result.status input output result.output
-        errors.old errors.new }
-    ensures files { result.status ≤ 1 → (task_of job.now).files ≢ [] → (lines : List NameLineValue)
-        × AreNamesOf R.Read (P.is_opened store.now) (task_of job.now) built.now lines
-        × (result.output ≡ output)
-        × AreApartOutputs (P.are_apart store.now) (task_of job.now)
-        × (map ended_name result.sheets.items ≡ (task_of job.now).files)
-        × All (IsEndedSheet R.Read W.Output (P.is_opened store.now) (P.is_made store.now) (P.is_named store.now)
-        (task_of job.now) lines) result.sheets.items
-        × ((result.status ≡ 0) ↔ All (λ sheet. is_complete sheet ≡ true) result.sheets.items)
-        × AreReported E.Output (task_of job.now) result.sheets.items errors.old errors.new }
-    ensures statuses { result.status ≤ 3 }
-    ensures unknown { result.status ≡ 2 → (word : List ℕ)
-        × IsUnknown R.Read (P.is_opened store.now) (task_of job.now) built.now word }
-    ensures untouched { 2 ≤ result.status → result.output ≡ output }
-    ensures reported { 2 ≤ result.status → E.has_failed errors.new ≡ false → (arguments : List (List ℕ))
-        → MeanJust arguments (work (task_of job.now))
-        → IsReported arguments result.status (E.contents errors.old) (E.contents errors.new) }
-    ensures errors_mark { E.own_mark errors.new ≡ E.own_mark errors.old }
+    ensures { IsTaskAnswered R.Read W.Output E.Output (task_of job.now) (P.is_opened store.now) (P.is_made store.now)
+        (P.is_named store.now) (P.are_apart store.now) built.now streams.input streams.output result errors.old
+        errors.new }
 {
-    let Prepared { list, sheets, room } = match prepare(alloc, built, store, job) {
+    let Prepared { list, files } = match prepare(alloc, built, store, job) {
         Ok(prepared) => prepared,
-        Err(why) => return refuse(alloc, output, errors, &why),
+        Err(why) => return refuse(alloc, streams.output, errors, &why),
     };
+    let by = Conversion { job, list: &list };
     if job.files.is_empty() {
-        return run_input(alloc, &list, job, input, output, store, errors);
+        return run_input(alloc, &by, streams, store, errors);
     }
-    let ended = convert_all(alloc, &list, job, sheets, room, store, errors);
+    let sheets = convert_all(alloc, &by, files, store, errors);
     Outcome {
-        status: status_of(are_complete(ended.as_slice())),
-        output,
-        sheets: ended,
+        status: status_of(are_complete(sheets.as_slice())),
+        output: streams.output,
+        sheets,
     }
 }
 
-/// Does what the program's arguments ask for: prints a page, or converts the sheet that `input` gives to `output`, or
-/// converts each file named to its own outputs; reports to `errors` what went wrong; and returns the exit status and the
-/// outputs. `built` is the built-in list of names.
+/// Does what the program's arguments ask for: prints a page, or converts the sheet that standard input gives to standard
+/// output, or converts each file named to its own outputs; reports to `errors` what went wrong; and returns the exit
+/// status and the outputs. `built` is the built-in list of names.
 ///
 /// The status is
 ///
@@ -316,25 +287,24 @@ pub fn answer<'a, R: Read + Drop, W: Output + Drop, P: FileStore<R, W>, E: Outpu
     alloc: Global,
     built: &[u8],
     arguments: &'a [String],
-    input: R,
-    output: W,
+    streams: Streams<R, W>,
     store: &P,
     errors: &mut E,
 ) -> Outcome<'a, W>
     // The bytes of what is written to are known, so that no clause on them is empty; there are none yet, and nothing has
     // failed.
-    requires fresh { IsFresh W.Output output }
+    requires fresh { IsFresh W.Output streams.output }
     requires fresh_errors { IsFresh E.Output errors.old }
 
     // The arguments ask for a page, which was printed; or for the sheet of standard input; or for those of files.
     ensures answered { result.status ≤ 1
         → IsPageAnswered W.Output E.Output (map string_bytes arguments.entry.now) result.status
-        output result.output result.sheets.items errors.old errors.new
+        streams.output result.output result.sheets.items errors.old errors.new
         ⊎ IsInputAnswered R.Read W.Output E.Output (P.is_opened store.now) (map string_bytes arguments.entry.now)
-        built.now result.status input output result.output result.sheets.items errors.old errors.new
+        built.now result.status streams.input streams.output result.output result.sheets.items errors.old errors.new
         ⊎ AreFilesAnswered R.Read W.Output E.Output (P.is_opened store.now) (P.is_made store.now) (P.is_named store.now)
-        (P.are_apart store.now) (map string_bytes arguments.entry.now) built.now result.status output result.output
-        result.sheets.items errors.old errors.new }
+        (P.are_apart store.now) (map string_bytes arguments.entry.now) built.now result.status streams.output
+        result.output result.sheets.items errors.old errors.new }
 
     // Unless the status is 3, arguments with which something is wrong are refused; and only these, or those that name a
     // calendar which no list of names knows.
@@ -344,17 +314,22 @@ pub fn answer<'a, R: Read + Drop, W: Output + Drop, P: FileStore<R, W>, E: Outpu
     // Where nothing is done, standard error has gained the line on why, unless it failed.
     ensures reported { 2 ≤ result.status → E.has_failed errors.new ≡ false
         → IsReported (map string_bytes arguments.entry.now) result.status (E.contents errors.old) (E.contents errors.new) }
-    ensures untouched { 2 ≤ result.status → result.output ≡ output }
+    ensures untouched { 2 ≤ result.status → result.output ≡ streams.output }
     ensures statuses { result.status ≤ 3 }
     ensures errors_mark { E.own_mark errors.new ≡ E.own_mark errors.old }
 {
     match read_request(alloc, arguments) {
-        Ok(Request::Help) => answer_page(alloc, HELP, output, errors),
+        Ok(Request::Help) => answer_page(alloc, page_of_help(), streams.output, errors),
         Ok(Request::Version) => {
             let line = version_line(NAME, VERSION);
-            answer_page(alloc, line.as_str(), output, errors)
+            answer_page(alloc, Page::Text(line.as_str()), streams.output, errors)
         }
-        Ok(Request::Convert(job)) => run_job(alloc, built, &job, input, output, store, errors),
-        Err(fault) => refuse(alloc, output, errors, &ProgramFault::Arguments(fault)),
+        Ok(Request::Convert(job)) => run_job(alloc, built, &job, streams, store, errors),
+        Err(fault) => refuse(
+            alloc,
+            streams.output,
+            errors,
+            &ProgramFault::Arguments(fault),
+        ),
     }
 }

@@ -7,8 +7,8 @@ ghost use Rattle.sheet_app.specs.ProgramFaults.{list_line as list_line_spec};
 use crate::file_sheets::FileFault;
 use itoa::Buffer;
 use programs::{NOT_BEGUN, OUT_OF_MEMORY, REFUSED, Refusal, own_line};
-use register_sheets::NameListFault;
 use sheet_arguments::{NAME, RequestFault};
+use sheets::NameListFault;
 use std::alloc::{AllocError, Global};
 
 /// Why nothing is done: what is wrong with the arguments, with the files that they name, or with the list of names.

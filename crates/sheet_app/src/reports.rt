@@ -3,21 +3,20 @@
 ghost use Rattle.std.specs.Prelude.{◌≡◌, ◌++◌, ◌∷◌, [], ◌==◌, IfErr, IfOk, OnOk, codes, false, if◌then◌else◌};
 ghost use Rattle.std.specs.Fmt.{decimal};
 ghost use Rattle.sheet_app.specs.Lines.{line_of_dates as dates_line};
-ghost use Rattle.sheet_app.specs.Lines.{fault_text, head_of, kept_lines, lines_on, missing_lines, more_line};
+ghost use Rattle.sheet_app.specs.Lines.{counts_of, fault_text, head_of, kept_lines, lines_on, names_line, reason_line};
+ghost use Rattle.sheet_app.specs.Lines.{reason_lines, reason_words, spans_list, summary_line, three_lines};
 ghost use Rattle.sheet_app.specs.private.Lines.{listed_at};
-ghost use Rattle.sheet_app.specs.Lines.{other_lines, reason_line, reason_lines, reason_words, short_line, sign_lines, stopped_line};
-ghost use Rattle.sheet_app.specs.Lines.{counts_of, names_line, spans_list, summary_line};
 ghost use Rattle.sheet_arguments.specs.Requests.{task_of};
 ghost use Rattle.sheet_app.specs.private.SheetViews.{Says};
-ghost use Rattle.sheet_app.specs.declared.sheets.SheetDone.TheVariants.{Listed, Whole};
+ghost use Rattle.sheet_app.specs.declared.conversions.SheetDone.TheVariants.{Listed, Whole};
 
+use crate::conversions::{ListedSheet, SheetDone, WholeSheet};
 use crate::sheet_faults::{SheetFault, push_listed};
-use crate::sheets::{ListedSheet, SheetDone, WholeSheet};
 use itoa::Buffer;
 use programs::report_out_of_memory;
 use register_records::{Output, send};
-use register_sheets::{Reason, ReasonCounts, Spans, UnreadDates};
 use sheet_arguments::{Job, NAME};
+use sheets::{Reason, ReasonCounts, Spans, UnreadDates};
 use std::alloc::{AllocError, Global};
 
 /// Begins a line on the sheet of this name.
@@ -210,34 +209,6 @@ fn report_dates<E: Output>(
     send_line(errors, line)
 }
 
-/// Reports the dates of a sheet that were stopped by names that are not known, if there are some.
-fn report_stopped<E: Output>(alloc: Global, errors: &mut E, name: &str, count: u64) -> bool
-    ensures { Says E.Output errors.old errors.new result (stopped_line name.now count) }
-{
-    report_dates(
-        alloc,
-        errors,
-        name,
-        count,
-        b" date has a name that is not known: --unknown lists it\n",
-        b" dates have names that are not known: --unknown lists them\n",
-    )
-}
-
-/// Reports the dates of a sheet that were left empty, if there are some.
-fn report_short<E: Output>(alloc: Global, errors: &mut E, name: &str, count: u64) -> bool
-    ensures { Says E.Output errors.old errors.new result (short_line name.now count) }
-{
-    report_dates(
-        alloc,
-        errors,
-        name,
-        count,
-        b" date has a short year and is left empty: see --short-years\n",
-        b" dates have short years and are left empty: see --short-years\n",
-    )
-}
-
 /// Reports the dates of a sheet that stay for this reason, if there are some.
 fn report_reason<E: Output>(
     alloc: Global,
@@ -253,47 +224,25 @@ fn report_reason<E: Output>(
     report_dates(alloc, errors, name, count as u64, one, more)
 }
 
-/// Reports the dates of a sheet that say too little.
-fn report_missing<E: Output>(
+/// Reports the dates of a sheet that stay for these three reasons.
+fn report_three<E: Output>(
     alloc: Global,
     errors: &mut E,
     name: &str,
     counts: &ReasonCounts,
+    reasons: (Reason, Reason, Reason),
 ) -> bool
-    ensures { Says E.Output errors.old errors.new result (missing_lines name.now counts.now) }
+    ensures { Says E.Output errors.old errors.new result
+        (three_lines name.now counts.now reasons.0 reasons.1 reasons.2) }
 {
-    let calendar = report_reason(alloc, errors, name, counts, Reason::NoCalendar);
-    let day = report_reason(alloc, errors, name, counts, Reason::NoDay);
-    let year = report_reason(alloc, errors, name, counts, Reason::NoYear);
-    calendar && day && year
+    let first = report_reason(alloc, errors, name, counts, reasons.0);
+    let second = report_reason(alloc, errors, name, counts, reasons.1);
+    let third = report_reason(alloc, errors, name, counts, reasons.2);
+    first && second && third
 }
 
-/// Reports the dates of a sheet with a sign, or a weekday, that is not theirs.
-fn report_signs<E: Output>(alloc: Global, errors: &mut E, name: &str, counts: &ReasonCounts) -> bool
-    ensures { Says E.Output errors.old errors.new result (sign_lines name.now counts.now) }
-{
-    let character = report_reason(alloc, errors, name, counts, Reason::Character);
-    let minus = report_reason(alloc, errors, name, counts, Reason::Minus);
-    let weekday = report_reason(alloc, errors, name, counts, Reason::OtherWeekday);
-    character && minus && weekday
-}
-
-/// Reports the dates of a sheet that stay for other reasons.
-fn report_others<E: Output>(
-    alloc: Global,
-    errors: &mut E,
-    name: &str,
-    counts: &ReasonCounts,
-) -> bool
-    ensures { Says E.Output errors.old errors.new result (other_lines name.now counts.now) }
-{
-    let year = report_reason(alloc, errors, name, counts, Reason::NoSuchYear);
-    let last = report_reason(alloc, errors, name, counts, Reason::YearLast);
-    let date = report_reason(alloc, errors, name, counts, Reason::NoDate);
-    year && last && date
-}
-
-/// Reports the dates of a sheet that stay as they are written, for each reason.
+/// Reports the dates of a sheet that stay as they are written, for each reason: those that say too little, those with a
+/// sign or a weekday that is not theirs, and the others.
 fn report_reasons<E: Output>(
     alloc: Global,
     errors: &mut E,
@@ -302,33 +251,29 @@ fn report_reasons<E: Output>(
 ) -> bool
     ensures { Says E.Output errors.old errors.new result (reason_lines name.now counts.now) }
 {
-    let missing = report_missing(alloc, errors, name, counts);
-    let signs = report_signs(alloc, errors, name, counts);
-    let others = report_others(alloc, errors, name, counts);
-    missing && signs && others
+    let missing = (Reason::NoCalendar, Reason::NoDay, Reason::NoYear);
+    let signs = (Reason::Character, Reason::Minus, Reason::OtherWeekday);
+    let others = (Reason::NoSuchYear, Reason::YearLast, Reason::NoDate);
+    let are_missing_told = report_three(alloc, errors, name, counts, missing);
+    let are_signs_told = report_three(alloc, errors, name, counts, signs);
+    let are_others_told = report_three(alloc, errors, name, counts, others);
+    are_missing_told && are_signs_told && are_others_told
 }
 
 /// Reports the dates of a sheet that were not read, but for names that are not known.
 fn report_kept<E: Output>(alloc: Global, errors: &mut E, name: &str, unread: &UnreadDates) -> bool
     ensures { Says E.Output errors.old errors.new result (kept_lines name.now unread.now) }
 {
-    let short = report_short(alloc, errors, name, unread.short as u64);
-    let reasons = report_reasons(alloc, errors, name, &unread.reasons);
-    short && reasons
-}
-
-/// Reports the dates of a sheet that were stopped by names that are not listed, if there are some.
-fn report_more<E: Output>(alloc: Global, errors: &mut E, name: &str, count: u64) -> bool
-    ensures { Says E.Output errors.old errors.new result (more_line name.now count) }
-{
-    report_dates(
+    let short = report_dates(
         alloc,
         errors,
         name,
-        count,
-        b" date has a name that is not among the first 1000, which are listed\n",
-        b" dates have names that are not among the first 1000, which are listed\n",
-    )
+        unread.short as u64,
+        b" date has a short year and is left empty: see --short-years\n",
+        b" dates have short years and are left empty: see --short-years\n",
+    );
+    let reasons = report_reasons(alloc, errors, name, &unread.reasons);
+    short && reasons
 }
 
 /// Reports what is known of a sheet beside the list of its names.
@@ -341,7 +286,14 @@ fn report_listed<E: Output>(
 ) -> bool
     ensures { Says E.Output errors.old errors.new result (lines_on (task_of job.now) name.now (Listed listed.now)) }
 {
-    let more = report_more(alloc, errors, name, listed.more);
+    let more = report_dates(
+        alloc,
+        errors,
+        name,
+        listed.more,
+        b" date has a name that is not among the first 1000, which are listed\n",
+        b" dates have names that are not among the first 1000, which are listed\n",
+    );
     let kept = report_kept(alloc, errors, name, &listed.unread);
     more && kept
 }
@@ -374,7 +326,14 @@ fn report_whole<E: Output>(
 ) -> bool
     ensures { Says E.Output errors.old errors.new result (lines_on (task_of job.now) name.now (Whole whole.now)) }
 {
-    let stopped = report_stopped(alloc, errors, name, whole.unread.stopped as u64);
+    let stopped = report_dates(
+        alloc,
+        errors,
+        name,
+        whole.unread.stopped as u64,
+        b" date has a name that is not known: --unknown lists it\n",
+        b" dates have names that are not known: --unknown lists them\n",
+    );
     let kept = report_kept(alloc, errors, name, &whole.unread);
     let counted = report_summary(alloc, errors, name, job, whole);
     stopped && kept && counted

@@ -2,7 +2,7 @@
 
 ghost use Rattle.std.specs.Prelude.{◌≡◌, ◌++◌, List, OnOk, codes};
 ghost use Rattle.csv.specs.Records.{fields_of};
-ghost use Rattle.register_sheets.specs.declared.name_lists.NameLine.{NameLine};
+ghost use Rattle.sheets.specs.declared.name_lists.NameLine.{NameLine};
 ghost use Rattle.sheet_arguments.specs.Requests.{Task};
 ghost use Rattle.sheet_app.specs.Columns.{IsMissing};
 ghost use Rattle.sheet_app.specs.private.Columns.{IsForWord};
@@ -13,7 +13,7 @@ ghost use Rattle.sheet_app.specs.SheetFaults.{IsOfColumns};
 use crate::columns::ColumnFault;
 use csv::ByteRecord;
 use register_records::OutputFault;
-use register_sheets::{SheetCause, field_at};
+use sheets::{SheetCause, field_at};
 use std::alloc::{AllocError, Global};
 
 /// How many names of a sheet are told.

@@ -8,8 +8,8 @@ use Rattle.programs.specs.declared.files.FilesFault.{FilesFault}
 use Rattle.programs.specs.declared.files.FilesFault.TheVariants as files_fault
 use Rattle.programs.specs.declared.requests.UsageFault.{UsageFault}
 use Rattle.programs.specs.declared.requests.UsageFault.TheVariants as usage_fault
-use Rattle.register_sheets.specs.Headings.{asked_name}
-use Rattle.register_sheets.specs.declared.choices.AskedColumn.{AskedColumn}
+use Rattle.sheets.specs.Headings.{asked_name}
+use Rattle.sheets.specs.declared.choices.AskedColumn.{AskedColumn}
 use Rattle.sheet_arguments.specs.declared.request_faults.RequestFault.{RequestFault}
 use Rattle.sheet_arguments.specs.declared.request_faults.RequestFault.TheVariants as request_fault
 

@@ -5,4 +5,5 @@ pub mod ThreeColumns
 pub mod CommandLine
 pub mod TreeValues
 pub mod Requests
+pub mod HelpPage
 pub mod private

@@ -8,10 +8,10 @@ use Rattle.programs.specs.Meanings.{Check, CommandLine, Meaning, file_check, opt
 use Rattle.programs.specs.Requests.{meaning_by}
 use Rattle.programs.specs.declared.requests.Request.{Request}
 use Rattle.programs.specs.Values.{IsValueOf, delimiter_option}
-use Rattle.register_sheets.specs.Choices.{date_limit}
-use Rattle.register_sheets.specs.declared.choices.AskedColumn.{AskedColumn}
-use Rattle.register_sheets.specs.declared.choices.Spans.{Spans}
-use Rattle.register_sheets.specs.declared.choices.Spans.TheVariants as spans_of
+use Rattle.sheets.specs.Choices.{date_limit}
+use Rattle.sheets.specs.declared.choices.AskedColumn.{AskedColumn}
+use Rattle.sheets.specs.declared.choices.Spans.{Spans}
+use Rattle.sheets.specs.declared.choices.Spans.TheVariants as spans_of
 use Rattle.written_dates.specs.declared.written.Choice.{Choice}
 use Rattle.sheet_arguments.specs.CommandLine.{Values, command_line, values_of}
 use Rattle.sheet_arguments.specs.Faults.{Fault, bad_short_hebrew_years, bad_short_other_years, bad_short_years}

@@ -7,9 +7,9 @@ use Rattle.date_texts.specs.Calendars.{all_targets}
 use Rattle.date_texts.specs.Trimmed.{trimmed}
 use Rattle.date_texts.specs.declared.target.Target.TheVariants as target
 use Rattle.date_texts.specs.declared.calendar.Calendar.TheVariants.{Gregorian}
-use Rattle.register_sheets.specs.Headings.{asked_name}
-use Rattle.register_sheets.specs.declared.choices.AskedColumn.{AskedColumn}
-use Rattle.register_sheets.specs.declared.choices.AskedColumn.TheVariants.{Cells, Church, DayNumber, Weekday}
+use Rattle.sheets.specs.Headings.{asked_name}
+use Rattle.sheets.specs.declared.choices.AskedColumn.{AskedColumn}
+use Rattle.sheets.specs.declared.choices.AskedColumn.TheVariants.{Cells, Church, DayNumber, Weekday}
 use Rattle.sheet_arguments.specs.Faults.{Fault, column_twice, unknown_column}
 
 -- goes on with what there is, or ends with the fault where there is nothing

@@ -1,14 +1,14 @@
 //! The columns that a list names.
 
 ghost use Rattle.std.specs.Prelude.{◌≡◌, [], Err, IfErr, IfOk, IfSome, Ok, option_map};
-ghost use Rattle.register_sheets.specs.Headings.{asked_name};
+ghost use Rattle.sheets.specs.Headings.{asked_name};
 ghost use Rattle.sheet_arguments.specs.Faults.{fault_of_error};
 ghost use Rattle.sheet_arguments.specs.WordLists.{column_named as named_spec, columns_asked, is_among as among_spec, names_in};
 ghost use Rattle.sheet_arguments.specs.WordLists.{with_columns};
 
 use crate::request_faults::{RequestFault, column_name};
 use date_texts::{Calendar, Target, target_named, trimmed};
-use register_sheets::AskedColumn;
+use sheets::AskedColumn;
 use std::alloc::Global;
 
 /// The columns without a list.

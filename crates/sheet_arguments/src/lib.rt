@@ -8,7 +8,7 @@ mod request_faults;
 mod requests;
 mod three_columns;
 
-pub use help::HELP;
+pub use help::{ARGUMENTS, HELP, page_of_help};
 pub use request_faults::RequestFault;
 pub use requests::{CalendarsAsked, Job, NAME, VERSION, command, read_request};
 pub use three_columns::ThreeColumns;

@@ -20,7 +20,7 @@ const LAST_CENTURY: usize = 2000;
 const CENTURY: usize = 100;
 
 /// The most records above the names.
-const MOST_ABOVE: usize = 99_999;
+pub(crate) const MOST_ABOVE: usize = 99_999;
 
 /// In which order three numbers stand, by `--order`.
 #[derive(Clone, Copy)]

@@ -2,12 +2,12 @@
 
 ghost use Rattle.std.specs.Prelude.{◌≡◌, ◌++◌, IfOk, IfSome};
 ghost use Rattle.std.specs.String.{string_bytes};
-ghost use Rattle.register_sheets.specs.Headings.{asked_name};
+ghost use Rattle.sheets.specs.Headings.{asked_name};
 ghost use Rattle.sheet_arguments.specs.Faults.{program_line};
 
 use crate::requests::NAME;
 use programs::{FilesFault, NOT_BEGUN, OUT_OF_MEMORY, REFUSED, UsageFault, clap_text, own_line};
-use register_sheets::AskedColumn;
+use sheets::AskedColumn;
 use std::alloc::{AllocError, Global};
 
 /// Why the arguments ask for nothing: what is wrong with them, or that memory ran out.

@@ -7,7 +7,7 @@ ghost use Rattle.clap.specs.Words.{app_of, found_of, rows_of};
 ghost use Rattle.programs.specs.FileLists.{AreFilesToConvert, IsFileFault};
 ghost use Rattle.programs.specs.Meanings.{FailFirst, wrong};
 ghost use Rattle.programs.specs.Values.{IsValueOf, delimiter_option};
-ghost use Rattle.register_sheets.specs.Choices.{date_limit};
+ghost use Rattle.sheets.specs.Choices.{date_limit};
 ghost use Rattle.sheet_arguments.specs.CommandLine.{command_line, values_of};
 ghost use Rattle.sheet_arguments.specs.Faults.{calendar_count, fault_of_error, file_twice, no_date, register_of_input};
 ghost use Rattle.sheet_arguments.specs.Faults.{too_many_dates, too_many_files};
@@ -23,6 +23,7 @@ ghost use Rattle.sheet_arguments.specs.Requests.{spans_asked as spans_spec, want
 ghost use Rattle.sheet_arguments.specs.private.Requests.{word_checks};
 
 use crate::column_lists::chosen_columns;
+use crate::help::ARGUMENTS;
 use crate::option_values::{
     chosen_delimiter, chosen_order, chosen_short_hebrew_years, chosen_short_other_years,
     chosen_short_years, chosen_skip,
@@ -31,10 +32,9 @@ use crate::request_faults::RequestFault;
 use crate::three_columns::{ThreeColumns, chosen_three};
 use clap::{ArgMatches, Command};
 use programs::{
-    Argument, Request, check_files, command_with, is_given, read_arguments, value_given,
-    values_given,
+    Request, check_files, command_with, is_given, read_arguments, value_given, values_given,
 };
-use register_sheets::{AskedColumn, MAX_DATES, Spans};
+use sheets::{AskedColumn, MAX_DATES, Spans};
 use std::alloc::{AllocError, Global};
 use written_dates::{Choice, Order, Short};
 
@@ -43,32 +43,6 @@ pub const NAME: &str = "register-sheet";
 
 /// The version of the program.
 pub const VERSION: &str = "1.2.0";
-
-/// The options and flags, and the files.
-const ARGUMENTS: [Argument<'static>; 22] = [
-    Argument::Flag("tree"),
-    Argument::Repeated("date", "COLUMN"),
-    Argument::Valued("three", "YEAR,MONTH,DAY"),
-    Argument::Repeated("calendar", "COLUMN"),
-    Argument::Repeated("all", "CALENDAR"),
-    Argument::Valued("else", "CALENDAR"),
-    Argument::Valued("id", "COLUMN"),
-    Argument::Valued("order", "year|day|month"),
-    Argument::Repeated("names", "FILE"),
-    Argument::Valued("short-years", "refuse|keep|CENTURY"),
-    Argument::Valued("short-hebrew-years", "refuse|keep|5000"),
-    Argument::Valued("short-other-years", "refuse|keep|CENTURY"),
-    Argument::Flag("charter-years"),
-    Argument::Valued("skip", "N"),
-    Argument::Valued("delimiter", "comma|semicolon|tab"),
-    Argument::Valued("to", "LIST"),
-    Argument::Flag("spans"),
-    Argument::Flag("edtf"),
-    Argument::Flag("register"),
-    Argument::Flag("unknown"),
-    Argument::Flag("summary"),
-    Argument::Files("file", "FILE"),
-];
 
 /// Where the calendars of the dates are: one for all columns of dates, or one for each.
 #[derive(Drop)]

@@ -105,7 +105,8 @@ pub fn signs_only_part()
     ensures { SignsOnlyPart }
 {}
 
-/// What is written for a text is written for itself, but where it is a date with a short year that is not kept.
+/// In a calendar whose dates are year, month and day: what is written for a text is written for itself, unless it is a date
+/// whose year is last, or is short and not kept.
 pub fn written_texts_stay()
     ensures { WrittenTextsStay }
 {}

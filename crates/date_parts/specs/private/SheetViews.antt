@@ -6,8 +6,8 @@ use Rattle.csv.specs.Writing.{writer_setup}
 use Rattle.csv.specs.declared.writer.Writer.{Writer}
 use Rattle.csv.specs.declared.writer.WriterBuilder.{WriterBuilder}
 use Rattle.register_records.specs.Entries.{Fields}
-use Rattle.register_sheets.specs.Sheets.{records_text}
-use Rattle.date_parts.specs.declared.sheets.JoinedSheet.{JoinedSheet}
+use Rattle.sheets.specs.Sheets.{records_text}
+use Rattle.date_parts.specs.declared.joined_sheets.JoinedSheet.{JoinedSheet}
 
 -- as csv writes by its defaults, with this delimiter and with records of any length
 abbrev pub writing : ℕ → WriterBuilder

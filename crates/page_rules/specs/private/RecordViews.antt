@@ -4,7 +4,7 @@ use Rattle.csv.specs.Writing.{default_writer, fields_written, has_written, with_
 use Rattle.csv.specs.Writing.{writer_setup, writer_under}
 use Rattle.csv.specs.declared.writer.WriterBuilder.{WriterBuilder}
 use Rattle.register_records.specs.Entries.{Fields}
-use Rattle.register_sheets.specs.Sheets.{records_text}
+use Rattle.sheets.specs.Sheets.{records_text}
 use Rattle.page_rules.specs.declared.lines.RecordLines.{RecordLines}
 
 -- as csv writes by its defaults, with this delimiter and with records of any length

@@ -1,4 +1,4 @@
-//! The examples in the doc comments of `page_rules`, `register_sheets` and `date_parts`, each under the name of its item.
+//! The examples in the doc comments of `page_rules`, `sheets` and `date_parts`, each under the name of its item.
 //! The lines are the same in both places.
 
 use date_parts::{DatePlaces, joined_sheet};

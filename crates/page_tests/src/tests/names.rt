@@ -1,7 +1,7 @@
 //! Lists of names.
 
 use date_texts::Calendar;
-use register_sheets::{Means, NameLine, NameList, NameListFault};
+use sheets::{Means, NameLine, NameList, NameListFault};
 use std::alloc::Global;
 use written_dates::{CalendarMeaning, Calendars, Mark, Meaning};
 

@@ -3,8 +3,8 @@
 ghost use Rattle.std.specs.Prelude.{⊤};
 
 use crate::tests::helpers::{Heard, NoFiles, ONE_RECORD, ONE_ROW, hear};
+use crate::tests::pages::page_of_help;
 use programs::{FileStore, LoggedWriter, Place};
-use register_arguments::HELP;
 use register_records::PlainOutput;
 use std::alloc::{AllocError, Global};
 use std::io;
@@ -315,13 +315,8 @@ fn standard_error_that_breaks_changes_neither_status_nor_tables(rt: HostRuntime)
     }
 }
 
-/// The arguments that ask for a page, and the page.
-static PAGES: [(&str, &str); 4] = [
-    ("--help", HELP),
-    ("-h", HELP),
-    ("--version", "register 1.2.0\n"),
-    ("-V", "register 1.2.0\n"),
-];
+/// The page of the version.
+const VERSION: &str = "register 1.2.0\n";
 
 const CANNOT_PRINT: &[u8] = b"register: cannot write to standard output\n";
 
@@ -362,7 +357,14 @@ fn is_printed_until(
 
 #[test]
 fn a_page_that_cannot_be_printed_is_reported(rt: HostRuntime) {
-    for (argument, page) in &PAGES {
+    let page_of_help = page_of_help(rt.alloc()).unwrap_or(String::new(rt.alloc()));
+    let help = page_of_help.as_str();
+    for (argument, page) in [
+        ("--help", help),
+        ("-h", help),
+        ("--version", VERSION),
+        ("-V", VERSION),
+    ] {
         let size = page.len();
         for (output, errors, status) in [
             (Break::After(0), NOWHERE, 1),
@@ -374,13 +376,7 @@ fn a_page_that_cannot_be_printed_is_reported(rt: HostRuntime) {
             (Break::After(size), Break::After(0), 0),
         ] {
             assert!(rt;
-                is_printed_until(
-                    &rt,
-                    rt.alloc(),
-                    (*argument, *page),
-                    (output, errors),
-                    status
-                ),
+                is_printed_until(&rt, rt.alloc(), (argument, page), (output, errors), status),
                 "{argument}, {output:?}"
             );
         }
@@ -388,7 +384,7 @@ fn a_page_that_cannot_be_printed_is_reported(rt: HostRuntime) {
         for room in 0..CANNOT_PRINT.len() {
             let places = (Break::After(0), Break::After(room));
             assert!(rt;
-                is_printed_until(&rt, rt.alloc(), (*argument, *page), places, 1),
+                is_printed_until(&rt, rt.alloc(), (argument, page), places, 1),
                 "{argument}, after {room}"
             );
         }
@@ -498,7 +494,10 @@ fn is_page_of_any_memory(
 // The same of a page.
 #[test]
 fn a_page_that_is_refused_memory_is_reported(rt: HostRuntime) {
-    for (argument, page) in [("--help", HELP), ("--version", "register 1.2.0\n")] {
+    let Some(help) = page_of_help(rt.alloc()) else {
+        return;
+    };
+    for (argument, page) in [("--help", help.as_str()), ("--version", VERSION)] {
         assert!(rt;
             is_page_of_any_memory(&rt, rt.alloc(), argument, page),
             "{argument}"

@@ -4,7 +4,7 @@ use Rattle.std.specs.declared.io.traits.Read as reads
 use Rattle.clap.specs.Words.{Text}
 use Rattle.programs.specs.Places.{place_name}
 use Rattle.register_records.specs.declared.outputs.Output as outputs
-use Rattle.register_sheets.specs.declared.name_lists.NameLine.{NameLine}
+use Rattle.sheets.specs.declared.name_lists.NameLine.{NameLine}
 use Rattle.sheet_arguments.specs.Requests.{Task}
 use Rattle.sheet_app.specs.private.FileSheets.{sheet_name}
 use Rattle.sheet_app.specs.declared.converting.EndedSheet.{EndedSheet}

@@ -1,39 +1,37 @@
 -- What clauses see of a sheet on its way.
-use Rattle.std.specs.Prelude.{◌≡◌, ◌==◌, ◌≤◌, ◌<◌, ◌⊎◌, ⊤, ℕ, Bool, Contains, List, Option, Result, Ok, Err, false}
+use Rattle.std.specs.Prelude.{◌≡◌, ◌==◌, ◌≤◌, ◌<◌, ◌⊎◌, ⊤, ℕ, Bool, Contains, List, Result, Ok, Err, false}
 use Rattle.std.specs.Prelude.{length, nat_lt, true}
 use Rattle.std.specs.Io.KnownBytes.{Appends}
 use Rattle.std.specs.String.{string_bytes}
 use Rattle.clap.specs.Words.{Text}
 use Rattle.register_records.specs.Entries.{record_limit}
-use Rattle.register_records.specs.SetupRules.{is_delimiter}
+use Rattle.register_records.specs.SetupRules.{NamesTwice, is_delimiter}
 use Rattle.register_records.specs.Sources.{Gains}
 use Rattle.register_records.specs.declared.outputs.Output as outputs
-use Rattle.register_sheets.specs.AskedOfSheets.{IsChoice, IsChoiceBy}
-use Rattle.register_sheets.specs.Choices.{date_limit}
-use Rattle.register_sheets.specs.Converted.{ArePartOfSheet, IsFullSheet, below}
-use Rattle.register_sheets.specs.declared.asked_of_sheets.AskedByNames.{AskedByNames}
-use Rattle.register_sheets.specs.declared.choices.SheetChoice.{SheetChoice}
-use Rattle.register_sheets.specs.declared.name_lists.NameLine.{NameLine}
-use Rattle.register_sheets.specs.declared.sheet_ends.SheetCause.{SheetCause}
+use Rattle.sheets.specs.AskedOfSheets.{IsChoice, IsChoiceBy}
+use Rattle.sheets.specs.Choices.{asked_targets, asks_twice, column_limit, date_limit}
+use Rattle.sheets.specs.Converted.{ArePartOfSheet, IsFullSheet, below, records_by}
+use Rattle.sheets.specs.declared.asked_of_sheets.AskedByNames.{AskedByNames}
+use Rattle.sheets.specs.declared.choices.SheetChoice.{SheetChoice}
+use Rattle.sheets.specs.declared.name_lists.NameLine.{NameLine}
+use Rattle.sheets.specs.declared.sheet_ends.SheetCause.{SheetCause}
 use Rattle.sheet_arguments.specs.Requests.{Task}
-use Rattle.sheet_arguments.specs.WordLists.{columns_asked}
 use Rattle.sheet_app.specs.CalendarWords.{SaysNothing}
 use Rattle.sheet_app.specs.SheetFaults.{fault_by}
-use Rattle.sheet_app.specs.Sheets.{AreRegistersBy, IsBroken, IsChoiceFor, IsEnded, IsSheetBy, records_by}
+use Rattle.sheet_app.specs.Sheets.{AreRegistersBy, IsBroken, IsChoiceFor, IsEnded, IsSheetBy}
 use Rattle.sheet_app.specs.declared.file_sheets.FileFault.{FileFault}
 use Rattle.sheet_app.specs.declared.file_sheets.FileFault.TheVariants as file_fault
 use Rattle.sheet_app.specs.declared.program_faults.ProgramFault.{ProgramFault}
 use Rattle.sheet_app.specs.declared.program_faults.ProgramFault.TheVariants as program_fault
 use Rattle.sheet_app.specs.declared.sheet_faults.SheetFault.{SheetFault}
 use Rattle.sheet_app.specs.declared.sheet_faults.SheetFault.TheVariants as fault
-use Rattle.sheet_app.specs.declared.sheets.SheetDone.{SheetDone}
-use Rattle.sheet_app.specs.declared.sheets.SheetDone.TheVariants as done
-use Rattle.sheet_app.specs.declared.sheets.WholeSheet.{WholeSheet}
+use Rattle.sheet_app.specs.declared.conversions.SheetDone.{SheetDone}
+use Rattle.sheet_app.specs.declared.conversions.SheetDone.TheVariants as done
+use Rattle.sheet_app.specs.declared.conversions.WholeSheet.{WholeSheet}
 
 -- a choice by what is known is what a task asks
 abbrev pub AsksFor : Task → List NameLine → List ℕ → AskedByNames → Type 0
-AsksFor task lines sheet known =
-    (choice : SheetChoice) → IsChoiceBy known choice → IsChoice choice → IsChoiceFor task lines sheet choice
+AsksFor task lines sheet known = (choice : SheetChoice) → IsChoiceBy known choice → IsChoiceFor task lines sheet choice
 
 -- how a sheet has ended, or why it broke off
 abbrev pub IsEndedBy : {W : Type 0} → outputs.Ghosts W → Task → List NameLine → ℕ → List ℕ → W → W → List W → List W
@@ -97,8 +95,9 @@ pub record IsTask (task : Task) : Type 0 where
   pub some_dates : (length task.dates == 0) ≡ false
   pub few_dates : nat_lt date_limit (length task.dates) ≡ false
   pub delimited : is_delimiter task.delimiter ≡ true
-  pub list : Option Text
-  pub columns : columns_asked list ≡ Ok task.columns
+  pub few_columns : nat_lt column_limit (length task.columns) ≡ false
+  pub once : asks_twice task.columns ≡ false
+  pub targets : ¬ (NamesTwice (asked_targets task.columns))
 
 -- memory ran out, or one of these words says nothing of the calendar of dates by the names of these lines
 abbrev pub IsOfWords : List NameLine → List Text → ProgramFault → Type 0

@@ -3,7 +3,7 @@ use Rattle.std.specs.Prelude.{◌≡◌, ◌==◌, ◌&&◌, Bool, false, List, 
 use Rattle.clap.specs.Words.{Text}
 use Rattle.programs.specs.Meanings.{Check, file_check, option_check}
 use Rattle.programs.specs.Values.{IsValueOf, delimiter_option}
-use Rattle.register_sheets.specs.Choices.{date_limit}
+use Rattle.sheets.specs.Choices.{date_limit}
 use Rattle.sheet_arguments.specs.CommandLine.{Values}
 use Rattle.sheet_arguments.specs.Faults.{Fault, bad_short_hebrew_years, bad_short_other_years, bad_short_years}
 use Rattle.sheet_arguments.specs.Faults.{bad_skip, file_twice, register_of_input, too_many_files, unknown_delimiter}

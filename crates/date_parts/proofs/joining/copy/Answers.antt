@@ -1,9 +1,9 @@
 use Rattle.std.proofs.Common.{◌≡◌, ◌∙◌, ap, arith, false, rules, subst, sym, true}
 use Rattle.std.specs.Prelude.{Ok}
 use Rattle.csv.specs.Records.{fields_of}
-use Rattle.register_sheets.specs.Reading.{left_of}
+use Rattle.sheets.specs.Reading.{left_of}
 use Rattle.date_parts.specs.private.SheetViews.{GainsRecords}
-use Rattle.register_sheets.proofs.ListLemmas.{all_taken, one_taken}
+use Rattle.sheets.proofs.ListLemmas.{all_taken, one_taken}
 use Rattle.date_parts.proofs.RecordLemmas.{gains_more}
 use Rattle.date_parts.proofs.joining.copy.Goals as goal
 

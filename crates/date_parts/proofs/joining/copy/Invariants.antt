@@ -1,5 +1,5 @@
 use Rattle.std.proofs.Common.{◌≡◌, drop, take}
-use Rattle.register_sheets.specs.Reading.{IsReading, left_of}
+use Rattle.sheets.specs.Reading.{IsReading, left_of}
 use Rattle.date_parts.specs.private.SheetViews.{GainsRecords}
 use Rattle.date_parts.proofs.joining.copy.Given as goal
 

@@ -2,7 +2,7 @@ use Rattle.std.proofs.Common.{◌≡◌, ◌∙◌, ap, drop, refl, rules, subst
 use Rattle.std.specs.Prelude.{List, Ok}
 use Rattle.register_records.specs.Entries.{Fields}
 use Rattle.date_parts.specs.JoinedDates.{dated_records}
-use Rattle.register_sheets.specs.Reading.{left_of}
+use Rattle.sheets.specs.Reading.{left_of}
 use Rattle.date_parts.specs.private.SheetViews.{GainsRecords}
 use Rattle.date_parts.proofs.RecordLemmas.{gains_dated, gains_more, then_ok}
 use Rattle.date_parts.proofs.joining.join_all.Goals as goal

@@ -1,7 +1,7 @@
 use Rattle.std.proofs.Common.{◌≡◌, ◌++◌, List, length, map}
 use Rattle.register_records.specs.Entries.{Fields}
 use Rattle.date_parts.specs.JoinedDates.{with_date}
-use Rattle.register_sheets.specs.Reading.{IsReading, left_of}
+use Rattle.sheets.specs.Reading.{IsReading, left_of}
 use Rattle.date_parts.specs.private.SheetViews.{GainsRecords}
 use Rattle.date_parts.proofs.joining.join_left.Given as goal
 

@@ -2,7 +2,7 @@ use Rattle.std.proofs.Common.{◌≡◌, ◌∙◌, ◌∷◌, [], ap, map, rule
 use Rattle.std.specs.Prelude.{Ok}
 use Rattle.csv.specs.Records.{fields_of}
 use Rattle.date_parts.specs.JoinedDates.{dated_records, heading_in, with_date, with_field}
-use Rattle.register_sheets.specs.Reading.{left_of}
+use Rattle.sheets.specs.Reading.{left_of}
 use Rattle.date_parts.proofs.RecordLemmas.{gains_dated, gains_more, then_ok}
 use Rattle.date_parts.proofs.joining.join_named.Goals as goal
 

@@ -1,8 +1,8 @@
 use Rattle.std.proofs.Common.{◌≡◌, ◌∙◌, ◌++◌, ℕ, List, ap, drop, refl, take}
 use Rattle.register_records.specs.Entries.{Fields, text_records}
 use Rattle.date_parts.specs.JoinedDates.{dated_records, joined_records}
-use Rattle.register_sheets.specs.Reading.{left_of}
-use Rattle.register_sheets.specs.Sheets.{records_text}
+use Rattle.sheets.specs.Reading.{left_of}
+use Rattle.sheets.specs.Sheets.{records_text}
 use Rattle.date_parts.specs.declared.places.DatePlaces.{DatePlaces}
 use Rattle.date_parts.proofs.RecordLemmas.{text_known}
 use Rattle.date_parts.proofs.joining.joined_sheet.Goals as goal

@@ -1,8 +1,8 @@
 use Rattle.std.proofs.Common.{◌≡◌, ◌∙◌, ap, arith, false, rules, sym, true}
 use Rattle.std.specs.Prelude.{Ok}
 use Rattle.csv.specs.Records.{fields_of}
-use Rattle.register_sheets.specs.Reading.{left_of}
-use Rattle.register_sheets.proofs.ListLemmas.{all_taken, one_taken}
+use Rattle.sheets.specs.Reading.{left_of}
+use Rattle.sheets.proofs.ListLemmas.{all_taken, one_taken}
 use Rattle.date_parts.proofs.joining.pass.Goals as goal
 
 pub passed-preserved : goal.passed-preserved

@@ -1,5 +1,5 @@
 use Rattle.std.proofs.Common.{◌≡◌, drop}
-use Rattle.register_sheets.specs.Reading.{IsReading, left_of}
+use Rattle.sheets.specs.Reading.{IsReading, left_of}
 use Rattle.date_parts.proofs.joining.pass.Given as goal
 
 abbrev pub invariant-passed : goal.invariant-passed

@@ -1,6 +1,6 @@
 use Rattle.std.proofs.Common.{◌≡◌, length, max}
-use Rattle.register_sheets.specs.Reading.{IsReading, left_of}
-use Rattle.register_sheets.specs.Sheets.{widest}
+use Rattle.sheets.specs.Reading.{IsReading, left_of}
+use Rattle.sheets.specs.Sheets.{widest}
 use Rattle.date_parts.proofs.joining.widest_left.Given as goal
 
 abbrev pub invariant-records : goal.invariant-records

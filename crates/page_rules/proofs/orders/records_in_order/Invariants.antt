@@ -1,7 +1,7 @@
 use Rattle.std.proofs.Common.{◌≡◌, ◌<◌, All, length, take}
 use Rattle.register_records.specs.Entries.{text_records}
 use Rattle.page_rules.specs.Orders.{records_at}
-use Rattle.register_sheets.specs.Sheets.{records_text}
+use Rattle.sheets.specs.Sheets.{records_text}
 use Rattle.page_rules.proofs.orders.records_in_order.Given as goal
 
 abbrev pub invariant-indices : goal.invariant-indices

@@ -2,7 +2,7 @@ use Rattle.std.proofs.Common.{◌≡◌, ◌∙◌, ◌-◌, ◌+◌, ◌++◌, 
 use Rattle.std.proofs.Common.{rules, sym}
 use Rattle.std.specs.Int.{div_ceil}
 use Rattle.csv.specs.Records.{fields_of}
-use Rattle.register_sheets.specs.Sheets.{records_text}
+use Rattle.sheets.specs.Sheets.{records_text}
 use Rattle.page_rules.proofs.writing.write.Goals as goal
 
 pub groups-preserved : goal.groups-preserved

@@ -13,7 +13,7 @@ use Rattle.register_app.proofs.program.answer.Goals as goal
 pub returns-in-Ok-Help-clause-answered : goal.returns-in-Ok-Help-clause-answered
 returns-in-Ok-Help-clause-answered g c = λ low.
     let just : MeanJust (map string_bytes c.args.arguments.now) help = search (rules, c.in-Ok-Help.ensures.asked) in
-    inl (_, inl (just, refl), c.answer_page.ensures.printed, c.answer_page.ensures.none)
+    inl (_, inl (just, c.page_of_help.ensures), c.answer_page.ensures.printed, c.answer_page.ensures.none)
 
 pub returns-in-Ok-Help-clause-refused : goal.returns-in-Ok-Help-clause-refused
 returns-in-Ok-Help-clause-refused g c = λ had.

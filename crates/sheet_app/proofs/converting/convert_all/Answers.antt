@@ -9,9 +9,10 @@ use Rattle.sheet_app.proofs.converting.convert_all.Goals as goal
 pub sheets-init : goal.sheets-init
 sheets-init g c =
     let iterator = c.into_iter-sheet-iterator.result in
-    let room : vec_len c.args.room + into_iter_len iterator ≤ vec_capacity c.args.room = search rules in
-    let items : into_iter_items iterator ≡ c.args.sheets.items = search rules in
-    let none : c.args.room.items ≡ [] = c.requires.none in
+    let files = c.args.files in
+    let room : vec_len files.room + into_iter_len iterator ≤ vec_capacity files.room = search rules in
+    let items : into_iter_items iterator ≡ files.sheets.items = search rules in
+    let none : files.room.items ≡ [] = files.none in
     record {
       room = room;
       ended = ([], items, rw none tt);

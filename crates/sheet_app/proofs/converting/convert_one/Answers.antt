@@ -11,6 +11,6 @@ returns-clause-ended g c =
     = with_items_is c.args.sheet.registers new (search (rules, places)) in
     record {
       named = refl;
-      converted = rw there (rw c.as_mut_slice.ensures.value at c.convert_source-done.ensures);
+      converted = rw there (rw c.as_mut_slice-files.ensures.value at c.convert_source-done.ensures);
       names = rw c.as_slice.ensures.value at c.give_names-are_named.ensures;
     }

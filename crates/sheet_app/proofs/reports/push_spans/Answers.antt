@@ -4,7 +4,7 @@ use Rattle.std.proofs.Common.{sym}
 use Rattle.sheet_app.proofs.Common.{DateCounts}
 use Rattle.std.specs.Fmt.{decimal}
 use Rattle.std.proofs.lemmas.List.{get_or-map, length-map}
-use Rattle.register_sheets.specs.DateCounts.{no_counts}
+use Rattle.sheets.specs.DateCounts.{no_counts}
 use Rattle.sheet_app.specs.Lines.{listed}
 use Rattle.sheet_app.proofs.LineLemmas.{shown, text_more}
 use Rattle.sheet_app.proofs.reports.push_spans.Goals as goal

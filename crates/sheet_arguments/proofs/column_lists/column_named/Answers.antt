@@ -1,7 +1,7 @@
 -- A name is looked for as that of the day, of the weekday, of the name of the day, and of a target.
 use Rattle.std.proofs.Common.{◌∙◌, ap, codes}
 use Rattle.date_texts.specs.Trimmed.{trimmed}
-use Rattle.register_sheets.specs.declared.choices.AskedColumn.TheVariants.{Cells}
+use Rattle.sheets.specs.declared.choices.AskedColumn.TheVariants.{Cells}
 use Rattle.sheet_arguments.proofs.WordLemmas.{column_by_name, no_column, never_called, not_called}
 use Rattle.sheet_arguments.proofs.column_lists.column_named.Goals as goal
 

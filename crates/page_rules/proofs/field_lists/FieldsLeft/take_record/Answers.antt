@@ -1,6 +1,6 @@
 use Rattle.std.proofs.Common.{◌≤◌, ◌∙◌, sym, arith}
 use Rattle.page_rules.specs.private.FieldViews.{fields_left}
-use Rattle.register_sheets.proofs.ListLemmas.{all_taken, one_taken}
+use Rattle.sheets.proofs.ListLemmas.{all_taken, one_taken}
 use Rattle.page_rules.proofs.field_lists.FieldsLeft.take_record.Goals as goal
 
 pub returns-in_default-clause-fields : goal.returns-in_default-clause-fields

@@ -1,6 +1,6 @@
 use Rattle.std.proofs.Common.{◌≡◌, ◌++◌, List, length}
 use Rattle.register_records.specs.Entries.{Fields, text_records}
-use Rattle.register_sheets.specs.Reading.{IsReading, left_of}
+use Rattle.sheets.specs.Reading.{IsReading, left_of}
 use Rattle.page_rules.specs.private.RecordViews.{HasLines}
 use Rattle.page_rules.proofs.lines.RecordLines.of.Given as goal
 

@@ -6,7 +6,7 @@ use Rattle.csv.specs.Writing.{row_text, writer_pending, writer_setup, writer_und
 use Rattle.csv.specs.declared.writer.QuoteStyle.TheVariants as style
 use Rattle.csv.specs.declared.writer.WriterBuilder.{WriterBuilder}
 use Rattle.register_records.specs.Lines.{line_text}
-use Rattle.register_sheets.specs.Sheets.{records_text}
+use Rattle.sheets.specs.Sheets.{records_text}
 use Rattle.page_rules.proofs.LineLemmas.{all_out, more_bounds, more_text, of_ok, same_line}
 use Rattle.page_rules.proofs.lines.RecordLines.push.Goals as goal
 

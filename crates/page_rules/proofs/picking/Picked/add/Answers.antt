@@ -2,8 +2,8 @@ use Rattle.std.proofs.Common.{◌∙◌, [], ◌∷◌, length, length-append, r
 use Rattle.std.proofs.lemmas.List.{map-append}
 use Rattle.std.proofs.lemmas.List.Folds.{concat-append}
 use Rattle.csv.specs.Records.{fields_of}
-use Rattle.register_sheets.specs.Sheets.{chosen}
-use Rattle.register_sheets.proofs.SheetLemmas.{widest_more}
+use Rattle.sheets.specs.Sheets.{chosen}
+use Rattle.sheets.proofs.SheetLemmas.{widest_more}
 use Rattle.page_rules.specs.Picks.{all_chosen}
 use Rattle.page_rules.proofs.PickLemmas.{all_more_chosen}
 use Rattle.page_rules.proofs.picking.Picked.add.Goals as goal

@@ -1,8 +1,8 @@
 use Rattle.std.proofs.Common.{◌≡◌, ◌∙◌, ◌-◌, ◌+◌, [], ◌∷◌, ◌++◌, suc, append_assoc, ap, arith, length-append, rules}
 use Rattle.std.proofs.Common.{true, Ok, ℕ, refl, take}
-use Rattle.register_sheets.specs.Reading.{left_of}
+use Rattle.sheets.specs.Reading.{left_of}
 use Rattle.page_rules.specs.declared.picking.PickFault.TheVariants.{LongField, OutOfMemory}
-use Rattle.register_sheets.proofs.SendingLemmas.{no_value}
+use Rattle.sheets.proofs.SendingLemmas.{no_value}
 use Rattle.csv.specs.Records.{fields_of}
 use Rattle.register_records.proofs.StepLemmas.{passed_on}
 use Rattle.page_rules.proofs.PickLemmas.{long_among}

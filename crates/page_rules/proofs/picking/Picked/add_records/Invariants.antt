@@ -1,6 +1,6 @@
 use Rattle.std.proofs.Common.{◌≡◌, ◌-◌, ◌++◌, List, length, take}
 use Rattle.register_records.specs.Entries.{Fields}
-use Rattle.register_sheets.specs.Reading.{IsReading, left_of}
+use Rattle.sheets.specs.Reading.{IsReading, left_of}
 use Rattle.page_rules.specs.Picks.{IsPicked}
 use Rattle.page_rules.proofs.picking.Picked.add_records.Given as goal
 

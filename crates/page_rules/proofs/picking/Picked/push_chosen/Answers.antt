@@ -2,10 +2,10 @@ use Rattle.std.proofs.Common.{◌^◌, ◌≤◌, arith, [], get_or, subst, ◌�
 use Rattle.std.specs.List.{concat}
 use Rattle.std.proofs.lemmas.List.{get_or-map, length-map}
 use Rattle.register_records.proofs.StepLemmas.{passed_on}
-use Rattle.register_sheets.proofs.SendingLemmas.{no_value}
+use Rattle.sheets.proofs.SendingLemmas.{no_value}
 use Rattle.csv.specs.Records.{fields_of}
 use Rattle.register_records.specs.Entries.{Fields}
-use Rattle.register_sheets.specs.Sheets.{chosen}
+use Rattle.sheets.specs.Sheets.{chosen}
 use Rattle.page_rules.proofs.PickLemmas.{one_chosen, one_more_bytes, one_more_length}
 use Rattle.page_rules.proofs.picking.Picked.push_chosen.Goals as goal
 

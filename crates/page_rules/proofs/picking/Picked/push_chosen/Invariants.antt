@@ -1,7 +1,7 @@
 use Rattle.std.proofs.Common.{◌≡◌, ◌++◌, length, map, take}
 use Rattle.std.specs.List.{concat}
 use Rattle.csv.specs.Records.{fields_of}
-use Rattle.register_sheets.specs.Sheets.{chosen}
+use Rattle.sheets.specs.Sheets.{chosen}
 use Rattle.page_rules.proofs.picking.Picked.push_chosen.Given as goal
 
 abbrev pub invariant-places : goal.invariant-places

@@ -1,5 +1,0 @@
-use Rattle.register_sheets.proofs.UndatedLemmas.{undated_is_not_unread}
-use Rattle.register_sheets.proofs.laws.undated_is_not_unread.Goals as goal
-
-pub returns : goal.returns
-returns c = undated_is_not_unread

@@ -1,6 +1,0 @@
-use Rattle.std.proofs.Common.{[], replicate}
-use Rattle.register_sheets.proofs.Common.{GainsFields}
-use Rattle.register_sheets.proofs.lines.SheetLines.push_empty.Given as goal
-
-abbrev pub invariant-fields : goal.invariant-fields
-invariant-fields l = GainsFields (replicate l.counter []) l.fn.self l.self

@@ -1,5 +1,0 @@
-use Rattle.std.proofs.Common.{◌≡◌, length}
-use Rattle.register_sheets.proofs.sheet_records.SheetRecord.blank.Given as goal
-
-abbrev pub invariant-columns : goal.invariant-columns
-invariant-columns l = length l.columns.items ≡ l.counter

@@ -1,9 +1,0 @@
-use Rattle.std.proofs.Common.{◌≡◌, false, map, take}
-use Rattle.register_sheets.proofs.Common.{list_any, is_alike}
-use Rattle.register_sheets.specs.UnknownViews.{name_seen}
-use Rattle.register_sheets.specs.private.UnknownViews.{named}
-use Rattle.register_sheets.proofs.stopped_names.StoppedNames.place_of.Given as goal
-
-abbrev pub invariant-names : goal.invariant-names
-invariant-names l =
-    list_any (λ name. is_alike name (name_seen l.stop)) (take l.place (map named l.self.listed.items)) ≡ false

@@ -1,0 +1,33 @@
+use Rattle.std.proofs.Common.{◌≡◌, ◌≤◌, ◌∙◌, None, Some, ap, length, rules, subst, sym, OnOk, slice_get}
+use Rattle.sheets.proofs.Common.{Fields, GainsFields, date_seen, record_read, ColumnDates}
+use Rattle.std.proofs.lemmas.Option.{slice_get-get_or}
+use Rattle.sheets.specs.private.RecordLines.{if_dated}
+use Rattle.sheets.proofs.LineLemmas.{none_gained}
+use Rattle.sheets.proofs.RowLemmas.{none_behind, none_seen, seen_at}
+use Rattle.sheets.proofs.record_lines.EntryLineRecordLine.push.Goals as goal
+
+pub returns-in-Some : goal.returns-in-Some
+returns-in-Some c =
+    let choice = c.args.setup.now.choice in
+    let read = record_read c.args.of_sheet.now in
+    let place = c.args.self.now.place in
+    let end = c.args.self.now.end in
+    let columns = c.args.of_sheet.now.columns.items in
+    let dates = c.in-Some.dates.now in
+    let found = rw c.deref.ensures.value at c.in-Some.ensures.lookup in
+    let there : slice_get columns place ≡ Some dates
+    = slice_get-get_or columns place dates found.3.0 ∙ ap (λ (d : ColumnDates). Some d) (sym found.1) in
+    subst (λ (fields : Fields). OnOk c.push_entry.result (GainsFields fields c.args.lines.now c.push_entry.new.lines))
+    (sym (ap (if_dated choice read end) (seen_at date_seen columns place c.in-Some.dates.now there))) c.push_entry.ensures
+
+pub returns-in-None : goal.returns-in-None
+returns-in-None c =
+    let choice = c.args.setup.now.choice in
+    let read = record_read c.args.of_sheet.now in
+    let place = c.args.self.now.place in
+    let end = c.args.self.now.end in
+    let columns = c.args.of_sheet.now.columns.items in
+    let past : length columns ≤ place = search rules in
+    let none : slice_get columns place ≡ None = none_behind columns place past in
+    subst (λ (fields : Fields). GainsFields fields c.args.lines.now c.args.lines.now)
+    (sym (ap (if_dated choice read end) (none_seen date_seen columns place none))) (none_gained c.args.lines.now)

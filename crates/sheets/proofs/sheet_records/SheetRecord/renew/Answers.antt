@@ -1,0 +1,34 @@
+use Rattle.std.proofs.Common.{None, ◌<◌, ◌∙◌, ◌+◌, List, arith, length, length-set, subst, sym, take}
+use Rattle.sheets.proofs.Common.{AllZip, fields_of, DateRead, IsDateRead, date_seen, DateColumn, ColumnDates}
+use Rattle.sheets.specs.declared.choices.CalendarField.TheVariants.{Column}
+use Rattle.sheets.proofs.ReadingLemmas.{set_more}
+use Rattle.sheets.proofs.RowLemmas.{zip_at}
+use Rattle.sheets.proofs.sheet_records.SheetRecord.renew.Goals as goal
+
+abbrev none : DateColumn
+none = record { date = 0; calendar = Column (record { place = 0; otherwise = None }) }
+
+pub dates-preserved : goal.dates-preserved
+dates-preserved c =
+    let inv = c.dates.invariant in
+    let place = c.dates.place in
+    let choice = c.args.setup.now.choice in
+    let dates = choice.dates.now in
+    let R : DateColumn → DateRead → Type 0 = IsDateRead choice c.args.number (fields_of c.args.self.now.fields) in
+    let column : ColumnDates = c.renew.new.self in
+    let low : place < length c.dates.self.columns.items = omega (
+      arith,
+      inv.count,
+      c.requires.count,
+      c.dates-test.true,
+      c.dates.self.columns.ok,
+    ) in
+    record {
+      count = length-set c.dates.self.columns.items place column ∙ inv.count;
+      fields = inv.fields;
+      number = inv.number;
+      dates = subst (λ (ys : List DateRead). AllZip R (take (place + 1) dates) ys)
+          (sym (set_more date_seen c.dates.self.columns.items place column low))
+          (zip_at R dates _ place none (date_seen column) c.dates-test.true inv.dates (rw inv.fields at
+          c.in_ok-renew.ensures));
+    }

@@ -1,16 +1,16 @@
 //! Texts, and what is written for them, a line of a table each.
 
 mod dates;
+mod lists;
 mod span_table;
 mod spans;
 
-use church_year::{Anchor, Feast, Season};
-use date_texts::{Calendar, calendar_named};
-use day_numbers::Weekday;
-use std::alloc::{AllocError, Global};
+use date_texts::Calendar;
+use lists::{choice_on, names_in};
+use std::alloc::Global;
 use written_dates::{
-    Calendars, Choice, Era, Mark, Meaning, Name, Names, Order, Relation, Short, Stop,
-    date_beside_weekday, is_name, roman_number, stop_of, unknown_word, write_date,
+    Choice, Names, Order, Short, Stop, date_beside_weekday, is_name, roman_number, stop_of,
+    unknown_word, write_date,
 };
 
 /// Names: a text, what it means, and the calendars in which it does, none for all.
@@ -122,145 +122,6 @@ die|day|
 day|day|
 Tag des|day|
 ";
-
-/// The number that a text is, or 0.
-fn number_of(text: &str) -> u32 {
-    match text.parse() {
-        Ok(number) => number,
-        Err(_) => 0,
-    }
-}
-
-/// The days from Easter that a text is, or 0.
-fn days_of(text: &str) -> i16 {
-    match text.parse() {
-        Ok(days) => days,
-        Err(_) => 0,
-    }
-}
-
-fn weekday_of(number: u32) -> Weekday {
-    match number {
-        0 => Weekday::Sunday,
-        1 => Weekday::Monday,
-        2 => Weekday::Tuesday,
-        3 => Weekday::Wednesday,
-        4 => Weekday::Thursday,
-        5 => Weekday::Friday,
-        _ => Weekday::Saturday,
-    }
-}
-
-fn meaning_of(text: &str) -> Meaning {
-    if let Some(number) = text.strip_prefix("month ") {
-        return Meaning::Month((number_of(number) & 0xFF) as u8);
-    }
-    if let Some(days) = text.strip_prefix("easter ") {
-        return Meaning::Feast(Feast::Day(Anchor::Easter, days_of(days)));
-    }
-    if let Some(day) = text.strip_prefix("feast ") {
-        if let Some((month, day)) = day.split_once('-') {
-            let month = (number_of(month) & 0xFF) as u8;
-            let day = (number_of(day) & 0xFF) as u8;
-            return Meaning::Feast(Feast::Day(Anchor::Fixed(month, day), 0));
-        }
-    }
-    if let Some(number) = text.strip_prefix("decade ") {
-        return Meaning::DecadeDay((number_of(number) & 0xFF) as u8);
-    }
-    if let Some(number) = text.strip_prefix("weekday ") {
-        return Meaning::Weekday(weekday_of(number_of(number)));
-    }
-    match text {
-        "sundays advent" => Meaning::Sundays(Season::Advent),
-        "after" => Meaning::Relation(Relation::After),
-        "before" => Meaning::Relation(Relation::Before),
-        "eve" => Meaning::Relation(Relation::Eve),
-        "morrow" => Meaning::Relation(Relation::Morrow),
-        "octave" => Meaning::Relation(Relation::Octave),
-        "" => Meaning::Nothing,
-        "year" => Meaning::YearWord(Era::Calendar),
-        "spanish" => Meaning::YearWord(Era::Spanish),
-        "creation" => Meaning::YearWord(Era::Creation),
-        "day" => Meaning::DayWord,
-        "K" => Meaning::Mark(Mark::Kalends),
-        "N" => Meaning::Mark(Mark::Nones),
-        "I" => Meaning::Mark(Mark::Ides),
-        _ => Meaning::Number(number_of(text)),
-    }
-}
-
-fn calendars_of(text: &str) -> Calendars {
-    if text.is_empty() {
-        return Calendars::ALL;
-    }
-    let mut calendars = Calendars::NONE;
-    for word in text.split(' ') {
-        if let Some(calendar) = calendar_named(word) {
-            calendars = calendars.with(calendar);
-        }
-    }
-    calendars
-}
-
-/// The name on a line.
-fn name_on(line: &str) -> Option<Name<'_>> {
-    let mut fields = line.split('|');
-    let text = fields.next()?.as_bytes();
-    let meaning = meaning_of(fields.next()?);
-    let calendars = calendars_of(fields.next()?);
-    Some(Name {
-        text,
-        meaning,
-        calendars,
-    })
-}
-
-/// The names of a list, with this sign between them.
-fn names_in(alloc: Global, list: &str, between: char) -> Result<Vec<Name<'_>>, AllocError> {
-    let mut names = Vec::new(alloc);
-    for line in list.split(between) {
-        if let Some(name) = name_on(line) {
-            names.push(name)?;
-        }
-    }
-    Ok(names)
-}
-
-/// What is done with short years, by its name or a number to add.
-fn short_named(text: &str) -> Short {
-    match text {
-        "refuse" => Short::Refuse,
-        "keep" => Short::Keep,
-        _ => match text.parse() {
-            Ok(more) => Short::Add(more),
-            Err(_) => Short::Refuse,
-        },
-    }
-}
-
-/// The calendar and the choice of a line behind its sign.
-fn choice_on(line: &str) -> Option<(Option<Calendar>, Choice)> {
-    let mut words = line.split(' ');
-    let name = words.next()?;
-    let calendar = calendar_named(name);
-    let order = match words.next()? {
-        "year" => Order::YearFirst,
-        "day" => Order::DayFirst,
-        _ => Order::MonthFirst,
-    };
-    let short_years = short_named(words.next()?);
-    let short_hebrew_years = short_named(words.next()?);
-    let charters = words.next()? == "charters";
-    let choice = Choice {
-        order,
-        short_years,
-        short_hebrew_years,
-        short_other_years: words.next().map(short_named).unwrap_or(Short::Refuse),
-        charters,
-    };
-    Some((calendar, choice))
-}
 
 /// Whether the text on a line is written as the line says.
 fn is_written(

@@ -1,8 +1,9 @@
 //! Sheets whose dates have a first and a last day. Days are those of Python's `datetime`; what is read of each date, its
 //! mark and its text of EDTF were worked out by hand.
 
-use super::table::{Case, DATE_0_IN_1, DAY_AND_GREGORIAN, DAY_FIRST, converted, is_whole};
+use super::table::{Case, DATE_0_IN_1, DAY_AND_GREGORIAN, DAY_FIRST, end_as_wanted};
 use sheets::{SheetEnd, Spans, UnreadDates};
+use std::alloc::Global;
 use std::test::Fail;
 
 const ENDS: Case = Case {
@@ -116,35 +117,29 @@ const UNDATED: Case = Case {
     counts: &[(5, 0)],
 };
 
-/// How many dates of the first column are no single day.
-fn spans_of(end: SheetEnd) -> usize {
-    match end {
-        SheetEnd::Whole { counts, .. } => counts.dates[0].spans,
-        SheetEnd::Broken { .. } => 0,
+/// How many dates of the first column are no single day, of a sheet that comes back as wanted.
+fn spans_of(alloc: Global, case: &Case) -> Result<Option<usize>, Fail> {
+    match end_as_wanted(alloc, case)? {
+        Some(SheetEnd::Whole { counts, .. }) => Ok(Some(counts.dates[0].spans)),
+        _ => Ok(None),
     }
 }
 
 #[test]
 fn first_and_last_days(rt: HostRuntime) -> Result<(), Fail> {
-    let (text, end) = converted(rt.alloc(), &ENDS)?;
-    assert!(rt; text.as_slice() == ENDS.wanted.as_bytes());
-    assert!(rt; is_whole(end, &ENDS) && spans_of(end) == 6);
+    assert!(rt; spans_of(rt.alloc(), &ENDS)? == Some(6));
     Ok(())
 }
 
 #[test]
 fn parts_of_years_and_whole_centuries(rt: HostRuntime) -> Result<(), Fail> {
-    let (text, end) = converted(rt.alloc(), &PARTS)?;
-    assert!(rt; text.as_slice() == PARTS.wanted.as_bytes());
-    assert!(rt; is_whole(end, &PARTS) && spans_of(end) == 5);
+    assert!(rt; spans_of(rt.alloc(), &PARTS)? == Some(5));
     Ok(())
 }
 
 #[test]
 fn dates_in_both_styles(rt: HostRuntime) -> Result<(), Fail> {
-    let (text, end) = converted(rt.alloc(), &BOTH_STYLES)?;
-    assert!(rt; text.as_slice() == BOTH_STYLES.wanted.as_bytes());
-    assert!(rt; is_whole(end, &BOTH_STYLES) && spans_of(end) == 0);
+    assert!(rt; spans_of(rt.alloc(), &BOTH_STYLES)? == Some(0));
     Ok(())
 }
 
@@ -158,20 +153,16 @@ fn is_unread(unread: UnreadDates) -> bool {
 
 #[test]
 fn texts_that_say_no_date(rt: HostRuntime) -> Result<(), Fail> {
-    let (text, end) = converted(rt.alloc(), &UNDATED)?;
-    assert!(rt; text.as_slice() == UNDATED.wanted.as_bytes());
-    assert!(rt; is_whole(end, &UNDATED) && spans_of(end) == 0);
-    match end {
-        SheetEnd::Whole { unread, .. } => assert!(rt; is_unread(unread)),
-        SheetEnd::Broken { .. } => assert!(rt; false),
+    assert!(rt; spans_of(rt.alloc(), &UNDATED)? == Some(0));
+    match end_as_wanted(rt.alloc(), &UNDATED)? {
+        Some(SheetEnd::Whole { unread, .. }) => assert!(rt; is_unread(unread)),
+        _ => assert!(rt; false),
     }
     Ok(())
 }
 
 #[test]
 fn texts_of_edtf(rt: HostRuntime) -> Result<(), Fail> {
-    let (text, end) = converted(rt.alloc(), &WITH_EDTF)?;
-    assert!(rt; text.as_slice() == WITH_EDTF.wanted.as_bytes());
-    assert!(rt; is_whole(end, &WITH_EDTF) && spans_of(end) == 5);
+    assert!(rt; spans_of(rt.alloc(), &WITH_EDTF)? == Some(5));
     Ok(())
 }

@@ -570,7 +570,7 @@ fn are_counts(counts: &SheetCounts, wanted: &[(usize, usize)]) -> bool {
 }
 
 /// Whether a sheet ended whole, with so many records, and these counts of its dates.
-pub(super) fn is_whole(end: SheetEnd, case: &Case) -> bool {
+fn is_whole(end: SheetEnd, case: &Case) -> bool {
     match end {
         SheetEnd::Whole { rows, counts, .. } => {
             rows == case.rows && are_counts(&counts, case.counts)
@@ -579,22 +579,33 @@ pub(super) fn is_whole(end: SheetEnd, case: &Case) -> bool {
     }
 }
 
+/// How a sheet ended that comes back as wanted, whole, with its number of records and counts of its dates.
+pub(super) fn end_as_wanted(alloc: Global, case: &Case) -> Result<Option<SheetEnd>, Fail> {
+    let (text, end) = converted(alloc, case)?;
+    let is_wanted = text.as_slice() == case.wanted.as_bytes() && is_whole(end, case);
+    Ok(if is_wanted { Some(end) } else { None })
+}
+
+/// The first sheet that does not come back so.
+pub(super) fn wrong_sheet<'a>(alloc: Global, cases: &'a [Case]) -> Result<Option<&'a str>, Fail> {
+    for case in cases {
+        if end_as_wanted(alloc, case)?.is_none() {
+            return Ok(Some(case.sheet));
+        }
+    }
+    Ok(None)
+}
+
 #[test]
 fn sheets_come_back_with_the_columns_asked(rt: HostRuntime) -> Result<(), Fail> {
-    for case in &CASES {
-        let (text, end) = converted(rt.alloc(), case)?;
-        assert!(rt; text.as_slice() == case.wanted.as_bytes());
-        assert!(rt; is_whole(end, case));
-    }
+    let wrong = wrong_sheet(rt.alloc(), &CASES)?;
+    assert!(rt; wrong.is_none(), "at {wrong:?}");
     Ok(())
 }
 
 #[test]
 fn other_sheets_come_back_with_the_columns_asked(rt: HostRuntime) -> Result<(), Fail> {
-    for case in &OTHER_CASES {
-        let (text, end) = converted(rt.alloc(), case)?;
-        assert!(rt; text.as_slice() == case.wanted.as_bytes());
-        assert!(rt; is_whole(end, case));
-    }
+    let wrong = wrong_sheet(rt.alloc(), &OTHER_CASES)?;
+    assert!(rt; wrong.is_none(), "at {wrong:?}");
     Ok(())
 }

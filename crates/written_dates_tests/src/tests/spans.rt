@@ -1,11 +1,12 @@
 //! Texts, and the first and the last day that each can mean, by a table.
 
+use super::lists::{choice_on, names_in};
 use super::span_table::SPANS;
 use date_spans::{Kind, Marks, Numbers, date_in_both, write_in_both, write_span};
-use date_texts::{Calendar, calendar_named};
-use day_numbers::Weekday;
-use std::alloc::{AllocError, Global};
-use written_dates::{Calendars, Choice, Era, Meaning, Name, Names, Order, Relation, Short, Word};
+use date_texts::Calendar;
+use std::alloc::Global;
+use std::test::Fail;
+use written_dates::{Choice, Names, Order, Short};
 
 /// Names: a text, what it means, and the calendars in which it does, none for all.
 const NAMES: &str = "\
@@ -77,124 +78,6 @@ Tag|day|
 12ten|12|
 14ten|14|
 ";
-
-/// The number that a text is, or 0.
-fn number_of(text: &str) -> u32 {
-    match text.parse() {
-        Ok(number) => number,
-        Err(_) => 0,
-    }
-}
-
-fn meaning_of(text: &str) -> Meaning {
-    if let Some(number) = text.strip_prefix("month ") {
-        return Meaning::Month((number_of(number) & 0xFF) as u8);
-    }
-    match text {
-        "" => Meaning::Nothing,
-        "adar" => Meaning::Adar,
-        "year" => Meaning::YearWord(Era::Calendar),
-        "spanish" => Meaning::YearWord(Era::Spanish),
-        "creation" => Meaning::YearWord(Era::Creation),
-        "months 3-5" => Meaning::Months(3, 5),
-        "months 4-9" => Meaning::Months(4, 9),
-        "months 9-11" => Meaning::Months(9, 11),
-        "century 0" => Meaning::Century(0),
-        "century 1" => Meaning::Century(1),
-        "part 1/2" => Meaning::Part(1, 2),
-        "part 1/3" => Meaning::Part(1, 3),
-        "part 2/3" => Meaning::Part(2, 3),
-        "part 3/3" => Meaning::Part(3, 3),
-        "part 4/4" => Meaning::Part(4, 4),
-        "last day" => Meaning::LastDay,
-        "decade" => Meaning::Decade,
-        "undated" => Meaning::Word(Word::Undated),
-        "day" => Meaning::DayWord,
-        "weekday 0" => Meaning::Weekday(Weekday::Sunday),
-        "weekday 1" => Meaning::Weekday(Weekday::Monday),
-        "weekday 2" => Meaning::Weekday(Weekday::Tuesday),
-        "weekday 3" => Meaning::Weekday(Weekday::Wednesday),
-        "before" => Meaning::Relation(Relation::Before),
-        "after" => Meaning::Relation(Relation::After),
-        "about" => Meaning::Word(Word::About),
-        "from" => Meaning::Word(Word::From),
-        "to" => Meaning::Word(Word::To),
-        "between" => Meaning::Word(Word::Between),
-        "and" => Meaning::Word(Word::And),
-        _ => Meaning::Number(number_of(text)),
-    }
-}
-
-fn calendars_of(text: &str) -> Calendars {
-    if text.is_empty() {
-        return Calendars::ALL;
-    }
-    let mut calendars = Calendars::NONE;
-    for word in text.split(' ') {
-        if let Some(calendar) = calendar_named(word) {
-            calendars = calendars.with(calendar);
-        }
-    }
-    calendars
-}
-
-/// The name on a line.
-fn name_on(line: &str) -> Option<Name<'_>> {
-    let mut fields = line.split('|');
-    let text = fields.next()?.as_bytes();
-    let meaning = meaning_of(fields.next()?);
-    let calendars = calendars_of(fields.next()?);
-    Some(Name {
-        text,
-        meaning,
-        calendars,
-    })
-}
-
-/// The names of a list.
-fn names_in(alloc: Global, list: &str) -> Result<Vec<Name<'_>>, AllocError> {
-    let mut names = Vec::new(alloc);
-    for line in list.lines() {
-        if let Some(name) = name_on(line) {
-            names.push(name)?;
-        }
-    }
-    Ok(names)
-}
-
-/// What is done with short years, by its name or a number to add.
-fn short_named(text: &str) -> Short {
-    match text {
-        "refuse" => Short::Refuse,
-        "keep" => Short::Keep,
-        _ => match text.parse() {
-            Ok(more) => Short::Add(more),
-            Err(_) => Short::Refuse,
-        },
-    }
-}
-
-/// The calendar and the choice of a line behind its sign.
-fn choice_on(line: &str) -> Option<(Option<Calendar>, Choice)> {
-    let mut words = line.split(' ');
-    let name = words.next()?;
-    let calendar = calendar_named(name);
-    let order = match words.next()? {
-        "year" => Order::YearFirst,
-        "day" => Order::DayFirst,
-        _ => Order::MonthFirst,
-    };
-    let short_years = short_named(words.next()?);
-    let short_hebrew_years = short_named(words.next()?);
-    let choice = Choice {
-        order,
-        short_years,
-        short_hebrew_years,
-        short_other_years: Short::Refuse,
-        charters: false,
-    };
-    Some((calendar, choice))
-}
 
 /// The word of a kind in front of marks, and what is behind it.
 fn kind_in(text: &str) -> (Kind, &str) {
@@ -275,15 +158,12 @@ fn wrong_line<'a>(alloc: Global, names: &Names, lines: &'a str) -> Option<&'a st
 }
 
 #[test]
-fn texts_have_spans(rt: HostRuntime) {
-    let Ok(listed) = names_in(rt.alloc(), NAMES) else {
-        return;
-    };
-    let Ok(names) = Names::layered(rt.alloc(), listed.as_slice()) else {
-        return;
-    };
+fn texts_have_spans(rt: HostRuntime) -> Result<(), Fail> {
+    let listed = names_in(rt.alloc(), NAMES, '\n')?;
+    let names = Names::layered(rt.alloc(), listed.as_slice())?;
     let wrong = wrong_line(rt.alloc(), &names, SPANS);
     assert!(rt; wrong.is_none(), "at {wrong:?}");
+    Ok(())
 }
 
 /// Days in both styles, and the Gregorian date of each.
@@ -331,13 +211,9 @@ fn is_written(
 }
 
 #[test]
-fn texts_have_both_styles(rt: HostRuntime) {
-    let Ok(listed) = names_in(rt.alloc(), NAMES) else {
-        return;
-    };
-    let Ok(names) = Names::layered(rt.alloc(), listed.as_slice()) else {
-        return;
-    };
+fn texts_have_both_styles(rt: HostRuntime) -> Result<(), Fail> {
+    let listed = names_in(rt.alloc(), NAMES, '\n')?;
+    let names = Names::layered(rt.alloc(), listed.as_slice())?;
     let choice = Choice {
         order: Order::DayFirst,
         short_years: Short::Refuse,
@@ -353,4 +229,5 @@ fn texts_have_both_styles(rt: HostRuntime) {
             "at {text:?}"
         );
     }
+    Ok(())
 }

@@ -1,5 +1,5 @@
 -- What the arguments ask for.
-use Rattle.std.specs.Prelude.{◌≡◌, ℕ, Bool, List, [], ◌∷◌, map, if◌then◌else◌, Option, Some, None, option_map, length}
+use Rattle.std.specs.Prelude.{◌≡◌, ℕ, Bool, List, [], ◌∷◌, codes, map, if◌then◌else◌, Option, Some, None, option_map, length}
 use Rattle.std.specs.Prelude.{unwrap_or}
 use Rattle.clap.specs.Words.{Text}
 use Rattle.date_texts.specs.Calendars.{default_targets}
@@ -11,6 +11,7 @@ use Rattle.register_records.specs.Tables.{Layout}
 use Rattle.register_records.specs.Views.{layout_of, reading_of}
 use Rattle.register_records.specs.declared.setups.Form.TheVariants.{Plain, Sealed}
 use Rattle.register_records.specs.declared.setups.Setup.{Setup}
+use Rattle.programs.specs.Faults.{Fault}
 use Rattle.programs.specs.FileLists.{AreFilesToConvert}
 use Rattle.programs.specs.Meanings as lines
 use Rattle.programs.specs.Meanings.{Check, CommandLine, Meaning, file_check, option_check}
@@ -18,8 +19,6 @@ use Rattle.programs.specs.Requests.{meaning_by}
 use Rattle.programs.specs.declared.requests.Request.{Request}
 use Rattle.programs.specs.Values.{IsValueOf, byte_of, delimiter_option}
 use Rattle.register_arguments.specs.CommandLine.{Values, command_line, values_of}
-use Rattle.register_arguments.specs.Faults.{Fault, bad_ring, bad_stripes, file_twice, too_many_files}
-use Rattle.register_arguments.specs.Faults.{unknown_delimiter, usage}
 use Rattle.register_arguments.specs.Fittings.{fitting_for}
 use Rattle.register_arguments.specs.OptionValues.{AsksForTargets, IsListFault, IsWritten, number_check}
 use Rattle.register_arguments.specs.declared.jobs.Job.{Job}
@@ -58,33 +57,32 @@ IsTargetFault None fault = ⊥
 IsTargetFault (Some list) fault = IsListFault list fault
 
 -- the check of the targets
-abbrev pub target_check : Option Text → Check Fault
+abbrev pub target_check : Option Text → Check
 target_check value = record {
   fails = IsTargetFault value;
   passes = (targets : List Target) × AreTargetsOf value targets;
 }
 
 -- the checks of values, in order
-abbrev pub value_checks : Values → List (Check Fault)
+abbrev pub value_checks : Values → List Check
 value_checks values =
     target_check values.to
-    ∷ number_check largest_ring bad_ring values.ring
-    ∷ option_check delimiter_option unknown_delimiter values.delimiter
-    ∷ number_check most_stripes bad_stripes values.stripes
-    ∷ file_check too_many_files file_twice values.files
+    ∷ number_check largest_ring (codes "bad ring size: ") values.ring
+    ∷ option_check delimiter_option (codes "unknown delimiter: ") values.delimiter
+    ∷ number_check most_stripes (codes "bad stripes: ") values.stripes
+    ∷ file_check values.files
     ∷ []
 
 -- the command line, and what is asked by it
-abbrev pub register_line : CommandLine Task Fault
+abbrev pub register_line : CommandLine Task
 register_line = record {
   command = command_line;
   asks = λ found task. Ask (values_of found) task;
   checks = λ found. value_checks (values_of found);
-  usage = usage;
 }
 
 -- what the arguments mean and nothing else, what is wrong with them, and that something is
-abbrev pub MeanJust : List Text → Meaning Task Fault → Type 0
+abbrev pub MeanJust : List Text → Meaning Task → Type 0
 MeanJust = lines.MeanJust register_line
 
 abbrev pub IsFaultOf : List Text → Fault → Type 0
@@ -116,5 +114,5 @@ IsSetupOf task processors setup =
     × (setup.stripes ≡ unwrap_or task.stripes (fitting_for processors (length task.files)).stripes)
 
 -- what a request stands for
-abbrev pub meaning_of : Request Job → Meaning Task Fault
+abbrev pub meaning_of : Request Job → Meaning Task
 meaning_of = meaning_by task_of

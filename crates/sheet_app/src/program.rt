@@ -6,7 +6,7 @@ ghost use Rattle.programs.specs.Openings.{IsFresh};
 ghost use Rattle.programs.specs.HelpPages.{page_text};
 ghost use Rattle.programs.specs.Pages.{IsPrinted};
 ghost use Rattle.sheets.specs.declared.name_lists.NameLine.{NameLine as NameLineValue};
-ghost use Rattle.sheet_arguments.specs.Faults.{name};
+ghost use Rattle.sheet_arguments.specs.CommandLine.{name};
 ghost use Rattle.sheet_arguments.specs.Requests.{AreWrong, Task as TaskValue, task_of};
 ghost use Rattle.sheet_app.specs.Answers.{AreFilesAnswered, AreListsIn, AreNamesOf, IsInputAnswered, IsListIn};
 ghost use Rattle.sheet_app.specs.Answers.{IsPageAnswered, IsReported, NameUnknown};

@@ -1,24 +1,60 @@
--- The command line: its options, and the values that arguments give to them.
-use Rattle.std.specs.Prelude.{List, [], ◌∷◌, Bool, codes, fold, Option, unwrap_or}
-use Rattle.clap.specs.Words.{App, Row, Rule, Text, all_of, first_of, one_of, with_rule}
-use Rattle.programs.specs.Rules.{bare_command, files_rule, flag_rule, is_set, option_rule, repeated_rule}
+-- The command line: its options and its page of help, the values that arguments give to it, and the lines that it is
+-- answered with.
+use Rattle.std.specs.Prelude.{List, [], ◌∷◌, Bool, codes, Option, unwrap_or}
+use Rattle.clap.specs.Words.{App, Row, Text, all_of, first_of, one_of}
+use Rattle.programs.specs.OptionRows.{OptionRow, command_by, flag, page_by, repeated, valued}
+use Rattle.programs.specs.OwnLines as lines
+use Rattle.programs.specs.Rules.{is_set}
+use Rattle.sheet_arguments.specs.declared.help.TheConstants.{ABOVE, BELOW}
+use Rattle.sheet_arguments.specs.declared.help.TheConstants.{TREE, DATE, THREE, CALENDAR, ALL, ELSE, ID, ORDER}
+use Rattle.sheet_arguments.specs.declared.help.TheConstants.{NAMES, SHORT_YEARS, SHORT_HEBREW_YEARS}
+use Rattle.sheet_arguments.specs.declared.help.TheConstants.{SHORT_OTHER_YEARS, CHARTER_YEARS, SKIP, DELIMITER, TO}
+use Rattle.sheet_arguments.specs.declared.help.TheConstants.{SPANS, EDTF, REGISTER, UNKNOWN, SUMMARY}
 
--- the rules of the arguments: four options as often as wanted, ten with a value each, seven flags, and files
-abbrev pub argument_rules : List Rule
-argument_rules =
-    flag_rule (codes "tree") ∷ repeated_rule (codes "date") ∷ option_rule (codes "three")
-    ∷ repeated_rule (codes "calendar") ∷ repeated_rule (codes "all")
-    ∷ option_rule (codes "else") ∷ option_rule (codes "id") ∷ option_rule (codes "order") ∷ repeated_rule (codes "names")
-    ∷ option_rule (codes "short-years") ∷ option_rule (codes "short-hebrew-years")
-    ∷ option_rule (codes "short-other-years") ∷ flag_rule (codes "charter-years")
-    ∷ option_rule (codes "skip") ∷ option_rule (codes "delimiter") ∷ option_rule (codes "to")
-    ∷ flag_rule (codes "spans") ∷ flag_rule (codes "edtf") ∷ flag_rule (codes "register")
-    ∷ flag_rule (codes "unknown") ∷ flag_rule (codes "summary")
-    ∷ files_rule (codes "file") ∷ []
+-- the options, in order
+abbrev pub options : List OptionRow
+options =
+    flag (codes "tree") TREE.now
+    ∷ repeated (codes "date") (codes "COLUMN") DATE.now
+    ∷ valued (codes "three") (codes "YEAR,MONTH,DAY") THREE.now
+    ∷ repeated (codes "calendar") (codes "COLUMN") CALENDAR.now
+    ∷ repeated (codes "all") (codes "CALENDAR") ALL.now
+    ∷ valued (codes "else") (codes "CALENDAR") ELSE.now
+    ∷ valued (codes "id") (codes "COLUMN") ID.now
+    ∷ valued (codes "order") (codes "WORD") ORDER.now
+    ∷ repeated (codes "names") (codes "FILE") NAMES.now
+    ∷ valued (codes "short-years") (codes "R") SHORT_YEARS.now
+    ∷ valued (codes "short-hebrew-years") (codes "R") SHORT_HEBREW_YEARS.now
+    ∷ valued (codes "short-other-years") (codes "R") SHORT_OTHER_YEARS.now
+    ∷ flag (codes "charter-years") CHARTER_YEARS.now
+    ∷ valued (codes "skip") (codes "N") SKIP.now
+    ∷ valued (codes "delimiter") (codes "WORD") DELIMITER.now
+    ∷ valued (codes "to") (codes "LIST") TO.now
+    ∷ flag (codes "spans") SPANS.now
+    ∷ flag (codes "edtf") EDTF.now
+    ∷ flag (codes "register") REGISTER.now
+    ∷ flag (codes "unknown") UNKNOWN.now
+    ∷ flag (codes "summary") SUMMARY.now ∷ []
+
+-- the name of the program
+abbrev pub name : Text
+name = codes "register-sheet"
+
+-- a line of the program's own
+abbrev pub program_line : Text → Text
+program_line = lines.program_line name
+
+-- that memory ran out
+abbrev pub memory_line : Text
+memory_line = lines.memory_line name
 
 -- the command line: the command with all arguments
 abbrev pub command_line : App
-command_line = fold with_rule (bare_command (codes "register-sheet")) argument_rules
+command_line = command_by name options
+
+-- the page of help
+abbrev pub help_page : Text
+help_page = page_by ABOVE.now options BELOW.now
 
 -- the values of each option, whether each flag is given, and the files, in order
 pub record Values : Type 0 where

@@ -1,7 +1,8 @@
 -- What the arguments ask for.
-use Rattle.std.specs.Prelude.{◌≡◌, ◌==◌, ◌||◌, ◌&&◌, ℕ, Bool, true, false, List, [], ◌∷◌, length, map, nat_lt, not}
-use Rattle.std.specs.Prelude.{if◌then◌else◌, Option, is_some, option_map, Result, Ok, Err}
+use Rattle.std.specs.Prelude.{◌≡◌, ◌==◌, ◌||◌, ◌&&◌, ◌++◌, ℕ, Bool, true, false, List, [], ◌∷◌, codes, length, map, nat_lt}
+use Rattle.std.specs.Prelude.{if◌then◌else◌, not, Option, is_some, option_map, Result, Ok, Err}
 use Rattle.clap.specs.Words.{Text}
+use Rattle.programs.specs.Faults.{Fault, refused}
 use Rattle.programs.specs.FileLists.{AreFilesToConvert}
 use Rattle.programs.specs.Meanings as lines
 use Rattle.programs.specs.Meanings.{Check, CommandLine, Meaning, file_check, option_check}
@@ -14,10 +15,6 @@ use Rattle.sheets.specs.declared.choices.Spans.{Spans}
 use Rattle.sheets.specs.declared.choices.Spans.TheVariants as spans_of
 use Rattle.written_dates.specs.declared.written.Choice.{Choice}
 use Rattle.sheet_arguments.specs.CommandLine.{Values, command_line, values_of}
-use Rattle.sheet_arguments.specs.Faults.{Fault, bad_short_hebrew_years, bad_short_other_years, bad_short_years}
-use Rattle.sheet_arguments.specs.Faults.{bad_skip, calendar_count, else_alone, file_twice, no_date, register_of_input}
-use Rattle.sheet_arguments.specs.Faults.{too_many_dates, too_many_files, tree_at_odds, unknown_delimiter}
-use Rattle.sheet_arguments.specs.Faults.{unknown_order, usage}
 use Rattle.sheet_arguments.specs.OptionValues.{order_number, order_option, other_word, short_hebrew_option}
 use Rattle.sheet_arguments.specs.OptionValues.{short_number, short_option, skip_option}
 use Rattle.sheet_arguments.specs.ThreeColumns.{ThreeWords, three_asked, words_seen}
@@ -109,32 +106,43 @@ pub record Ask (values : Values) (task : Task) : Type 0 where
   pub files : task.files ≡ values.files
   pub files_fit : AreFilesToConvert values.files
 
--- the check of what is wrong where this holds
-abbrev pub false_check : Bool → Fault → Check Fault
-false_check holds fault = record { fails = λ f. (f ≡ fault) × (holds ≡ true); passes = holds ≡ false }
+-- the check of what is wrong where this holds, of which this is said
+abbrev pub false_check : Bool → Text → Check
+false_check holds what = record { fails = λ fault. (fault ≡ refused what) × (holds ≡ true); passes = holds ≡ false }
 
 -- the check of what comes of words
-abbrev pub result_check : {A : Type 0} → Result A Fault → Check Fault
+abbrev pub result_check : {A : Type 0} → Result A Fault → Check
 result_check {A} result = record { fails = λ f. result ≡ Err f; passes = (a : A) × (result ≡ Ok a) }
 
--- the checks of values, in order
-abbrev pub value_checks : Values → List (Check Fault)
-value_checks values =
-    false_check (length values.dates == 0) no_date
-    ∷ false_check (nat_lt date_limit (length values.dates)) too_many_dates
-    ∷ false_check (are_misfits (length values.dates) (length values.calendars) (length values.all)) calendar_count
-    ∷ false_check (is_else_alone (length values.calendars) values.otherwise) else_alone
-    ∷ option_check order_option unknown_order values.order
-    ∷ option_check short_option bad_short_years values.short_years
-    ∷ option_check short_hebrew_option bad_short_hebrew_years values.short_hebrew_years
-    ∷ option_check short_option bad_short_other_years (other_word values.short_other_years values.short_years)
-    ∷ option_check skip_option bad_skip values.skip
-    ∷ option_check delimiter_option unknown_delimiter values.delimiter
-    ∷ result_check (columns_asked values.to)
-    ∷ result_check (three_asked values.three)
-    ∷ false_check (asks_for_registers_of_input values) register_of_input
-    ∷ file_check too_many_files file_twice values.files
-    ∷ []
+-- the checks of values, in order: of where the dates and their calendars are, of words, and of what is to come out
+abbrev pub date_checks : Values → List Check
+date_checks values =
+    false_check (length values.dates == 0) (codes "no column of dates: give --date COLUMN")
+    ∷ false_check (nat_lt date_limit (length values.dates)) (codes "more than 8 columns of dates")
+    ∷ false_check (are_misfits (length values.dates) (length values.calendars) (length values.all))
+    (codes "give --calendar COLUMN or --all CALENDAR, once or once for each --date")
+    ∷ false_check (is_else_alone (length values.calendars) values.otherwise) (codes "--else is for --calendar") ∷ []
+
+abbrev pub word_checks : Values → List Check
+word_checks values =
+    option_check order_option (codes "unknown order: ") values.order
+    ∷ option_check short_option (codes "bad short years: ") values.short_years
+    ∷ option_check short_hebrew_option (codes "bad short Hebrew years: ") values.short_hebrew_years
+    ∷ option_check short_option (codes "bad short years of other calendars: ")
+    (other_word values.short_other_years values.short_years)
+    ∷ option_check skip_option (codes "bad number of records to skip: ") values.skip
+    ∷ option_check delimiter_option (codes "unknown delimiter: ") values.delimiter ∷ []
+
+abbrev pub file_checks : Values → List Check
+file_checks values =
+    false_check (asks_for_registers_of_input values) (codes "--register is for files") ∷ file_check values.files ∷ []
+
+abbrev pub output_checks : Values → List Check
+output_checks values =
+    result_check (columns_asked values.to) ∷ result_check (three_asked values.three) ∷ file_checks values
+
+abbrev pub value_checks : Values → List Check
+value_checks values = date_checks values ++ (word_checks values ++ output_checks values)
 
 -- what is given asks for this task: nothing is at odds with a tree, and what is meant asks for it
 pub record AskMeant (values : Values) (task : Task) : Type 0 where
@@ -142,20 +150,21 @@ pub record AskMeant (values : Values) (task : Task) : Type 0 where
   pub asks : Ask (meant values) task
 
 -- the checks of what is given, and then of what is meant
-abbrev pub given_checks : Values → List (Check Fault)
-given_checks values = false_check (is_at_odds values) tree_at_odds ∷ value_checks (meant values)
+abbrev pub given_checks : Values → List Check
+given_checks values =
+    false_check (is_at_odds values) (codes "--tree takes no --date, --three, --calendar, --all, --skip and --delimiter")
+    ∷ value_checks (meant values)
 
 -- the command line, and what is asked by it
-abbrev pub sheet_line : CommandLine Task Fault
+abbrev pub sheet_line : CommandLine Task
 sheet_line = record {
   command = command_line;
   asks = λ found task. AskMeant (values_of found) task;
   checks = λ found. given_checks (values_of found);
-  usage = usage;
 }
 
 -- what the arguments mean and nothing else, what is wrong with them, and that something is
-abbrev pub MeanJust : List Text → Meaning Task Fault → Type 0
+abbrev pub MeanJust : List Text → Meaning Task → Type 0
 MeanJust = lines.MeanJust sheet_line
 
 abbrev pub IsFaultOf : List Text → Fault → Type 0
@@ -191,7 +200,5 @@ task_of job = record {
 }
 
 -- what a request stands for
-abbrev pub meaning_of : Request Job → Meaning Task Fault
+abbrev pub meaning_of : Request Job → Meaning Task
 meaning_of = meaning_by task_of
-
--- ---- what the parts of a request promise

@@ -24,29 +24,10 @@ or_word word other = word
 
 -- the columns of dates and of calendars of a tree's sheet, and the order of numbers where no other is given
 abbrev pub of_tree : Values → Values
-of_tree values = record {
-  tree = values.tree;
+of_tree values = record values {
   dates = codes "date" ∷ [];
-  three = values.three;
   calendars = codes "calendar" ∷ [];
-  all = values.all;
-  otherwise = values.otherwise;
-  id = values.id;
   order = or_word values.order (codes "day");
-  names = values.names;
-  short_years = values.short_years;
-  short_hebrew_years = values.short_hebrew_years;
-  short_other_years = values.short_other_years;
-  charter_years = values.charter_years;
-  skip = values.skip;
-  delimiter = values.delimiter;
-  to = values.to;
-  spans = values.spans;
-  edtf = values.edtf;
-  register = values.register;
-  unknown = values.unknown;
-  summary = values.summary;
-  files = values.files;
 }
 
 -- the column of the dates that are joined of three stands behind the others, and its word is the list of these

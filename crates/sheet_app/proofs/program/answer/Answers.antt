@@ -9,7 +9,7 @@ use Rattle.sheet_arguments.specs.Requests.{MeanJust, meaning_of, sheet_line, tas
 use Rattle.sheet_arguments.specs.TreeValues.{meant}
 use Rattle.programs.specs.declared.requests.Request.{Request}
 use Rattle.sheet_arguments.specs.declared.requests.Job.{Job}
-use Rattle.sheet_arguments.specs.Faults.{fault_of_error}
+use Rattle.programs.specs.Faults.{fault_of_error}
 use Rattle.sheet_app.specs.Answers.{version_line}
 use Rattle.programs.proofs.RefusedLemmas.{are_wrong, is_refused, is_wrong, never_wrong}
 use Rattle.sheet_app.proofs.TaskLemmas.{is_task}

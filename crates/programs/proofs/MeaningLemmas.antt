@@ -128,7 +128,8 @@ module _ {T : Type 0} (line : CommandLine T) (arguments : List Text) where
 
     -- what the arguments mean is all that they mean
     mean_just : (meaning : Meaning T) → Mean line arguments meaning → MeanJust line arguments meaning
-    mean_just meaning means other = grind (arith, one_meaning)
+    mean_just meaning means other =
+        (λ e. subst (Mean line arguments) (sym e) means, λ m. one_meaning meaning other means m)
 
     -- so they mean what is read of them, by a command that is the line's, or what is wrong where they are not read
     module _ (app : App) (is_its : app ≡ line.command) where

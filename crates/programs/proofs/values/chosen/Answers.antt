@@ -1,5 +1,5 @@
 -- The word names what it is asked for, or nothing.
-use Rattle.std.proofs.Common.{ap, arith, refl}
+use Rattle.std.proofs.Common.{arith, refl}
 use Rattle.programs.proofs.values.chosen.Goals as goal
 
 pub returns-in-Some-named-clause-value : goal.returns-in-Some-named-clause-value
@@ -10,6 +10,5 @@ returns-in-None-clause-fault g c =
     rw c.in-Some.is (
       c.in-Some.word.now,
       refl,
-      refl,
-      λ n is. let some = rw c.in-None.is at ((c.named.ensures n).1 is) in cc,
+      (refl, λ n is. let some = rw c.in-None.is at ((c.named.ensures n).1 is) in cc),
     )

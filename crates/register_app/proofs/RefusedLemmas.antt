@@ -9,7 +9,7 @@ use Rattle.programs.specs.Refusals.{IsTold}
 use Rattle.programs.proofs.RefusedLemmas as refused
 use Rattle.programs.specs.Faults.{Fault}
 use Rattle.programs.specs.declared.request_faults.RequestFault.TheVariants as request_fault
-use Rattle.register_arguments.specs.CommandLine.{memory_line, name}
+use Rattle.register_arguments.specs.Requests.{memory_line, name}
 use Rattle.register_arguments.specs.Requests.{AreWrong, MeanJust, Task, register_line}
 use Rattle.register_app.specs.Answers.{IsReported}
 use Rattle.register_app.specs.ProgramFaults.{IsFaultOfAsked, fault_line, fault_status}

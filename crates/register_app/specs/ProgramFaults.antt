@@ -1,7 +1,7 @@
 -- Why nothing is done, and what standard error gets of it.
 use Rattle.std.specs.Prelude.{◌≡◌, ◌++◌, ℕ, List, codes, IfSome, Option, Some, None, slice_get}
 use Rattle.programs.specs.Faults.{Fault, error_line, fault_of_error, status_of_fault}
-use Rattle.register_arguments.specs.CommandLine.{memory_line, name, program_line}
+use Rattle.register_arguments.specs.Requests.{memory_line, name, program_line}
 use Rattle.programs.specs.Meanings.{work}
 use Rattle.register_arguments.specs.Requests.{IsFaultOf, MeanJust, Task}
 use Rattle.programs.specs.Openings.{missing_file}

@@ -9,7 +9,7 @@ ghost use Rattle.register_records.specs.Sources.{is_whole_end};
 ghost use Rattle.programs.specs.Openings.{AreMade, IsFresh, IsNewlyMade};
 ghost use Rattle.register_app.specs.ProgramFaults.{IsFaultOfAsked, fault_status};
 ghost use Rattle.register_app.specs.Reports.{lines_from};
-ghost use Rattle.register_arguments.specs.CommandLine.{name};
+ghost use Rattle.register_arguments.specs.Requests.{name};
 ghost use Rattle.programs.specs.HelpPages.{page_text};
 ghost use Rattle.programs.specs.Pages.{IsPrinted};
 ghost use Rattle.programs.specs.FileLists.{most_files};

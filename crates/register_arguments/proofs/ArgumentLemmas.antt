@@ -7,7 +7,7 @@ use Rattle.programs.proofs.KindLemmas.{lone_app, one_of}
 use Rattle.programs.proofs.MeaningLemmas.{IsClear, IsSound, one_asked, one_byte, one_number}
 use Rattle.programs.proofs.MeaningLemmas.{sound_files, sound_option}
 use Rattle.register_arguments.specs.OptionValues.{IsWritten, number_check}
-use Rattle.register_arguments.specs.CommandLine.{Values, values_of}
+use Rattle.register_arguments.specs.Requests.{Values, values_of}
 use Rattle.register_arguments.specs.Requests.{AreTargetsOf, Ask, Task, register_line, target_check}
 use Rattle.register_arguments.proofs.ListLemmas.{asks_no_fault, asks_one, one_fault}
 

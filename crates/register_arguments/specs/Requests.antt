@@ -1,7 +1,8 @@
--- What the arguments ask for.
-use Rattle.std.specs.Prelude.{◌≡◌, ℕ, Bool, List, [], ◌∷◌, codes, map, if◌then◌else◌, Option, Some, None, option_map, length}
-use Rattle.std.specs.Prelude.{unwrap_or}
-use Rattle.clap.specs.Words.{Text}
+-- The command line: its options and its page of help, the values that arguments give to it, what these ask for, and what is
+-- wrong with them.
+use Rattle.std.specs.Prelude.{List, [], ◌∷◌, Bool, codes, Option, unwrap_or, ◌≡◌, ℕ, map, if◌then◌else◌, Some, None}
+use Rattle.std.specs.Prelude.{option_map, length}
+use Rattle.clap.specs.Words.{App, Row, Text, all_of, first_of, one_of}
 use Rattle.date_texts.specs.Calendars.{default_targets}
 use Rattle.date_texts.specs.declared.target.Target.{Target}
 use Rattle.register_records.specs.Entries.{Reading}
@@ -15,13 +16,69 @@ use Rattle.programs.specs.Faults.{Fault}
 use Rattle.programs.specs.FileLists.{AreFilesToConvert}
 use Rattle.programs.specs.Meanings as lines
 use Rattle.programs.specs.Meanings.{Check, CommandLine, Meaning, file_check, option_check}
+use Rattle.programs.specs.OptionRows.{OptionRow, command_by, flag, page_by, valued}
+use Rattle.programs.specs.OwnLines as own_lines
 use Rattle.programs.specs.Requests.{meaning_by}
-use Rattle.programs.specs.declared.requests.Request.{Request}
+use Rattle.programs.specs.Rules.{is_set}
 use Rattle.programs.specs.Values.{IsValueOf, byte_of, delimiter_option}
-use Rattle.register_arguments.specs.CommandLine.{Values, command_line, values_of}
+use Rattle.programs.specs.declared.requests.Request.{Request}
 use Rattle.register_arguments.specs.Fittings.{fitting_for}
 use Rattle.register_arguments.specs.OptionValues.{AsksForTargets, IsListFault, IsWritten, number_check}
+use Rattle.register_arguments.specs.declared.help.TheConstants.{ABOVE, BELOW, TO, DELIMITER, SEALED, SUMMARY, RING}
+use Rattle.register_arguments.specs.declared.help.TheConstants.{STRIPES}
 use Rattle.register_arguments.specs.declared.jobs.Job.{Job}
+
+-- the options, in order
+abbrev pub options : List OptionRow
+options =
+    valued (codes "to") (codes "LIST") TO.now
+    ∷ valued (codes "delimiter") (codes "WORD") DELIMITER.now
+    ∷ flag (codes "sealed") SEALED.now
+    ∷ flag (codes "summary") SUMMARY.now
+    ∷ valued (codes "ring") (codes "N") RING.now
+    ∷ valued (codes "stripes") (codes "N") STRIPES.now ∷ []
+
+-- the name of the program
+abbrev pub name : Text
+name = codes "register"
+
+-- a line of the program's own
+abbrev pub program_line : Text → Text
+program_line = own_lines.program_line name
+
+-- that memory ran out
+abbrev pub memory_line : Text
+memory_line = own_lines.memory_line name
+
+-- the command line: the command with all arguments
+abbrev pub command_line : App
+command_line = command_by name options
+
+-- the page of help
+abbrev pub help_page : Text
+help_page = page_by ABOVE.now options BELOW.now
+
+-- the value of each option that is used, whether each flag is given, and the files, in order
+pub record Values : Type 0 where
+  pub to : Option Text
+  pub ring : Option Text
+  pub delimiter : Option Text
+  pub stripes : Option Text
+  pub sealed : Bool
+  pub summary : Bool
+  pub files : List Text
+
+-- the values that clap finds in the arguments
+abbrev pub values_of : List Row → Values
+values_of found = record {
+  to = first_of (codes "to") found;
+  ring = first_of (codes "ring") found;
+  delimiter = first_of (codes "delimiter") found;
+  stripes = first_of (codes "stripes") found;
+  sealed = is_set (one_of (codes "sealed") found);
+  summary = is_set (one_of (codes "summary") found);
+  files = unwrap_or (all_of (codes "file") found) [];
+}
 
 -- what arguments can ask of a run: how its registers are read and how its tables are written, the size of its rings and
 -- the converters of a source where they are written, whether a summary is wanted, and the files

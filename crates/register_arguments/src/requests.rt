@@ -5,7 +5,7 @@ ghost use Rattle.std.specs.String.{string_bytes};
 ghost use Rattle.clap.specs.Words.{app_of, found_of, rows_of};
 ghost use Rattle.programs.specs.Faults.{fault_of_error};
 ghost use Rattle.programs.specs.Meanings.{FailFirst, wrong};
-ghost use Rattle.register_arguments.specs.CommandLine.{command_line, values_of};
+ghost use Rattle.register_arguments.specs.Requests.{command_line, values_of};
 ghost use Rattle.register_arguments.specs.Requests.{AreTargetsOf, Ask, IsTargetFault, MeanJust, meaning_of};
 ghost use Rattle.register_arguments.specs.Requests.{register_line, task_of, value_checks};
 ghost use Rattle.register_arguments.specs.private.Requests.{values_by};

@@ -7,8 +7,7 @@ use Rattle.programs.specs.Faults.{error_line, fault_of_error, status_of_fault}
 use Rattle.programs.specs.Meanings.{work}
 use Rattle.sheets.specs.declared.name_lists.NameListFault.{NameListFault}
 use Rattle.sheets.specs.declared.name_lists.NameListFault.TheVariants as list_fault
-use Rattle.sheet_arguments.specs.CommandLine.{memory_line, name, program_line}
-use Rattle.sheet_arguments.specs.Requests.{IsFaultOf, MeanJust, Task}
+use Rattle.sheet_arguments.specs.Requests.{memory_line, name, program_line, IsFaultOf, MeanJust, Task}
 use Rattle.sheet_app.specs.CalendarWords.{calendar_words}
 use Rattle.sheet_app.specs.FileSheets.{outputs_of}
 use Rattle.sheet_app.specs.declared.file_sheets.FileFault.{FileFault}

@@ -7,12 +7,10 @@ use Rattle.programs.specs.Values.{delimiter_option}
 use Rattle.programs.proofs.KindLemmas.{lone_app, one_of}
 use Rattle.programs.proofs.MeaningLemmas.{AllPass, AreSound, IsClear, IsSound, one_asked, one_byte, sound_files}
 use Rattle.programs.proofs.MeaningLemmas.{sound_option}
-use Rattle.sheet_arguments.specs.CommandLine.{Values, command_line, values_of}
+use Rattle.sheet_arguments.specs.Requests.{Values, command_line, values_of, Ask, AskMeant, Task, false_check}
+use Rattle.sheet_arguments.specs.Requests.{given_checks, result_check, sheet_line, value_checks, is_at_odds, meant}
 use Rattle.sheet_arguments.specs.OptionValues.{order_option, other_word, short_hebrew_option, short_option, skip_option}
-use Rattle.sheet_arguments.specs.Requests.{Ask, AskMeant, Task, false_check, given_checks, result_check}
-use Rattle.sheet_arguments.specs.Requests.{sheet_line, value_checks}
 use Rattle.sheet_arguments.specs.ThreeColumns.{three_asked}
-use Rattle.sheet_arguments.specs.TreeValues.{is_at_odds, meant}
 use Rattle.sheet_arguments.specs.WordLists.{columns_asked}
 use Rattle.written_dates.specs.declared.written.Choice.{Choice}
 use Rattle.sheet_arguments.proofs.OptionLemmas.{one_order, one_short, one_short_hebrew, one_skip, same_order, same_short}

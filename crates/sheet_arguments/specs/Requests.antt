@@ -1,28 +1,166 @@
--- What the arguments ask for.
-use Rattle.std.specs.Prelude.{◌≡◌, ◌==◌, ◌||◌, ◌&&◌, ◌++◌, ℕ, Bool, true, false, List, [], ◌∷◌, codes, length, map, nat_lt}
-use Rattle.std.specs.Prelude.{if◌then◌else◌, not, Option, is_some, option_map, Result, Ok, Err}
-use Rattle.clap.specs.Words.{Text}
+-- The command line: its options and its page of help, the values that arguments give to it, what these ask for, and what is
+-- wrong with them. The sheet of a tree has columns of its own, `tree_head` of `family_trees`, with commas between them, and
+-- in a tree the day stands before the month.
+use Rattle.std.specs.Option.{option_map_or}
+use Rattle.std.specs.Prelude.{List, [], ◌∷◌, Bool, codes, Option, unwrap_or, ◌||◌, ◌&&◌, ◌==◌, ◌++◌, false}
+use Rattle.std.specs.Prelude.{if◌then◌else◌, length, not, true, None, Some, option_to_list, ◌≡◌, ℕ, map, nat_lt}
+use Rattle.std.specs.Prelude.{is_some, option_map, Result, Ok, Err}
+use Rattle.clap.specs.Words.{App, Row, Text, all_of, first_of, one_of}
 use Rattle.programs.specs.Faults.{Fault, refused}
 use Rattle.programs.specs.FileLists.{AreFilesToConvert}
 use Rattle.programs.specs.Meanings as lines
 use Rattle.programs.specs.Meanings.{Check, CommandLine, Meaning, file_check, option_check}
+use Rattle.programs.specs.OptionRows.{OptionRow, command_by, flag, page_by, repeated, valued}
+use Rattle.programs.specs.OwnLines as own_lines
 use Rattle.programs.specs.Requests.{meaning_by}
-use Rattle.programs.specs.declared.requests.Request.{Request}
+use Rattle.programs.specs.Rules.{is_set}
 use Rattle.programs.specs.Values.{IsValueOf, delimiter_option}
+use Rattle.programs.specs.declared.requests.Request.{Request}
 use Rattle.sheets.specs.Choices.{date_limit}
 use Rattle.sheets.specs.declared.choices.AskedColumn.{AskedColumn}
 use Rattle.sheets.specs.declared.choices.Spans.{Spans}
 use Rattle.sheets.specs.declared.choices.Spans.TheVariants as spans_of
 use Rattle.written_dates.specs.declared.written.Choice.{Choice}
-use Rattle.sheet_arguments.specs.CommandLine.{Values, command_line, values_of}
 use Rattle.sheet_arguments.specs.OptionValues.{order_number, order_option, other_word, short_hebrew_option}
 use Rattle.sheet_arguments.specs.OptionValues.{short_number, short_option, skip_option}
 use Rattle.sheet_arguments.specs.ThreeColumns.{ThreeWords, three_asked, words_seen}
-use Rattle.sheet_arguments.specs.TreeValues.{is_at_odds, meant}
 use Rattle.sheet_arguments.specs.WordLists.{columns_asked}
+use Rattle.sheet_arguments.specs.declared.help.TheConstants.{ABOVE, BELOW, TREE, DATE, THREE, CALENDAR, ALL, ELSE, ID}
+use Rattle.sheet_arguments.specs.declared.help.TheConstants.{ORDER, NAMES, SHORT_YEARS, SHORT_HEBREW_YEARS}
+use Rattle.sheet_arguments.specs.declared.help.TheConstants.{SHORT_OTHER_YEARS, CHARTER_YEARS, SKIP, DELIMITER, TO}
+use Rattle.sheet_arguments.specs.declared.help.TheConstants.{SPANS, EDTF, REGISTER, UNKNOWN, SUMMARY}
 use Rattle.sheet_arguments.specs.declared.requests.CalendarsAsked.{CalendarsAsked}
 use Rattle.sheet_arguments.specs.declared.requests.CalendarsAsked.TheVariants as asked
 use Rattle.sheet_arguments.specs.declared.requests.Job.{Job}
+
+-- the options, in order
+abbrev pub options : List OptionRow
+options =
+    flag (codes "tree") TREE.now
+    ∷ repeated (codes "date") (codes "COLUMN") DATE.now
+    ∷ valued (codes "three") (codes "YEAR,MONTH,DAY") THREE.now
+    ∷ repeated (codes "calendar") (codes "COLUMN") CALENDAR.now
+    ∷ repeated (codes "all") (codes "CALENDAR") ALL.now
+    ∷ valued (codes "else") (codes "CALENDAR") ELSE.now
+    ∷ valued (codes "id") (codes "COLUMN") ID.now
+    ∷ valued (codes "order") (codes "WORD") ORDER.now
+    ∷ repeated (codes "names") (codes "FILE") NAMES.now
+    ∷ valued (codes "short-years") (codes "R") SHORT_YEARS.now
+    ∷ valued (codes "short-hebrew-years") (codes "R") SHORT_HEBREW_YEARS.now
+    ∷ valued (codes "short-other-years") (codes "R") SHORT_OTHER_YEARS.now
+    ∷ flag (codes "charter-years") CHARTER_YEARS.now
+    ∷ valued (codes "skip") (codes "N") SKIP.now
+    ∷ valued (codes "delimiter") (codes "WORD") DELIMITER.now
+    ∷ valued (codes "to") (codes "LIST") TO.now
+    ∷ flag (codes "spans") SPANS.now
+    ∷ flag (codes "edtf") EDTF.now
+    ∷ flag (codes "register") REGISTER.now
+    ∷ flag (codes "unknown") UNKNOWN.now
+    ∷ flag (codes "summary") SUMMARY.now ∷ []
+
+-- the name of the program
+abbrev pub name : Text
+name = codes "register-sheet"
+
+-- a line of the program's own
+abbrev pub program_line : Text → Text
+program_line = own_lines.program_line name
+
+-- that memory ran out
+abbrev pub memory_line : Text
+memory_line = own_lines.memory_line name
+
+-- the command line: the command with all arguments
+abbrev pub command_line : App
+command_line = command_by name options
+
+-- the page of help
+abbrev pub help_page : Text
+help_page = page_by ABOVE.now options BELOW.now
+
+-- the values of each option, whether each flag is given, and the files, in order
+pub record Values : Type 0 where
+  pub tree : Bool
+  pub dates : List Text
+  pub three : Option Text
+  pub calendars : List Text
+  pub all : List Text
+  pub otherwise : Option Text
+  pub id : Option Text
+  pub order : Option Text
+  pub names : List Text
+  pub short_years : Option Text
+  pub short_hebrew_years : Option Text
+  pub short_other_years : Option Text
+  pub charter_years : Bool
+  pub skip : Option Text
+  pub delimiter : Option Text
+  pub to : Option Text
+  pub spans : Bool
+  pub edtf : Bool
+  pub register : Bool
+  pub unknown : Bool
+  pub summary : Bool
+  pub files : List Text
+
+-- the values that clap finds in the arguments
+abbrev pub values_of : List Row → Values
+values_of found = record {
+  tree = is_set (one_of (codes "tree") found);
+  dates = unwrap_or (all_of (codes "date") found) [];
+  three = first_of (codes "three") found;
+  calendars = unwrap_or (all_of (codes "calendar") found) [];
+  all = unwrap_or (all_of (codes "all") found) [];
+  otherwise = first_of (codes "else") found;
+  id = first_of (codes "id") found;
+  order = first_of (codes "order") found;
+  names = unwrap_or (all_of (codes "names") found) [];
+  short_years = first_of (codes "short-years") found;
+  short_hebrew_years = first_of (codes "short-hebrew-years") found;
+  short_other_years = first_of (codes "short-other-years") found;
+  charter_years = is_set (one_of (codes "charter-years") found);
+  skip = first_of (codes "skip") found;
+  delimiter = first_of (codes "delimiter") found;
+  to = first_of (codes "to") found;
+  spans = is_set (one_of (codes "spans") found);
+  edtf = is_set (one_of (codes "edtf") found);
+  register = is_set (one_of (codes "register") found);
+  unknown = is_set (one_of (codes "unknown") found);
+  summary = is_set (one_of (codes "summary") found);
+  files = unwrap_or (all_of (codes "file") found) [];
+}
+
+abbrev pub is_given : Option Text → Bool
+is_given word = option_map_or (λ given. true) word false
+
+abbrev pub are_given : List Text → Bool
+are_given words = not (length words == 0)
+
+-- the columns or the form of a sheet are given, which a tree does not leave open
+abbrev pub is_at_odds : Values → Bool
+is_at_odds values =
+    values.tree && (are_given values.dates || is_given values.three || are_given values.calendars
+    || are_given values.all || is_given values.skip || is_given values.delimiter)
+
+abbrev pub or_word : Option Text → Text → Option Text
+or_word None other = Some other
+or_word word other = word
+
+-- the columns of dates and of calendars of a tree's sheet, and the order of numbers where no other is given
+abbrev pub of_tree : Values → Values
+of_tree values = record values {
+  dates = codes "date" ∷ [];
+  calendars = codes "calendar" ∷ [];
+  order = or_word values.order (codes "day");
+}
+
+-- the column of the dates that are joined of three stands behind the others, and its word is the list of these
+abbrev pub with_three : Values → Values
+with_three values = record values { dates = values.dates ++ option_to_list values.three }
+
+-- the values that are meant
+abbrev pub meant : Values → Values
+meant values = if values.tree then of_tree values else with_three values
 
 -- where the calendars of the dates are: in these columns, with a word for empty fields, or a word says them for all dates
 -- of a column; one for all columns of dates, or one for each

@@ -6,12 +6,13 @@ ghost use Rattle.clap.specs.Words.{app_of, found_of, rows_of};
 ghost use Rattle.programs.specs.Faults.{fault_of_error};
 ghost use Rattle.programs.specs.FileLists.{AreFilesToConvert};
 ghost use Rattle.programs.specs.Meanings.{FailFirst, wrong};
-ghost use Rattle.sheet_arguments.specs.CommandLine.{command_line, values_of};
-ghost use Rattle.sheet_arguments.specs.Requests.{Ask, AskMeant, MeanJust, are_misfits as misfits_spec, calendars_wanted};
+ghost use Rattle.sheet_arguments.specs.Requests.{command_line, values_of, Ask, AskMeant, MeanJust};
+ghost use Rattle.sheet_arguments.specs.Requests.{are_misfits as misfits_spec, calendars_wanted};
 ghost use Rattle.sheet_arguments.specs.Requests.{asks_for_registers_of_input, date_checks, file_checks, given_checks};
-ghost use Rattle.sheet_arguments.specs.Requests.{is_misfit as misfit_spec, meaning_of, sheet_line, spans_asked as spans_spec};
-ghost use Rattle.sheet_arguments.specs.Requests.{task_of, value_checks, wanted_by, word_checks};
-ghost use Rattle.sheet_arguments.specs.TreeValues.{is_at_odds as odds_spec, meant as meant_spec, with_three as three_spec};
+ghost use Rattle.sheet_arguments.specs.Requests.{is_misfit as misfit_spec, meaning_of, sheet_line};
+ghost use Rattle.sheet_arguments.specs.Requests.{spans_asked as spans_spec, task_of, value_checks, wanted_by};
+ghost use Rattle.sheet_arguments.specs.Requests.{word_checks, is_at_odds as odds_spec, meant as meant_spec};
+ghost use Rattle.sheet_arguments.specs.Requests.{with_three as three_spec};
 ghost use Rattle.sheet_arguments.specs.private.Requests.{AreSaidBy, FewDates, values_by};
 
 use crate::column_lists::chosen_columns;

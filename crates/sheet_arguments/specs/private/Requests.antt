@@ -2,12 +2,11 @@
 use Rattle.std.specs.Prelude.{◌≡◌, ◌==◌, false, length, map, nat_lt, option_map}
 use Rattle.programs.specs.Values.{IsValueOf, delimiter_option}
 use Rattle.sheets.specs.Choices.{date_limit}
-use Rattle.sheet_arguments.specs.CommandLine.{Values}
+use Rattle.sheet_arguments.specs.Requests.{Values, are_misfits, is_else_alone}
 use Rattle.sheet_arguments.specs.OptionValues.{order_number, order_option, other_word, short_hebrew_option}
 use Rattle.sheet_arguments.specs.OptionValues.{short_number, short_option, skip_option}
 use Rattle.sheet_arguments.specs.declared.requests.Options.{Options}
 use Rattle.sheet_arguments.specs.declared.requests.Reading.{Reading}
-use Rattle.sheet_arguments.specs.Requests.{are_misfits, is_else_alone}
 
 -- the values that the options hold
 abbrev pub values_by : Options → Values

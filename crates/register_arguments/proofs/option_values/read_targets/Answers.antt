@@ -1,8 +1,7 @@
 -- The names of the list are its pieces in order, and each one read so far named a target of its own.
-use Rattle.std.proofs.Common.{rules, ◌≡◌, sym, refl, inl, inr, is_ok, true, Ok, Err, Contains, ◌++◌, codes}
+use Rattle.std.proofs.Common.{rules, ◌≡◌, ap, sym, refl, inl, inr, is_ok, true, Ok, Err, Contains, ◌++◌, codes}
 use Rattle.std.proofs.lemmas.List.{map-append}
 use Rattle.std.proofs.lemmas.Iterator.Consumers.{YieldsList-end, YieldsList-so_far, YieldsList-turn}
-use Rattle.date_texts.specs.Calendars.{target_name}
 use Rattle.programs.specs.Faults.{refused}
 use Rattle.register_arguments.proofs.ListLemmas.{means_just, named_more, names_of_split, never_twice, once_more}
 use Rattle.register_arguments.proofs.ListLemmas.{stands_at}
@@ -38,9 +37,9 @@ returns-in_default-clause-fault c =
 
 pub returns-then-contains-clause-fault : goal.returns-then-contains-clause-fault
 returns-then-contains-clause-fault c =
-    means_just c.one_target.ensures c.args.list.now (Err (refused (codes "target named twice: " ++ target_name c.in-Some-target_named.target))) (inr (
+    means_just c.one_target.ensures c.args.list.now (Err (refused (codes "target named twice: " ++ c.name.result.now))) (inr (
       c.in-Some-target_named.target,
-      refl,
+      ap (λ text. refused (codes "target named twice: " ++ text)) c.name.ensures,
       (
         c.names.targets.items,
         c.in-Some.name.now,

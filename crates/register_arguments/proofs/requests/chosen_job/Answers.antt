@@ -6,7 +6,7 @@ use Rattle.programs.proofs.MeaningLemmas.{found_first, if_some}
 use Rattle.programs.specs.Faults.{Fault, fault_of_error}
 use Rattle.programs.specs.Meanings.{FailFirst}
 use Rattle.programs.specs.declared.request_faults.RequestFault.{RequestFault}
-use Rattle.register_arguments.specs.CommandLine.{Values}
+use Rattle.register_arguments.specs.Requests.{Values}
 use Rattle.register_arguments.specs.Requests.{value_checks}
 use Rattle.register_arguments.specs.declared.jobs.Job.{Job}
 use Rattle.register_arguments.proofs.SetupLemmas.{asked_once, notes_by}

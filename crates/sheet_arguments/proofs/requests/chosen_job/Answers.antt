@@ -3,8 +3,7 @@ use Rattle.std.proofs.Common.{◌++◌, List, [], ◌∷◌, refl, take}
 use Rattle.programs.proofs.CheckLemmas.{among_first, behind, found_at, found_up}
 use Rattle.programs.proofs.MeaningLemmas.{AllPass}
 use Rattle.programs.specs.Meanings.{Check, FailFirst}
-use Rattle.sheet_arguments.specs.CommandLine.{Values}
-use Rattle.sheet_arguments.specs.Requests.{date_checks, file_checks, output_checks, value_checks, word_checks}
+use Rattle.sheet_arguments.specs.Requests.{Values, date_checks, file_checks, output_checks, value_checks, word_checks}
 use Rattle.sheet_arguments.specs.private.Requests.{AreSaidBy, FewDates, values_by}
 use Rattle.sheet_arguments.specs.declared.requests.Reading.{Reading}
 use Rattle.sheet_arguments.proofs.requests.chosen_job.Goals as goal

@@ -2,8 +2,7 @@
 use Rattle.std.proofs.Common.{IfErr, IfSome, subst}
 use Rattle.programs.specs.Faults.{fault_of_error}
 use Rattle.programs.specs.Meanings.{FailFirst}
-use Rattle.sheet_arguments.specs.CommandLine.{Values}
-use Rattle.sheet_arguments.specs.Requests.{given_checks}
+use Rattle.sheet_arguments.specs.Requests.{Values, given_checks}
 use Rattle.sheet_arguments.proofs.requests.job_found.Goals as goal
 
 pub returns-in-Ok-clause-fault : goal.returns-in-Ok-clause-fault

@@ -4,10 +4,8 @@ use Rattle.std.specs.Prelude.{IfErr, IfSome, false}
 use Rattle.programs.proofs.CheckLemmas.{later_fails}
 use Rattle.programs.specs.Faults.{fault_of_error}
 use Rattle.programs.specs.Meanings.{FailFirst}
-use Rattle.sheet_arguments.specs.CommandLine.{Values}
-use Rattle.sheet_arguments.specs.Requests.{false_check, value_checks}
+use Rattle.sheet_arguments.specs.Requests.{Values, false_check, value_checks, is_at_odds, meant}
 use Rattle.sheet_arguments.specs.private.Requests.{values_by}
-use Rattle.sheet_arguments.specs.TreeValues.{is_at_odds, meant}
 use Rattle.sheet_arguments.proofs.requests.meant_job.Goals as goal
 
 pub returns-in-Ok-clause-fault : goal.returns-in-Ok-clause-fault

@@ -1,5 +1,5 @@
 -- The names of the list are its pieces in order, and each one read so far named a target of its own.
-use Rattle.std.proofs.Common.{rules, ◌≡◌, ap, sym, refl, inl, inr, is_ok, true, Ok, Err, Contains, ◌++◌, codes}
+use Rattle.std.proofs.Common.{rules, ℕ, List, ◌≡◌, ap, sym, refl, inl, inr, is_ok, true, Ok, Err, Contains, ◌++◌, codes}
 use Rattle.std.proofs.lemmas.List.{map-append}
 use Rattle.std.proofs.lemmas.Iterator.Consumers.{YieldsList-end, YieldsList-so_far, YieldsList-turn}
 use Rattle.programs.specs.Faults.{refused}
@@ -37,9 +37,10 @@ returns-in_default-clause-fault c =
 
 pub returns-then-contains-clause-fault : goal.returns-then-contains-clause-fault
 returns-then-contains-clause-fault c =
-    means_just c.one_target.ensures c.args.list.now (Err (refused (codes "target named twice: " ++ c.name.result.now))) (inr (
+    let sentence : List ℕ → List ℕ = λ word. codes "target named twice: " ++ word in
+    means_just c.one_target.ensures c.args.list.now (Err (refused (sentence c.name.result.now))) (inr (
       c.in-Some-target_named.target,
-      ap (λ text. refused (codes "target named twice: " ++ text)) c.name.ensures,
+      ap (λ word. refused (sentence word)) c.name.ensures,
       (
         c.names.targets.items,
         c.in-Some.name.now,

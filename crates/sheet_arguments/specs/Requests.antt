@@ -271,13 +271,14 @@ word_checks values =
     ∷ option_check skip_option (codes "bad number of records to skip: ") values.skip
     ∷ option_check delimiter_option (codes "unknown delimiter: ") values.delimiter ∷ []
 
-abbrev pub file_checks : Values → List Check
-file_checks values =
-    false_check (asks_for_registers_of_input values) (codes "--register is for files") ∷ file_check values.files ∷ []
+abbrev pub file_checks : Bool → List Text → List Check
+file_checks register files =
+    false_check (register && (length files == 0)) (codes "--register is for files") ∷ file_check files ∷ []
 
 abbrev pub output_checks : Values → List Check
 output_checks values =
-    result_check (columns_asked values.to) ∷ result_check (three_asked values.three) ∷ file_checks values
+    result_check (columns_asked values.to) ∷ result_check (three_asked values.three)
+    ∷ file_checks values.register values.files
 
 abbrev pub value_checks : Values → List Check
 value_checks values = date_checks values ++ (word_checks values ++ output_checks values)

@@ -1,6 +1,6 @@
 //! What the arguments ask for.
 
-ghost use Rattle.std.specs.Prelude.{◌≡◌, ◌∷◌, [], IfErr, IfOk, IfSome, OnOk, false, length, map, option_map};
+ghost use Rattle.std.specs.Prelude.{◌≡◌, ◌==◌, ◌&&◌, ◌∷◌, [], IfErr, IfOk, IfSome, OnOk, false, length, map, option_map};
 ghost use Rattle.std.specs.String.{string_bytes};
 ghost use Rattle.clap.specs.Words.{app_of, found_of, rows_of};
 ghost use Rattle.programs.specs.Faults.{fault_of_error};
@@ -8,7 +8,7 @@ ghost use Rattle.programs.specs.FileLists.{AreFilesToConvert};
 ghost use Rattle.programs.specs.Meanings.{FailFirst, wrong};
 ghost use Rattle.sheet_arguments.specs.Requests.{command_line, values_of, Ask, AskMeant, MeanJust};
 ghost use Rattle.sheet_arguments.specs.Requests.{are_misfits as misfits_spec, calendars_wanted};
-ghost use Rattle.sheet_arguments.specs.Requests.{asks_for_registers_of_input, date_checks, file_checks, given_checks};
+ghost use Rattle.sheet_arguments.specs.Requests.{date_checks, file_checks, given_checks};
 ghost use Rattle.sheet_arguments.specs.Requests.{is_misfit as misfit_spec, meaning_of, sheet_line};
 ghost use Rattle.sheet_arguments.specs.Requests.{spans_asked as spans_spec, task_of, value_checks, wanted_by};
 ghost use Rattle.sheet_arguments.specs.Requests.{word_checks, is_at_odds as odds_spec, meant as meant_spec};
@@ -278,17 +278,16 @@ fn spans_asked(spans: bool, edtf: bool) -> Spans
 /// # Errors
 ///
 /// Registers are asked for of no file, or else the faults of the files as [`check_files`] has them.
-fn files_fit<'a>(options: &Options<'a>) -> Result<(), RequestFault<'a>>
-    ensures fine { OnOk result ((asks_for_registers_of_input (values_by options.now) ≡ false)
-        × AreFilesToConvert (values_by options.now).files) }
+fn files_fit<'a>(register: bool, files: &[&'a str]) -> Result<(), RequestFault<'a>>
+    ensures fine { OnOk result (((register && (length (map (λ f. f.now) files.now) == 0)) ≡ false)
+        × AreFilesToConvert (map (λ f. f.now) files.now)) }
     ensures fault { IfErr result (λ error. IfSome (fault_of_error error)
-        (FailFirst (file_checks (values_by options.now)))) }
+        (FailFirst (file_checks register (map (λ f. f.now) files.now)))) }
 {
-    let files = options.files.as_slice();
-    if options.register && count_of(files) == 0 {
+    if register && count_of(files) == 0 {
         Err(RequestFault::Refused("--register is for files", ""))
     } else {
-        check_files(files)
+        Ok(check_files(files)?)
     }
 }
 
@@ -306,7 +305,7 @@ fn chosen_job<'a>(alloc: Global, options: Options<'a>) -> Result<Job<'a>, Reques
     let reading = chosen_reading(&options)?;
     let columns = chosen_columns(alloc, options.to)?;
     let three = chosen_three(options.three)?;
-    files_fit(&options)?;
+    files_fit(options.register, options.files.as_slice())?;
     Ok(Job {
         tree: options.tree,
         dates: options.dates,

@@ -13,16 +13,34 @@ passed : (values : Values) (reading : Reading) (later : List Check) → FewDates
     → AllPass later → AllPass (date_checks values ++ (word_checks values ++ later))
 passed values reading later few said rest = (
   few.0,
-  few.1,
-  few.2,
-  few.3,
-  (_, said.0),
-  (_, said.1),
-  (_, said.2),
-  (_, said.3),
-  (_, said.4),
-  (_, said.5),
-  rest,
+  (
+    few.1,
+    (
+      few.2,
+      (
+        few.3,
+        (
+          (_, said.0),
+          (
+            (_, said.1),
+            (
+              (_, said.2),
+              (
+                (_, said.3),
+                (
+                  (_, said.4),
+                  (
+                    (_, said.5),
+                    rest,
+                  ),
+                ),
+              ),
+            ),
+          ),
+        ),
+      ),
+    ),
+  ),
 )
 
 pub returns-in_err-dates_fit-clause-fault : goal.returns-in_err-dates_fit-clause-fault
@@ -38,7 +56,7 @@ returns-in_err-reading-clause-fault c =
     let few = c.in_ok-dates_fit.ensures.fine in
     found_up c.from_residual-in_err-reading.result c.in_err-reading.field-0.0 (value_checks v) (FailFirst (word_checks v))
     c.from_residual-in_err-reading.ensures.1 c.in_err-reading.ensures.fault
-    (λ fault is. behind (date_checks v) (word_checks v ++ output_checks v) fault (few.0, few.1, few.2, few.3, tt)
+    (λ fault is. behind (date_checks v) (word_checks v ++ output_checks v) fault (few.0, (few.1, (few.2, (few.3, tt))))
     (among_first (word_checks v) (output_checks v) fault is))
 
 pub returns-in_err-columns-clause-fault : goal.returns-in_err-columns-clause-fault
@@ -59,17 +77,18 @@ returns-in_err-three-clause-fault c =
 pub returns-in_err-files_fit-clause-fault : goal.returns-in_err-files_fit-clause-fault
 returns-in_err-files_fit-clause-fault c =
     let v = values_by c.args.options in
-    found_up c.from_residual-in_err-files_fit.result c.in_err-files_fit.field-0.0 (value_checks v)
-    (FailFirst (file_checks v)) c.from_residual-in_err-files_fit.ensures.1 c.in_err-files_fit.ensures.fault
-    (λ fault is. behind (take 12 (value_checks v)) (file_checks v) fault
+    let files = file_checks v.register v.files in
+    found_up c.from_residual-in_err-files_fit.result c.in_err-files_fit.field-0.0 (value_checks v) (FailFirst files)
+    c.from_residual-in_err-files_fit.ensures.1 (rw c.as_slice.ensures.value at c.in_err-files_fit.ensures.fault)
+    (λ fault is. behind (take 12 (value_checks v)) files fault
     (passed v _ (take 2 (output_checks v)) c.in_ok-dates_fit.ensures.fine c.in_ok-reading.ensures.value
-    ((_, c.in_ok-columns.ensures.value), (_, c.in_ok-three.ensures.value), tt)) is)
+    ((_, c.in_ok-columns.ensures.value), ((_, c.in_ok-three.ensures.value), tt))) is)
 
 pub returns-clause-asked : goal.returns-clause-asked
 returns-clause-asked c =
     let few = c.in_ok-dates_fit.ensures.fine in
     let said = c.in_ok-reading.ensures.value in
-    let fit = c.in_ok-files_fit.ensures.fine in
+    let fit = rw c.as_slice.ensures.value at c.in_ok-files_fit.ensures.fine in
     record {
       tree = refl;
       dates = refl;

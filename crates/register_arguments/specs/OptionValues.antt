@@ -4,7 +4,7 @@ use Rattle.std.specs.List.{slice_split}
 use Rattle.date_texts.specs.Calendars.{target_name}
 use Rattle.date_texts.specs.Names.{IsNamed}
 use Rattle.date_texts.specs.declared.target.Target.{Target}
-use Rattle.register_records.specs.SetupRules.{NamesTwice}
+use Rattle.register_records.specs.SetupRules.{NamesTwice, largest_ring, most_stripes}
 use Rattle.clap.specs.Words.{Text}
 use Rattle.programs.specs.Faults.{Fault, refused}
 use Rattle.programs.specs.Meanings.{Check}
@@ -70,3 +70,10 @@ number_check most what value = record {
       × ((n : ℕ) → ¬ IsNumberWord most word n);
   passes = (number : Option ℕ) × IsWritten most value number;
 }
+
+-- those of the ring and of the stripes
+abbrev pub ring_check : Option Text → Check
+ring_check = number_check largest_ring (codes "bad ring size: ")
+
+abbrev pub stripes_check : Option Text → Check
+stripes_check = number_check most_stripes (codes "bad stripes: ")

@@ -23,7 +23,7 @@ use Rattle.programs.specs.Rules.{is_set}
 use Rattle.programs.specs.Values.{IsValueOf, byte_of, delimiter_option}
 use Rattle.programs.specs.declared.requests.Request.{Request}
 use Rattle.register_arguments.specs.Fittings.{fitting_for}
-use Rattle.register_arguments.specs.OptionValues.{AsksForTargets, IsListFault, IsWritten, number_check}
+use Rattle.register_arguments.specs.OptionValues.{AsksForTargets, IsListFault, IsWritten, ring_check, stripes_check}
 use Rattle.register_arguments.specs.declared.help.TheConstants.{ABOVE, BELOW, TO, DELIMITER, SEALED, SUMMARY, RING}
 use Rattle.register_arguments.specs.declared.help.TheConstants.{STRIPES}
 use Rattle.register_arguments.specs.declared.jobs.Job.{Job}
@@ -124,9 +124,9 @@ target_check value = record {
 abbrev pub value_checks : Values → List Check
 value_checks values =
     target_check values.to
-    ∷ number_check largest_ring (codes "bad ring size: ") values.ring
+    ∷ ring_check values.ring
     ∷ option_check delimiter_option (codes "unknown delimiter: ") values.delimiter
-    ∷ number_check most_stripes (codes "bad stripes: ") values.stripes
+    ∷ stripes_check values.stripes
     ∷ file_check values.files
     ∷ []
 

@@ -1,9 +1,9 @@
 //! The values of the options.
 
-ghost use Rattle.std.specs.Prelude.{◌≡◌, Ok, Err, IfOk, IfErr, IfSome, IsSomeAnd, codes, option_map, true};
+ghost use Rattle.std.specs.Prelude.{◌≡◌, Ok, Err, IfOk, IfErr, IfSome, IsSomeAnd, option_map, true};
 ghost use Rattle.register_records.specs.SetupRules.{is_ring_size, is_stripe_count, largest_ring, most_stripes};
 ghost use Rattle.programs.specs.Faults.{fault_of_error};
-ghost use Rattle.register_arguments.specs.OptionValues.{IsWritten, number_check};
+ghost use Rattle.register_arguments.specs.OptionValues.{IsWritten, ring_check, stripes_check};
 ghost use Rattle.register_arguments.specs.private.OptionValues.{ListMeansJust};
 
 use date_texts::laws::one_target;
@@ -70,7 +70,7 @@ pub fn chosen_ring<'a>(word: Option<&'a str>) -> Result<Option<Ring>, RequestFau
     ensures value { IfOk result (λ ring. IsWritten largest_ring (option_map (λ w. w.now) word.entry)
         (option_map (λ r. r.size) ring)) }
     ensures fault { IfErr result (λ error. IsSomeAnd (fault_of_error error)
-        ((number_check largest_ring (codes "bad ring size: ") (option_map (λ w. w.now) word.entry)).fails)) }
+        ((ring_check (option_map (λ w. w.now) word.entry)).fails)) }
 {
     let Some(word) = word else {
         return Ok(None);
@@ -90,7 +90,7 @@ pub fn chosen_stripes<'a>(word: Option<&'a str>) -> Result<Option<Stripes>, Requ
     ensures value { IfOk result (λ stripes. IsWritten most_stripes (option_map (λ w. w.now) word.entry)
         (option_map (λ s. s.count) stripes)) }
     ensures fault { IfErr result (λ error. IsSomeAnd (fault_of_error error)
-        ((number_check most_stripes (codes "bad stripes: ") (option_map (λ w. w.now) word.entry)).fails)) }
+        ((stripes_check (option_map (λ w. w.now) word.entry)).fails)) }
 {
     let Some(word) = word else {
         return Ok(None);

@@ -8,7 +8,8 @@ use Rattle.std.proofs.lemmas.List.{get_or-map, length-map, map_more, take-map}
 use Rattle.std.proofs.lemmas.List.Folds.{Any-from_list_any, list_any_at}
 use Rattle.std.proofs.lemmas.Slice.Eq.{bytes_eq-Decides}
 use Rattle.clap.specs.Words.{Text}
-use Rattle.programs.specs.FileLists.{AreFilesToConvert, IsFileFault, IsFirstFileTwice, IsNamedTwice}
+use Rattle.programs.specs.Faults.{Fault}
+use Rattle.programs.specs.FileLists.{AreFilesToConvert, IsFilesFault, IsFirstFileTwice, IsNamedTwice}
 
 -- two places in one list are the same, or one of them comes first
 abbrev pub Meet : List Text → List ℕ → List Text → List ℕ → Type 0
@@ -46,13 +47,13 @@ one_first files file other x y = elim (meet x.before file x.after y.before other
       (record { before = y.before; after = mid; cut = cut; named = y.named }))
 ]
 
-module _ {F : Type 0} (too_many : F) (file_twice : Text → F) (files : List Text) where
-  pub fit_no_fault : (fault : F) → AreFilesToConvert files → IsFileFault too_many file_twice files fault → ⊥
+module _ (files : List Text) where
+  pub fit_no_fault : (fault : Fault) → AreFilesToConvert files → IsFilesFault files fault → ⊥
   fit_no_fault fault fit (inl many) = absurd (omega (arith, fit.0, many.1))
   fit_no_fault fault fit (inr twice) = fit.1 twice.0 (first_is_twice files twice.0 twice.3)
 
-  pub one_file_fault : (fault other : F) → IsFileFault too_many file_twice files fault
-      → IsFileFault too_many file_twice files other → fault ≡ other
+  pub one_file_fault : (fault other : Fault) → IsFilesFault files fault
+      → IsFilesFault files other → fault ≡ other
   one_file_fault fault other (inl many) (inl same) = many.0 ∙ sym same.0
   one_file_fault fault other (inl many) (inr twice) = absurd (omega (arith, many.1, twice.2))
   one_file_fault fault other (inr twice) (inl many) = absurd (omega (arith, many.1, twice.2))

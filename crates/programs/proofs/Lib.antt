@@ -2,6 +2,7 @@
 --   KindLemmas: an error of clap is of one kind.
 --   FileLemmas: files have one fault at most.
 --   MeaningLemmas, upon these: arguments mean one thing.
+--   CheckLemmas: which of some checks in order fails first.
 --   MatchLemmas: `opened`, `made`, `placed`, `kept` and `apart` of `open_files`.
 --   RefusedLemmas: when arguments are refused, and what is reported then, for `answer` of both programs.
 --   PageLemmas: `printed` of `print_page`.
@@ -10,6 +11,7 @@ mod Common
 pub mod KindLemmas
 pub mod FileLemmas
 pub mod MeaningLemmas
+pub mod CheckLemmas
 pub mod RefusedLemmas
 pub mod AppendsLemmas
 pub mod MatchLemmas

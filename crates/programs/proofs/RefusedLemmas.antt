@@ -4,31 +4,32 @@ use Rattle.std.specs.Option.{option_map_or}
 use Rattle.std.specs.Io.KnownBytes.{Appends}
 use Rattle.clap.specs.Words.{Text}
 use Rattle.register_records.specs.declared.outputs.Output as outputs
+use Rattle.programs.specs.Faults.{Fault}
 use Rattle.programs.specs.Meanings.{AreWrong, CommandLine, IsFaultOf, MeanJust, Meaning, wrong}
 use Rattle.programs.specs.OwnLines.{memory_line}
 use Rattle.programs.specs.Refusals.{IsReported, IsTold}
 
-module _ {T F : Type 0} (line : CommandLine T F) (arguments : List Text) where
+module _ {T : Type 0} (line : CommandLine T) (arguments : List Text) where
   -- nothing is wrong with arguments that ask for something
-  pub never_wrong : (meaning : Meaning T F) → MeanJust line arguments meaning → ((fault : F) → wrong fault ≢ meaning)
+  pub never_wrong : (meaning : Meaning T) → MeanJust line arguments meaning → ((fault : Fault) → wrong fault ≢ meaning)
       → AreWrong line arguments → ⊥
   never_wrong meaning just differs is = differs is.0 ((just (wrong is.0)).1 is.1)
 
   -- arguments that are refused are wrong
-  pub are_wrong : (found : Option F) (status : ℕ) → IfSome found (λ fault. MeanJust line arguments (wrong fault))
+  pub are_wrong : (found : Option Fault) (status : ℕ) → IfSome found (λ fault. MeanJust line arguments (wrong fault))
       → (status ≡ 3) ⊎ (status ≡ option_map_or (λ fault. 2) found 3) → status ≡ 2 → AreWrong line arguments
   are_wrong found status just (inl three) two = absurd (omega (arith, three, two))
   are_wrong None status just (inr three) two = absurd (omega (arith, three, two))
   are_wrong (Some fault) status just (inr is) two = (fault, (just (wrong fault)).0 refl)
 
   -- and then they have the fault that is reported
-  pub is_wrong : (found : Option F) → IfSome found (λ fault. MeanJust line arguments (wrong fault))
+  pub is_wrong : (found : Option Fault) → IfSome found (λ fault. MeanJust line arguments (wrong fault))
       → IfSome found (IsFaultOf line arguments)
   is_wrong None just = tt
   is_wrong (Some fault) just = (just (wrong fault)).0 refl
 
 -- arguments with a fault are refused, unless there was no memory
-pub is_refused : {F : Type 0} (found : Option F) (status : ℕ)
+pub is_refused : (found : Option Fault) (status : ℕ)
     → (status ≡ 3) ⊎ (status ≡ option_map_or (λ fault. 2) found 3) → status ≢ 3 → status ≡ 2
 is_refused found status (inl three) had = absurd (had three)
 is_refused None status (inr three) had = absurd (had three)

@@ -1,6 +1,7 @@
 pub mod Rules
 pub mod ArgumentRules
 pub mod Values
+pub mod Faults
 pub mod FileLists
 pub mod Meanings
 pub mod OutputNames
@@ -11,6 +12,7 @@ pub mod LoggedWriters
 pub mod OwnLines
 pub mod Pages
 pub mod HelpPages
+pub mod OptionRows
 pub mod Refusals
 pub mod Requests
 pub mod private

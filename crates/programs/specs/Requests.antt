@@ -7,11 +7,11 @@ use Rattle.clap.specs.declared.parser.matches.ArgMatches.{ArgMatches}
 use Rattle.programs.specs.Meanings.{Meaning, help, version, work}
 use Rattle.programs.specs.declared.requests.Request.{Request}
 use Rattle.programs.specs.declared.requests.Request.TheVariants as request
-use Rattle.programs.specs.declared.requests.UsageFault.{UsageFault}
-use Rattle.programs.specs.declared.requests.UsageFault.TheVariants as usage_fault
+use Rattle.programs.specs.declared.request_faults.RequestFault.{RequestFault}
+use Rattle.programs.specs.declared.request_faults.RequestFault.TheVariants as request_fault
 
 -- what a request stands for, by what its job asks for
-abbrev pub meaning_by : {J T F : Type 0} → (J → T) → Request J → Meaning T F
+abbrev pub meaning_by : {J T : Type 0} → (J → T) → Request J → Meaning T
 meaning_by task_of request.Help = help
 meaning_by task_of request.Version = version
 meaning_by task_of (request.Convert job) = work (task_of job)
@@ -24,7 +24,8 @@ AreRead app arguments (request.Convert matches) =
     (fault_of app arguments ≡ []) × (rows_of (found_of matches) ≡ matches_of app arguments)
 
 -- they are not read for this reason: what is wrong with them, or that memory ran out
-abbrev pub AreUnread : App → List Text → UsageFault → Type 0
-AreUnread app arguments usage_fault.OutOfMemory = ⊤
-AreUnread app arguments (usage_fault.Usage error) =
+abbrev pub AreUnread : App → List Text → RequestFault → Type 0
+AreUnread app arguments request_fault.OutOfMemory = ⊤
+AreUnread app arguments (request_fault.Usage error) =
     IsAmong (kind_of error) (fault_of app arguments) × (kind_of error ≢ DisplayHelp) × (kind_of error ≢ DisplayVersion)
+AreUnread app arguments (request_fault.Refused what word) = ⊥

@@ -1,19 +1,13 @@
 //! The files that arguments name.
 
-ghost use Rattle.std.specs.Prelude.{ℕ, List, IfErr, IfSome, IfNone, OnOk, map};
+ghost use Rattle.std.specs.Prelude.{ℕ, List, IfErr, IfSome, IfNone, IsSomeAnd, OnOk, map};
+ghost use Rattle.programs.specs.Faults.{fault_of_error};
 ghost use Rattle.programs.specs.FileLists.{AreFilesToConvert, IsFilesFault, IsFirstFileTwice, IsNamedTwice};
+
+use crate::request_faults::RequestFault;
 
 /// The most files of a command line.
 pub const MAX_FILES: usize = 32;
-
-/// What is wrong with the files that arguments name.
-#[derive(Clone, Copy, PartialEq, Eq, Debug)]
-pub enum FilesFault<'a> {
-    /// There are more than 32.
-    TooMany,
-    /// This one was named before.
-    Twice(&'a str),
-}
 
 /// The first file from the left that was named before, or `None` where each is named once.
 fn file_named_twice<'a>(files: &[&'a str]) -> Option<&'a str>
@@ -32,16 +26,16 @@ fn file_named_twice<'a>(files: &[&'a str]) -> Option<&'a str>
 ///
 /// # Errors
 ///
-/// `TooMany` where there are more than 32, and else `Twice` for the first that was named before.
-pub fn check_files<'a>(files: &[&'a str]) -> Result<(), FilesFault<'a>>
+/// There are more than 32, or else one was named before, of which it says the first.
+pub fn check_files<'a>(files: &[&'a str]) -> Result<(), RequestFault<'a>>
     ensures fine { OnOk result (AreFilesToConvert (map (λ f. f.now) files.now)) }
-    ensures fault { IfErr result (IsFilesFault (map (λ f. f.now) files.now)) }
+    ensures fault { IfErr result (λ error. IsSomeAnd (fault_of_error error) (IsFilesFault (map (λ f. f.now) files.now))) }
 {
     if files.len() > MAX_FILES {
-        return Err(FilesFault::TooMany);
+        return Err(RequestFault::Refused("more than 32 files", ""));
     }
     match file_named_twice(files) {
-        Some(file) => Err(FilesFault::Twice(file)),
+        Some(file) => Err(RequestFault::Refused("file named twice: ", file)),
         None => Ok(()),
     }
 }

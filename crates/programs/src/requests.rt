@@ -5,6 +5,7 @@ ghost use Rattle.std.specs.String.{string_bytes};
 ghost use Rattle.clap.specs.Words.{app_of, is_simple_and_free};
 ghost use Rattle.programs.specs.Requests.{AreRead, AreUnread};
 
+use crate::request_faults::RequestFault;
 use clap::error::ErrorKind;
 use clap::{ArgMatches, Command};
 
@@ -19,15 +20,6 @@ pub enum Request<J> {
     Convert(J),
 }
 
-/// Why arguments are not read.
-#[derive(Debug, Drop)]
-pub enum UsageFault {
-    /// Memory ran out.
-    OutOfMemory,
-    /// They are not written as they are taken. The text says how, and ends its last line.
-    Usage(clap::Error),
-}
-
 /// Reads arguments by a command: what clap finds in them, or that they ask for a page.
 ///
 /// # Errors
@@ -36,7 +28,7 @@ pub enum UsageFault {
 pub fn read_arguments<'a>(
     command: Command<'a>,
     arguments: &'a [String],
-) -> Result<Request<ArgMatches<'a>>, UsageFault>
+) -> Result<Request<ArgMatches<'a>>, RequestFault<'a>>
     requires simple { is_simple_and_free (app_of command) ≡ true }
     ensures read { IfOk result (AreRead (app_of command.entry) (map string_bytes arguments.entry.now)) }
     ensures unread { IfErr result (AreUnread (app_of command.entry) (map string_bytes arguments.entry.now)) }
@@ -46,8 +38,8 @@ pub fn read_arguments<'a>(
         Err(error) => match error.kind() {
             ErrorKind::DisplayHelp => Ok(Request::Help),
             ErrorKind::DisplayVersion => Ok(Request::Version),
-            ErrorKind::OutOfMemory => Err(UsageFault::OutOfMemory),
-            _ => Err(UsageFault::Usage(error)),
+            ErrorKind::OutOfMemory => Err(RequestFault::OutOfMemory),
+            _ => Err(RequestFault::Usage(error)),
         },
     }
 }

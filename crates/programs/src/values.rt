@@ -1,8 +1,11 @@
 //! What the words of options mean.
 
-ghost use Rattle.std.specs.Prelude.{◌≡◌, ◌↔◌, ℕ, Some, IfOk, IfErr, option_map};
-ghost use Rattle.programs.specs.Values.{IsNumberWord, IsValueOf, NamesNothing, ValueOption, byte_of};
-ghost use Rattle.programs.specs.Values.{delimiter_option};
+ghost use Rattle.std.specs.Prelude.{◌≡◌, ◌↔◌, ℕ, Some, IfOk, IfErr, IsSomeAnd, option_map};
+ghost use Rattle.programs.specs.Faults.{fault_of_error};
+ghost use Rattle.programs.specs.Meanings.{option_check};
+ghost use Rattle.programs.specs.Values.{IsNumberWord, IsValueOf, ValueOption, byte_of, delimiter_option};
+
+use crate::request_faults::RequestFault;
 
 /// The most digits of a number.
 const MAX_DIGITS: usize = 5;
@@ -81,13 +84,20 @@ impl OptionValue for Delimiter {
 ///
 /// # Errors
 ///
-/// The word, where it names nothing.
-pub fn chosen<'a, V: OptionValue>(word: Option<&'a str>) -> Result<V, &'a str>
+/// A word that names nothing, and that this is what is wrong with it.
+pub fn chosen<'a, V: OptionValue>(
+    what: &'static str,
+    word: Option<&'a str>,
+) -> Result<V, RequestFault<'a>>
     ensures value { IfOk result (λ value. IsValueOf V.option (option_map (λ w. w.now) word.entry) (V.number value)) }
-    ensures fault { IfErr result (λ named. NamesNothing V.option (option_map (λ w. w.now) word.entry) named.now) }
+    ensures fault { IfErr result (λ error. IsSomeAnd (fault_of_error error)
+        ((option_check V.option what.entry.now (option_map (λ w. w.now) word.entry)).fails)) }
 {
     let Some(word) = word else {
         return Ok(V::default());
     };
-    V::named(word).ok_or(word)
+    match V::named(word) {
+        Some(value) => Ok(value),
+        None => Err(RequestFault::Refused(what, word)),
+    }
 }

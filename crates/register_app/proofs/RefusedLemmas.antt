@@ -7,16 +7,17 @@ use Rattle.register_records.specs.declared.outputs.Output as outputs
 use Rattle.programs.specs.Meanings.{Meaning, wrong}
 use Rattle.programs.specs.Refusals.{IsTold}
 use Rattle.programs.proofs.RefusedLemmas as refused
-use Rattle.register_arguments.specs.Faults.{Fault, memory_line, name}
+use Rattle.programs.specs.Faults.{Fault}
+use Rattle.programs.specs.declared.request_faults.RequestFault.TheVariants as request_fault
+use Rattle.register_arguments.specs.Requests.{memory_line, name}
 use Rattle.register_arguments.specs.Requests.{AreWrong, MeanJust, Task, register_line}
-use Rattle.register_arguments.specs.declared.request_faults.RequestFault.TheVariants as request_fault
 use Rattle.register_app.specs.Answers.{IsReported}
 use Rattle.register_app.specs.ProgramFaults.{IsFaultOfAsked, fault_line, fault_status}
 use Rattle.register_app.specs.declared.program_faults.ProgramFault.{ProgramFault}
 use Rattle.register_app.specs.declared.program_faults.ProgramFault.TheVariants as program_fault
 
 -- arguments that ask for something are not refused
-pub never_refused : (arguments : List Text) (meaning : Meaning Task Fault) (status : ℕ) → MeanJust arguments meaning
+pub never_refused : (arguments : List Text) (meaning : Meaning Task) (status : ℕ) → MeanJust arguments meaning
     → ((fault : Fault) → wrong fault ≢ meaning) → status ≢ 2
     → (status ≡ 2) ↔ AreWrong arguments
 never_refused arguments meaning status just differs other =

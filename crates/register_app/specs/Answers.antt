@@ -19,8 +19,7 @@ use Rattle.programs.specs.Meanings.{help, version, work}
 use Rattle.programs.specs.OwnLines as lines
 use Rattle.programs.specs.Pages.{IsPrinted}
 use Rattle.programs.specs.Refusals as refusals
-use Rattle.register_arguments.specs.Faults.{name}
-use Rattle.register_arguments.specs.HelpPage.{help_page}
+use Rattle.register_arguments.specs.Requests.{help_page, name}
 use Rattle.register_arguments.specs.Requests.{IsSetupOf, MeanJust, Task}
 use Rattle.register_arguments.specs.declared.requests.TheConstants.{VERSION}
 

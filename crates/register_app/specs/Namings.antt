@@ -3,7 +3,7 @@ use Rattle.std.specs.Prelude.{◌≡◌, ◌⊎◌, ◌↔◌, ◌++◌, ℕ, Al
 use Rattle.std.specs.Io.KnownBytes.{Appends}
 use Rattle.std.specs.List.{AllZip, flat_map}
 use Rattle.register_records.specs.declared.outputs.Output as outputs
-use Rattle.register_arguments.specs.Faults.{memory_line, program_line}
+use Rattle.register_arguments.specs.Requests.{memory_line, program_line}
 
 -- the line on a table that has not got its name: that, or that memory ran out for it
 abbrev pub IsUnnamedLine : List ℕ → List ℕ → Type 0

@@ -1,7 +1,7 @@
 -- Why nothing is done, and what standard error gets of it.
 use Rattle.std.specs.Prelude.{◌≡◌, ◌++◌, ℕ, List, codes, IfSome, Option, Some, None, slice_get}
-use Rattle.register_arguments.specs.Faults.{Fault, error_line, fault_of_error, memory_line, program_line}
-use Rattle.register_arguments.specs.Faults.{status_of_fault}
+use Rattle.programs.specs.Faults.{Fault, error_line, fault_of_error, status_of_fault}
+use Rattle.register_arguments.specs.Requests.{memory_line, name, program_line}
 use Rattle.programs.specs.Meanings.{work}
 use Rattle.register_arguments.specs.Requests.{IsFaultOf, MeanJust, Task}
 use Rattle.programs.specs.Openings.{missing_file}
@@ -26,7 +26,7 @@ fault_status (program_fault.Files fault) = 3
 
 -- the line on standard error; on arguments that are not taken, clap says more
 abbrev pub fault_line : ProgramFault → Option (List ℕ)
-fault_line (program_fault.Arguments error) = error_line error
+fault_line (program_fault.Arguments error) = error_line name error
 fault_line (program_fault.Files (file_fault.CannotOpen file)) = Some (program_line (codes "cannot open " ++ file.now))
 fault_line (program_fault.Files (file_fault.CannotMake file)) =
     Some (program_line (codes "cannot make " ++ (file.now ++ codes ".out.csv")))

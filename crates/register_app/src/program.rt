@@ -9,7 +9,7 @@ ghost use Rattle.register_records.specs.Sources.{is_whole_end};
 ghost use Rattle.programs.specs.Openings.{AreMade, IsFresh, IsNewlyMade};
 ghost use Rattle.register_app.specs.ProgramFaults.{IsFaultOfAsked, fault_status};
 ghost use Rattle.register_app.specs.Reports.{lines_from};
-ghost use Rattle.register_arguments.specs.Faults.{name};
+ghost use Rattle.register_arguments.specs.Requests.{name};
 ghost use Rattle.programs.specs.HelpPages.{page_text};
 ghost use Rattle.programs.specs.Pages.{IsPrinted};
 ghost use Rattle.programs.specs.FileLists.{most_files};
@@ -20,10 +20,10 @@ use crate::naming::name_tables;
 use crate::program_faults::ProgramFault;
 use crate::reporting::report_ends;
 use programs::{
-    COMPLETE, FileStore, INCOMPLETE, NOT_BEGUN, Opened, Page, Request, open_files, print_page,
-    report_out_of_memory, report_refusal, version_line,
+    COMPLETE, FileStore, INCOMPLETE, NOT_BEGUN, Opened, Page, Request, RequestFault, open_files,
+    print_page, report_out_of_memory, report_refusal, version_line,
 };
-use register_arguments::{Job, MAX_FILES, NAME, RequestFault, VERSION, page_of_help, read_request};
+use register_arguments::{Job, MAX_FILES, NAME, VERSION, page_of_help, read_request};
 use register_records::Output;
 use register_run::{MAX_SOURCES, Ran, Report, Verdict, run};
 use std::alloc::Global;

@@ -1,7 +1,7 @@
 //! Why nothing is done.
 
-use programs::{FileFault, NOT_BEGUN, OUT_OF_MEMORY, Refusal, output_name, own_line};
-use register_arguments::{NAME, RequestFault};
+use programs::{FileFault, NOT_BEGUN, OUT_OF_MEMORY, Refusal, RequestFault, output_name, own_line};
+use register_arguments::NAME;
 use std::alloc::{AllocError, Global};
 
 /// Why nothing is done: what is wrong with the arguments, or with the files that they name.
@@ -27,7 +27,7 @@ impl Refusal for ProgramFault<'_> {
 
     fn text(&self, alloc: Global) -> Result<String, AllocError> {
         match self {
-            ProgramFault::Arguments(fault) => fault.text(alloc),
+            ProgramFault::Arguments(fault) => fault.text(NAME, alloc),
             ProgramFault::Files(FileFault::CannotOpen(file)) => {
                 own_line(alloc, NAME, "cannot open ", file)
             }

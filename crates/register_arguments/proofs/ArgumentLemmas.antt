@@ -6,9 +6,8 @@ use Rattle.date_texts.specs.declared.target.Target.{Target}
 use Rattle.programs.proofs.KindLemmas.{lone_app, one_of}
 use Rattle.programs.proofs.MeaningLemmas.{IsClear, IsSound, one_asked, one_byte, one_number}
 use Rattle.programs.proofs.MeaningLemmas.{sound_files, sound_option}
-use Rattle.register_arguments.specs.Faults.{Fault}
 use Rattle.register_arguments.specs.OptionValues.{IsWritten, number_check}
-use Rattle.register_arguments.specs.CommandLine.{Values, values_of}
+use Rattle.register_arguments.specs.Requests.{Values, values_of}
 use Rattle.register_arguments.specs.Requests.{AreTargetsOf, Ask, Task, register_line, target_check}
 use Rattle.register_arguments.proofs.ListLemmas.{asks_no_fault, asks_one, one_fault}
 
@@ -31,8 +30,8 @@ one_written : (most : ℕ) (value : Option Text) (number other : Option ℕ) →
 one_written most None number other is same = is ∙ sym same
 one_written most (Some word) number other is same = grind (arith, one_number)
 
-sound_number : (most : ℕ) (fault : Text → Fault) (value : Option Text) → IsSound (number_check most fault value)
-sound_number most fault value = search rules
+sound_number : (most : ℕ) (what : Text) (value : Option Text) → IsSound (number_check most what value)
+sound_number most what value = search rules
 
 -- values ask for one task at most
 one_task : (values : Values) (a b : Task) → OneTarget → Ask values a → Ask values b → a ≡ b

@@ -18,11 +18,11 @@ use Rattle.date_texts.specs.declared.target.Target.{Target}
 use Rattle.register_records.specs.SetupRules.{NamesTwice}
 use Rattle.date_texts.specs.Laws.{OneTarget}
 use Rattle.programs.proofs.FileLemmas.{meet}
+use Rattle.programs.specs.Faults.{Fault}
 use Rattle.register_arguments.specs.OptionValues.{AreNamesOf, StandsBehind, names_in, no_target, AsksForTargets}
 use Rattle.register_arguments.specs.OptionValues.{IsFirstTargetTwice, IsFirstUnknown, IsListFault}
 use Rattle.register_arguments.specs.private.OptionValues.{ListMeans}
 use Rattle.register_arguments.specs.private.OptionValues.{ListMeansJust}
-use Rattle.register_arguments.specs.Faults.{Fault}
 
 -- one more name and its target
 pub named_more : (names : List (List ℕ)) (targets : List Target) (name : List ℕ) (target : Target)

@@ -1,7 +1,4 @@
-pub mod Faults
 pub mod OptionValues
 pub mod Fittings
-pub mod CommandLine
 pub mod Requests
-pub mod HelpPage
 pub mod private

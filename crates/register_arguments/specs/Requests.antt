@@ -1,7 +1,8 @@
--- What the arguments ask for.
-use Rattle.std.specs.Prelude.{◌≡◌, ℕ, Bool, List, [], ◌∷◌, map, if◌then◌else◌, Option, Some, None, option_map, length}
-use Rattle.std.specs.Prelude.{unwrap_or}
-use Rattle.clap.specs.Words.{Text}
+-- The command line: its options and its page of help, the values that arguments give to it, what these ask for, and what is
+-- wrong with them.
+use Rattle.std.specs.Prelude.{List, [], ◌∷◌, Bool, codes, Option, unwrap_or, ◌≡◌, ℕ, map, if◌then◌else◌, Some, None}
+use Rattle.std.specs.Prelude.{option_map, length}
+use Rattle.clap.specs.Words.{App, Row, Text, all_of, first_of, one_of}
 use Rattle.date_texts.specs.Calendars.{default_targets}
 use Rattle.date_texts.specs.declared.target.Target.{Target}
 use Rattle.register_records.specs.Entries.{Reading}
@@ -11,18 +12,73 @@ use Rattle.register_records.specs.Tables.{Layout}
 use Rattle.register_records.specs.Views.{layout_of, reading_of}
 use Rattle.register_records.specs.declared.setups.Form.TheVariants.{Plain, Sealed}
 use Rattle.register_records.specs.declared.setups.Setup.{Setup}
+use Rattle.programs.specs.Faults.{Fault}
 use Rattle.programs.specs.FileLists.{AreFilesToConvert}
 use Rattle.programs.specs.Meanings as lines
 use Rattle.programs.specs.Meanings.{Check, CommandLine, Meaning, file_check, option_check}
+use Rattle.programs.specs.OptionRows.{OptionRow, command_by, flag, page_by, valued}
+use Rattle.programs.specs.OwnLines as own_lines
 use Rattle.programs.specs.Requests.{meaning_by}
-use Rattle.programs.specs.declared.requests.Request.{Request}
+use Rattle.programs.specs.Rules.{is_set}
 use Rattle.programs.specs.Values.{IsValueOf, byte_of, delimiter_option}
-use Rattle.register_arguments.specs.CommandLine.{Values, command_line, values_of}
-use Rattle.register_arguments.specs.Faults.{Fault, bad_ring, bad_stripes, file_twice, too_many_files}
-use Rattle.register_arguments.specs.Faults.{unknown_delimiter, usage}
+use Rattle.programs.specs.declared.requests.Request.{Request}
 use Rattle.register_arguments.specs.Fittings.{fitting_for}
-use Rattle.register_arguments.specs.OptionValues.{AsksForTargets, IsListFault, IsWritten, number_check}
+use Rattle.register_arguments.specs.OptionValues.{AsksForTargets, IsListFault, IsWritten, ring_check, stripes_check}
+use Rattle.register_arguments.specs.declared.help.TheConstants.{ABOVE, BELOW, TO, DELIMITER, SEALED, SUMMARY, RING}
+use Rattle.register_arguments.specs.declared.help.TheConstants.{STRIPES}
 use Rattle.register_arguments.specs.declared.jobs.Job.{Job}
+
+-- the options, in order
+abbrev pub options : List OptionRow
+options =
+    valued (codes "to") (codes "LIST") TO.now
+    ∷ valued (codes "delimiter") (codes "WORD") DELIMITER.now
+    ∷ flag (codes "sealed") SEALED.now
+    ∷ flag (codes "summary") SUMMARY.now
+    ∷ valued (codes "ring") (codes "N") RING.now
+    ∷ valued (codes "stripes") (codes "N") STRIPES.now ∷ []
+
+-- the name of the program
+abbrev pub name : Text
+name = codes "register"
+
+-- a line of the program's own
+abbrev pub program_line : Text → Text
+program_line = own_lines.program_line name
+
+-- that memory ran out
+abbrev pub memory_line : Text
+memory_line = own_lines.memory_line name
+
+-- the command line: the command with all arguments
+abbrev pub command_line : App
+command_line = command_by name options
+
+-- the page of help
+abbrev pub help_page : Text
+help_page = page_by ABOVE.now options BELOW.now
+
+-- the value of each option that is used, whether each flag is given, and the files, in order
+pub record Values : Type 0 where
+  pub to : Option Text
+  pub ring : Option Text
+  pub delimiter : Option Text
+  pub stripes : Option Text
+  pub sealed : Bool
+  pub summary : Bool
+  pub files : List Text
+
+-- the values that clap finds in the arguments
+abbrev pub values_of : List Row → Values
+values_of found = record {
+  to = first_of (codes "to") found;
+  ring = first_of (codes "ring") found;
+  delimiter = first_of (codes "delimiter") found;
+  stripes = first_of (codes "stripes") found;
+  sealed = is_set (one_of (codes "sealed") found);
+  summary = is_set (one_of (codes "summary") found);
+  files = unwrap_or (all_of (codes "file") found) [];
+}
 
 -- what arguments can ask of a run: how its registers are read and how its tables are written, the size of its rings and
 -- the converters of a source where they are written, whether a summary is wanted, and the files
@@ -58,33 +114,32 @@ IsTargetFault None fault = ⊥
 IsTargetFault (Some list) fault = IsListFault list fault
 
 -- the check of the targets
-abbrev pub target_check : Option Text → Check Fault
+abbrev pub target_check : Option Text → Check
 target_check value = record {
   fails = IsTargetFault value;
   passes = (targets : List Target) × AreTargetsOf value targets;
 }
 
 -- the checks of values, in order
-abbrev pub value_checks : Values → List (Check Fault)
+abbrev pub value_checks : Values → List Check
 value_checks values =
     target_check values.to
-    ∷ number_check largest_ring bad_ring values.ring
-    ∷ option_check delimiter_option unknown_delimiter values.delimiter
-    ∷ number_check most_stripes bad_stripes values.stripes
-    ∷ file_check too_many_files file_twice values.files
+    ∷ ring_check values.ring
+    ∷ option_check delimiter_option (codes "unknown delimiter: ") values.delimiter
+    ∷ stripes_check values.stripes
+    ∷ file_check values.files
     ∷ []
 
 -- the command line, and what is asked by it
-abbrev pub register_line : CommandLine Task Fault
+abbrev pub register_line : CommandLine Task
 register_line = record {
   command = command_line;
   asks = λ found task. Ask (values_of found) task;
   checks = λ found. value_checks (values_of found);
-  usage = usage;
 }
 
 -- what the arguments mean and nothing else, what is wrong with them, and that something is
-abbrev pub MeanJust : List Text → Meaning Task Fault → Type 0
+abbrev pub MeanJust : List Text → Meaning Task → Type 0
 MeanJust = lines.MeanJust register_line
 
 abbrev pub IsFaultOf : List Text → Fault → Type 0
@@ -116,5 +171,5 @@ IsSetupOf task processors setup =
     × (setup.stripes ≡ unwrap_or task.stripes (fitting_for processors (length task.files)).stripes)
 
 -- what a request stands for
-abbrev pub meaning_of : Request Job → Meaning Task Fault
+abbrev pub meaning_of : Request Job → Meaning Task
 meaning_of = meaning_by task_of

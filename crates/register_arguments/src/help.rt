@@ -2,7 +2,7 @@
 
 ghost use Rattle.std.specs.Prelude.{◌≡◌};
 ghost use Rattle.programs.specs.HelpPages.{page_text};
-ghost use Rattle.register_arguments.specs.HelpPage.{help_page};
+ghost use Rattle.register_arguments.specs.Requests.{help_page};
 
 use programs::{Argument, Help, Kind, Page, Value};
 use register_records::{MAX_RING, MAX_STRIPES};

@@ -5,7 +5,6 @@ mod fittings;
 mod help;
 mod jobs;
 mod option_values;
-mod request_faults;
 mod requests;
 
 pub use fittings::{Fit, fitting};
@@ -13,5 +12,4 @@ pub use help::{ARGUMENTS, HELP, page_of_help};
 pub use jobs::Job;
 pub use option_values::{NO_TARGET, Ring, Stripes};
 pub use programs::MAX_FILES;
-pub use request_faults::RequestFault;
 pub use requests::{NAME, VERSION, command, read_request};

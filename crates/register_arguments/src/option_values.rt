@@ -2,16 +2,13 @@
 
 ghost use Rattle.std.specs.Prelude.{◌≡◌, Ok, Err, IfOk, IfErr, IfSome, IsSomeAnd, option_map, true};
 ghost use Rattle.register_records.specs.SetupRules.{is_ring_size, is_stripe_count, largest_ring, most_stripes};
-ghost use Rattle.programs.specs.Meanings.{option_check};
-ghost use Rattle.programs.specs.Values.{IsValueOf, byte_of, delimiter_option};
-ghost use Rattle.register_arguments.specs.Faults.{bad_ring, bad_stripes, fault_of_error, unknown_delimiter};
-ghost use Rattle.register_arguments.specs.OptionValues.{IsWritten, number_check};
+ghost use Rattle.programs.specs.Faults.{fault_of_error};
+ghost use Rattle.register_arguments.specs.OptionValues.{IsWritten, ring_check, stripes_check};
 ghost use Rattle.register_arguments.specs.private.OptionValues.{ListMeansJust};
 
-use crate::request_faults::RequestFault;
 use date_texts::laws::one_target;
 use date_texts::{Target, target_named};
-use programs::{Delimiter, chosen, number_named};
+use programs::{RequestFault, number_named};
 use register_records::{MAX_RING, MAX_STRIPES};
 use std::alloc::Global;
 
@@ -23,9 +20,7 @@ pub const NO_TARGET: &str = "none";
 ///
 /// # Errors
 ///
-/// The names are looked at from left to right: `UnknownTarget` for the first that names no target, and
-/// `TargetTwice` for the first whose target was named before, whichever comes first. `OutOfMemory` where
-/// memory runs out.
+/// The names are looked at from left to right, for the first that names no target, or whose target was named before.
 pub fn read_targets(alloc: Global, list: &str) -> Result<Vec<Target>, RequestFault<'_>>
     ensures value { IfOk result (λ targets. ListMeansJust list.entry.now (Ok targets.items)) }
     ensures fault { IfErr result (λ error. IfSome (fault_of_error error)
@@ -38,10 +33,10 @@ pub fn read_targets(alloc: Global, list: &str) -> Result<Vec<Target>, RequestFau
     }
     'names: for name in list.split(',') {
         let Some(target) = target_named(name) else {
-            return Err(RequestFault::UnknownTarget(name));
+            return Err(RequestFault::Refused("unknown target: ", name));
         };
         if targets.contains(&target) {
-            return Err(RequestFault::TargetTwice(target));
+            return Err(RequestFault::Refused("target named twice: ", target.name()));
         }
         if targets.push(target).is_err() {
             return Err(RequestFault::OutOfMemory);
@@ -70,35 +65,19 @@ pub struct Stripes {
 ///
 /// # Errors
 ///
-/// `BadRing` for a word that names none.
+/// A word that names none.
 pub fn chosen_ring<'a>(word: Option<&'a str>) -> Result<Option<Ring>, RequestFault<'a>>
     ensures value { IfOk result (λ ring. IsWritten largest_ring (option_map (λ w. w.now) word.entry)
         (option_map (λ r. r.size) ring)) }
     ensures fault { IfErr result (λ error. IsSomeAnd (fault_of_error error)
-        ((number_check largest_ring bad_ring (option_map (λ w. w.now) word.entry)).fails)) }
+        ((ring_check (option_map (λ w. w.now) word.entry)).fails)) }
 {
     let Some(word) = word else {
         return Ok(None);
     };
     match number_named(word, MAX_RING) {
         Some(size) => Ok(Some(Ring { size })),
-        None => Err(RequestFault::BadRing(word)),
-    }
-}
-
-/// The delimiter that `--delimiter` asks for.
-///
-/// # Errors
-///
-/// `UnknownDelimiter` for a word that names none.
-pub fn chosen_delimiter<'a>(word: Option<&'a str>) -> Result<Delimiter, RequestFault<'a>>
-    ensures value { IfOk result (λ value. IsValueOf delimiter_option (option_map (λ w. w.now) word.entry) (byte_of value)) }
-    ensures fault { IfErr result (λ error. IsSomeAnd (fault_of_error error)
-        ((option_check delimiter_option unknown_delimiter (option_map (λ w. w.now) word.entry)).fails)) }
-{
-    match chosen::<Delimiter>(word) {
-        Ok(delimiter) => Ok(delimiter),
-        Err(word) => Err(RequestFault::UnknownDelimiter(word)),
+        None => Err(RequestFault::Refused("bad ring size: ", word)),
     }
 }
 
@@ -106,18 +85,18 @@ pub fn chosen_delimiter<'a>(word: Option<&'a str>) -> Result<Delimiter, RequestF
 ///
 /// # Errors
 ///
-/// `BadStripes` for a word that names none.
+/// A word that names none.
 pub fn chosen_stripes<'a>(word: Option<&'a str>) -> Result<Option<Stripes>, RequestFault<'a>>
     ensures value { IfOk result (λ stripes. IsWritten most_stripes (option_map (λ w. w.now) word.entry)
         (option_map (λ s. s.count) stripes)) }
     ensures fault { IfErr result (λ error. IsSomeAnd (fault_of_error error)
-        ((number_check most_stripes bad_stripes (option_map (λ w. w.now) word.entry)).fails)) }
+        ((stripes_check (option_map (λ w. w.now) word.entry)).fails)) }
 {
     let Some(word) = word else {
         return Ok(None);
     };
     match number_named(word, MAX_STRIPES) {
         Some(count) => Ok(Some(Stripes { count })),
-        None => Err(RequestFault::BadStripes(word)),
+        None => Err(RequestFault::Refused("bad stripes: ", word)),
     }
 }

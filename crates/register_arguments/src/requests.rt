@@ -1,25 +1,24 @@
 //! What the arguments ask for.
 
-ghost use Rattle.std.specs.Prelude.{◌≡◌, IfOk, IfErr, IfSome, IsSomeAnd, OnOk, map, option_map, if◌then◌else◌};
+ghost use Rattle.std.specs.Prelude.{◌≡◌, IfOk, IfErr, IfSome, map, option_map, if◌then◌else◌};
 ghost use Rattle.std.specs.String.{string_bytes};
 ghost use Rattle.clap.specs.Words.{app_of, found_of, rows_of};
-ghost use Rattle.programs.specs.FileLists.{AreFilesToConvert, IsFileFault};
+ghost use Rattle.programs.specs.Faults.{fault_of_error};
 ghost use Rattle.programs.specs.Meanings.{FailFirst, wrong};
-ghost use Rattle.register_arguments.specs.CommandLine.{command_line, values_of};
-ghost use Rattle.register_arguments.specs.Faults.{fault_of_error, file_twice, too_many_files};
+ghost use Rattle.register_arguments.specs.Requests.{command_line, values_of};
 ghost use Rattle.register_arguments.specs.Requests.{AreTargetsOf, Ask, IsTargetFault, MeanJust, meaning_of};
 ghost use Rattle.register_arguments.specs.Requests.{register_line, task_of, value_checks};
 ghost use Rattle.register_arguments.specs.private.Requests.{values_by};
 
 use crate::help::ARGUMENTS;
 use crate::jobs::Job;
-use crate::option_values::{chosen_delimiter, chosen_ring, chosen_stripes, read_targets};
-use crate::request_faults::RequestFault;
+use crate::option_values::{chosen_ring, chosen_stripes, read_targets};
 use clap::{ArgMatches, Command};
 use date_texts::Target;
 use date_texts::laws::{default_targets, one_target};
 use programs::{
-    Request, check_files, command_with, is_given, read_arguments, value_given, values_given,
+    Delimiter, Request, RequestFault, check_files, chosen, command_with, is_given, read_arguments,
+    value_given, values_given,
 };
 use register_records::Form;
 use std::alloc::{AllocError, Global};
@@ -98,9 +97,7 @@ fn chosen_form(sealed: bool) -> Form
 ///
 /// # Errors
 ///
-/// The first that applies: the faults of the list of targets as [`read_targets`] has them, `BadRing`,
-/// `UnknownDelimiter`, `BadStripes`, and the faults of the files as [`check_files`] has them; and `OutOfMemory` where
-/// memory runs out on the way.
+/// The first thing that is wrong, in the order of the lines below.
 fn chosen_job<'a>(alloc: Global, options: Options<'a>) -> Result<Job<'a>, RequestFault<'a>>
     ensures asked { IfOk result (λ job. Ask (values_by options.entry) (task_of job)) }
     ensures fault { IfErr result (λ error. IfSome (fault_of_error error)
@@ -108,7 +105,7 @@ fn chosen_job<'a>(alloc: Global, options: Options<'a>) -> Result<Job<'a>, Reques
 {
     let targets = chosen_targets(alloc, options.to)?;
     let ring = chosen_ring(options.ring)?;
-    let delimiter = chosen_delimiter(options.delimiter)?;
+    let delimiter = chosen::<Delimiter>("unknown delimiter: ", options.delimiter)?;
     let stripes = chosen_stripes(options.stripes)?;
     check_files(options.files.as_slice())?;
     Ok(Job {
@@ -138,10 +135,8 @@ fn job_found<'a>(alloc: Global, matches: &ArgMatches<'a>) -> Result<Job<'a>, Req
 ///
 /// # Errors
 ///
-/// The first that applies: `Usage` where the arguments are not as they are taken; `UnknownTarget` or `TargetTwice`
-/// for the first name of the list that names no target or one that was named before; `BadRing`; `UnknownDelimiter`;
-/// `BadStripes`; `TooManyFiles` for more than 32 files, or else `FileTwice` for the first that was named before.
-/// Besides these, `OutOfMemory` where memory runs out on the way.
+/// `Usage` where the arguments are not as they are taken, or else `Refused` for the first value with which something is
+/// wrong; and `OutOfMemory` where memory runs out on the way.
 pub fn read_request<'a>(
     alloc: Global,
     arguments: &'a [String],

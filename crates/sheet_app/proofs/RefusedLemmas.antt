@@ -5,7 +5,7 @@ use Rattle.clap.specs.Words.{Text}
 use Rattle.register_records.specs.declared.outputs.Output as outputs
 use Rattle.programs.specs.Refusals.{IsTold}
 use Rattle.programs.proofs.RefusedLemmas.{cause_told}
-use Rattle.sheet_arguments.specs.Faults.{memory_line, name}
+use Rattle.sheet_arguments.specs.Requests.{memory_line, name}
 use Rattle.sheet_app.specs.Answers.{IsReported}
 use Rattle.sheet_app.specs.ProgramFaults.{IsFaultOfAsked, fault_line, fault_status}
 use Rattle.sheet_app.specs.declared.program_faults.ProgramFault.{ProgramFault}

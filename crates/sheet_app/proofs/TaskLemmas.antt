@@ -30,11 +30,10 @@ use Rattle.sheets.specs.declared.choices.AskedColumn.TheVariants.{Cells, Church,
 use Rattle.sheets.specs.declared.choices.SheetChoice.{SheetChoice}
 use Rattle.sheets.specs.declared.choices.Spans.{Spans}
 use Rattle.sheets.specs.declared.choices.Spans.TheVariants as spans
-use Rattle.sheet_arguments.specs.CommandLine.{Values}
-use Rattle.sheet_arguments.specs.Faults.{Fault, column_twice, unknown_column}
-use Rattle.sheet_arguments.specs.Requests.{Ask}
+use Rattle.sheet_arguments.specs.Requests.{Values, Ask}
+use Rattle.programs.specs.Faults.{Fault}
 use Rattle.sheet_arguments.specs.WordLists.{all_columns, column_named, columns_asked, is_among, names_in, or_fault}
-use Rattle.sheet_arguments.specs.WordLists.{with_columns}
+use Rattle.sheet_arguments.specs.WordLists.{column_twice, unknown_column, with_columns}
 use Rattle.written_dates.specs.declared.fields.CalendarMeaning.{CalendarMeaning}
 use Rattle.written_dates.specs.declared.meanings.Name.{Name}
 use Rattle.sheet_app.specs.private.SheetViews.{IsTask}

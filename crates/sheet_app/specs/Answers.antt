@@ -6,11 +6,9 @@ use Rattle.programs.specs.Meanings.{help, version, work}
 use Rattle.programs.specs.OwnLines as lines
 use Rattle.programs.specs.Pages.{IsPrinted}
 use Rattle.programs.specs.Refusals as refusals
-use Rattle.sheet_arguments.specs.Faults.{name}
+use Rattle.sheet_arguments.specs.Requests.{help_page, name, MeanJust, Task}
 use Rattle.register_records.specs.declared.outputs.Output as outputs
 use Rattle.sheets.specs.declared.name_lists.NameLine.{NameLine}
-use Rattle.sheet_arguments.specs.HelpPage.{help_page}
-use Rattle.sheet_arguments.specs.Requests.{MeanJust, Task}
 use Rattle.sheet_arguments.specs.declared.requests.TheConstants.{VERSION}
 use Rattle.sheet_app.specs.CalendarWords.{SaysNothing, calendar_words}
 use Rattle.sheet_app.specs.FileSheets.{AreApartOutputs}

@@ -3,11 +3,11 @@ use Rattle.std.specs.Prelude.{◌++◌, ◌⊎◌, ⊤, ℕ, Contains, IfSome, L
 use Rattle.std.specs.Fmt.{decimal}
 use Rattle.std.specs.String.{string_bytes}
 use Rattle.clap.specs.Words.{Text}
+use Rattle.programs.specs.Faults.{error_line, fault_of_error, status_of_fault}
 use Rattle.programs.specs.Meanings.{work}
 use Rattle.sheets.specs.declared.name_lists.NameListFault.{NameListFault}
 use Rattle.sheets.specs.declared.name_lists.NameListFault.TheVariants as list_fault
-use Rattle.sheet_arguments.specs.Faults.{error_line, fault_of_error, memory_line, program_line, status_of_fault}
-use Rattle.sheet_arguments.specs.Requests.{IsFaultOf, MeanJust, Task}
+use Rattle.sheet_arguments.specs.Requests.{memory_line, name, program_line, IsFaultOf, MeanJust, Task}
 use Rattle.sheet_app.specs.CalendarWords.{calendar_words}
 use Rattle.sheet_app.specs.FileSheets.{outputs_of}
 use Rattle.sheet_app.specs.declared.file_sheets.FileFault.{FileFault}
@@ -59,7 +59,7 @@ list_line file (list_fault.Name number) =
 
 -- the line on standard error; on arguments that are not taken, clap says more
 abbrev pub fault_line : ProgramFault → Option (List ℕ)
-fault_line (program_fault.Arguments error) = error_line error
+fault_line (program_fault.Arguments error) = error_line name error
 fault_line (program_fault.Files (file_fault.CannotOpen file)) = Some (program_line (codes "cannot open " ++ file.now))
 fault_line (program_fault.Files (file_fault.CannotMake name)) =
     Some (program_line (codes "cannot make " ++ string_bytes name))

@@ -6,8 +6,8 @@ ghost use Rattle.sheet_app.specs.ProgramFaults.{list_line as list_line_spec};
 
 use crate::file_sheets::FileFault;
 use itoa::Buffer;
-use programs::{NOT_BEGUN, OUT_OF_MEMORY, REFUSED, Refusal, own_line};
-use sheet_arguments::{NAME, RequestFault};
+use programs::{NOT_BEGUN, OUT_OF_MEMORY, REFUSED, Refusal, RequestFault, own_line};
+use sheet_arguments::NAME;
 use sheets::NameListFault;
 use std::alloc::{AllocError, Global};
 
@@ -65,7 +65,7 @@ impl Refusal for ProgramFault<'_> {
 
     fn text(&self, alloc: Global) -> Result<String, AllocError> {
         match self {
-            ProgramFault::Arguments(fault) => fault.text(alloc),
+            ProgramFault::Arguments(fault) => fault.text(NAME, alloc),
             ProgramFault::Files(FileFault::CannotOpen(file)) => {
                 own_line(alloc, NAME, "cannot open ", file)
             }

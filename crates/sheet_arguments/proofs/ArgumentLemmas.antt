@@ -2,17 +2,15 @@
 use Rattle.std.proofs.Common.{◌≡◌, ◌∙◌, Bool, true≢false, List, [], ◌∷◌, sym, rules, Result, Ok, Err}
 use Rattle.clap.specs.Words.{IsAmong, Text, fault_of}
 use Rattle.clap.specs.declared.error.kind.ErrorKind.{ErrorKind}
+use Rattle.programs.specs.Faults.{Fault}
 use Rattle.programs.specs.Values.{delimiter_option}
 use Rattle.programs.proofs.KindLemmas.{lone_app, one_of}
 use Rattle.programs.proofs.MeaningLemmas.{AllPass, AreSound, IsClear, IsSound, one_asked, one_byte, sound_files}
 use Rattle.programs.proofs.MeaningLemmas.{sound_option}
-use Rattle.sheet_arguments.specs.CommandLine.{Values, command_line, values_of}
-use Rattle.sheet_arguments.specs.Faults.{Fault, tree_at_odds}
+use Rattle.sheet_arguments.specs.Requests.{Values, command_line, values_of, Ask, AskMeant, Task, false_check}
+use Rattle.sheet_arguments.specs.Requests.{given_checks, result_check, sheet_line, value_checks, is_at_odds, meant}
 use Rattle.sheet_arguments.specs.OptionValues.{order_option, other_word, short_hebrew_option, short_option, skip_option}
-use Rattle.sheet_arguments.specs.Requests.{Ask, AskMeant, Task, false_check, given_checks, result_check}
-use Rattle.sheet_arguments.specs.Requests.{sheet_line, value_checks}
 use Rattle.sheet_arguments.specs.ThreeColumns.{three_asked}
-use Rattle.sheet_arguments.specs.TreeValues.{is_at_odds, meant}
 use Rattle.sheet_arguments.specs.WordLists.{columns_asked}
 use Rattle.written_dates.specs.declared.written.Choice.{Choice}
 use Rattle.sheet_arguments.proofs.OptionLemmas.{one_order, one_short, one_short_hebrew, one_skip, same_order, same_short}
@@ -22,8 +20,8 @@ one_kind : (arguments : List Text) (k l : ErrorKind) → IsAmong k (fault_of com
     → IsAmong l (fault_of command_line arguments) → k ≡ l
 one_kind arguments k l = search (rules, one_of, lone_app)
 
-sound_false : (holds : Bool) (fault : Fault) → IsSound (false_check holds fault)
-sound_false holds fault = record {
+sound_false : (holds : Bool) (what : Text) → IsSound (false_check holds what)
+sound_false holds what = record {
   one = λ f g is same. is.0 ∙ sym same.0;
   none = λ f no is. true≢false (sym is.1 ∙ no);
 }
@@ -97,7 +95,7 @@ one_task values a b asked same =
 pub is_clear : IsClear sheet_line
 is_clear = record {
   kinds = one_kind;
-  sound = λ found. (sound_false (is_at_odds (values_of found)) tree_at_odds, sound_checks (meant (values_of found)));
+  sound = λ found. (sound_false (is_at_odds (values_of found)) _, sound_checks (meant (values_of found)));
   passes = λ found task asks. (asks.fits, all_pass (meant (values_of found)) task asks.asks);
   one = λ found a b asked same. one_task (meant (values_of found)) a b asked.asks same.asks;
 }

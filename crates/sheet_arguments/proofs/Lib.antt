@@ -2,8 +2,6 @@
 --   WordLemmas: what words and lists of words name.
 --   OptionLemmas: words of options name one number each.
 --   ArgumentLemmas, upon these: arguments mean one thing, for `asked` and `refused`.
---   FaultLemmas: which of some checks in order fails first, for `refused`.
 mod WordLemmas
 mod OptionLemmas
 mod ArgumentLemmas
-mod FaultLemmas

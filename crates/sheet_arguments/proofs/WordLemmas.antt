@@ -21,12 +21,12 @@ use Rattle.date_texts.specs.Trimmed.{trimmed}
 use Rattle.date_texts.specs.declared.calendar.Calendar.TheVariants.{Gregorian}
 use Rattle.date_texts.specs.declared.target.Target.{Target}
 use Rattle.date_texts.specs.declared.target.Target.TheVariants.{Date, Haab, Tzolkin}
+use Rattle.programs.specs.Faults.{Fault}
 use Rattle.sheets.specs.Headings.{asked_name}
 use Rattle.sheets.specs.declared.choices.AskedColumn.{AskedColumn}
 use Rattle.sheets.specs.declared.choices.AskedColumn.TheVariants.{Cells, Church, DayNumber, Weekday}
-use Rattle.sheet_arguments.specs.Faults.{Fault, column_twice, unknown_column}
 use Rattle.sheet_arguments.specs.WordLists.{all_columns, column_named, is_among}
-use Rattle.sheet_arguments.specs.WordLists.{or_fault}
+use Rattle.sheet_arguments.specs.WordLists.{column_twice, or_fault, unknown_column}
 use Rattle.sheet_arguments.specs.WordLists.{is_column_name, names_in, with_columns}
 
 -- where no element passes the test

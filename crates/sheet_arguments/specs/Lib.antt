@@ -1,9 +1,5 @@
-pub mod Faults
 pub mod OptionValues
 pub mod WordLists
 pub mod ThreeColumns
-pub mod CommandLine
-pub mod TreeValues
 pub mod Requests
-pub mod HelpPage
 pub mod private

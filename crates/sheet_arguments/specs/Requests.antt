@@ -1,31 +1,166 @@
--- What the arguments ask for.
-use Rattle.std.specs.Prelude.{◌≡◌, ◌==◌, ◌||◌, ◌&&◌, ℕ, Bool, true, false, List, [], ◌∷◌, length, map, nat_lt, not}
-use Rattle.std.specs.Prelude.{if◌then◌else◌, Option, is_some, option_map, Result, Ok, Err}
-use Rattle.clap.specs.Words.{Text}
+-- The command line: its options and its page of help, the values that arguments give to it, what these ask for, and what is
+-- wrong with them. The sheet of a tree has columns of its own, `tree_head` of `family_trees`, with commas between them, and
+-- in a tree the day stands before the month.
+use Rattle.std.specs.Option.{option_map_or}
+use Rattle.std.specs.Prelude.{List, [], ◌∷◌, Bool, codes, Option, unwrap_or, ◌||◌, ◌&&◌, ◌==◌, ◌++◌, false}
+use Rattle.std.specs.Prelude.{if◌then◌else◌, length, not, true, None, Some, option_to_list, ◌≡◌, ℕ, map, nat_lt}
+use Rattle.std.specs.Prelude.{is_some, option_map, Result, Ok, Err}
+use Rattle.clap.specs.Words.{App, Row, Text, all_of, first_of, one_of}
+use Rattle.programs.specs.Faults.{Fault, refused}
 use Rattle.programs.specs.FileLists.{AreFilesToConvert}
 use Rattle.programs.specs.Meanings as lines
 use Rattle.programs.specs.Meanings.{Check, CommandLine, Meaning, file_check, option_check}
+use Rattle.programs.specs.OptionRows.{OptionRow, command_by, flag, page_by, repeated, valued}
+use Rattle.programs.specs.OwnLines as own_lines
 use Rattle.programs.specs.Requests.{meaning_by}
-use Rattle.programs.specs.declared.requests.Request.{Request}
+use Rattle.programs.specs.Rules.{is_set}
 use Rattle.programs.specs.Values.{IsValueOf, delimiter_option}
+use Rattle.programs.specs.declared.requests.Request.{Request}
 use Rattle.sheets.specs.Choices.{date_limit}
 use Rattle.sheets.specs.declared.choices.AskedColumn.{AskedColumn}
 use Rattle.sheets.specs.declared.choices.Spans.{Spans}
 use Rattle.sheets.specs.declared.choices.Spans.TheVariants as spans_of
 use Rattle.written_dates.specs.declared.written.Choice.{Choice}
-use Rattle.sheet_arguments.specs.CommandLine.{Values, command_line, values_of}
-use Rattle.sheet_arguments.specs.Faults.{Fault, bad_short_hebrew_years, bad_short_other_years, bad_short_years}
-use Rattle.sheet_arguments.specs.Faults.{bad_skip, calendar_count, else_alone, file_twice, no_date, register_of_input}
-use Rattle.sheet_arguments.specs.Faults.{too_many_dates, too_many_files, tree_at_odds, unknown_delimiter}
-use Rattle.sheet_arguments.specs.Faults.{unknown_order, usage}
 use Rattle.sheet_arguments.specs.OptionValues.{order_number, order_option, other_word, short_hebrew_option}
 use Rattle.sheet_arguments.specs.OptionValues.{short_number, short_option, skip_option}
 use Rattle.sheet_arguments.specs.ThreeColumns.{ThreeWords, three_asked, words_seen}
-use Rattle.sheet_arguments.specs.TreeValues.{is_at_odds, meant}
 use Rattle.sheet_arguments.specs.WordLists.{columns_asked}
+use Rattle.sheet_arguments.specs.declared.help.TheConstants.{ABOVE, BELOW, TREE, DATE, THREE, CALENDAR, ALL, ELSE, ID}
+use Rattle.sheet_arguments.specs.declared.help.TheConstants.{ORDER, NAMES, SHORT_YEARS, SHORT_HEBREW_YEARS}
+use Rattle.sheet_arguments.specs.declared.help.TheConstants.{SHORT_OTHER_YEARS, CHARTER_YEARS, SKIP, DELIMITER, TO}
+use Rattle.sheet_arguments.specs.declared.help.TheConstants.{SPANS, EDTF, REGISTER, UNKNOWN, SUMMARY}
 use Rattle.sheet_arguments.specs.declared.requests.CalendarsAsked.{CalendarsAsked}
 use Rattle.sheet_arguments.specs.declared.requests.CalendarsAsked.TheVariants as asked
 use Rattle.sheet_arguments.specs.declared.requests.Job.{Job}
+
+-- the options, in order
+abbrev pub options : List OptionRow
+options =
+    flag (codes "tree") TREE.now
+    ∷ repeated (codes "date") (codes "COLUMN") DATE.now
+    ∷ valued (codes "three") (codes "YEAR,MONTH,DAY") THREE.now
+    ∷ repeated (codes "calendar") (codes "COLUMN") CALENDAR.now
+    ∷ repeated (codes "all") (codes "CALENDAR") ALL.now
+    ∷ valued (codes "else") (codes "CALENDAR") ELSE.now
+    ∷ valued (codes "id") (codes "COLUMN") ID.now
+    ∷ valued (codes "order") (codes "WORD") ORDER.now
+    ∷ repeated (codes "names") (codes "FILE") NAMES.now
+    ∷ valued (codes "short-years") (codes "R") SHORT_YEARS.now
+    ∷ valued (codes "short-hebrew-years") (codes "R") SHORT_HEBREW_YEARS.now
+    ∷ valued (codes "short-other-years") (codes "R") SHORT_OTHER_YEARS.now
+    ∷ flag (codes "charter-years") CHARTER_YEARS.now
+    ∷ valued (codes "skip") (codes "N") SKIP.now
+    ∷ valued (codes "delimiter") (codes "WORD") DELIMITER.now
+    ∷ valued (codes "to") (codes "LIST") TO.now
+    ∷ flag (codes "spans") SPANS.now
+    ∷ flag (codes "edtf") EDTF.now
+    ∷ flag (codes "register") REGISTER.now
+    ∷ flag (codes "unknown") UNKNOWN.now
+    ∷ flag (codes "summary") SUMMARY.now ∷ []
+
+-- the name of the program
+abbrev pub name : Text
+name = codes "register-sheet"
+
+-- a line of the program's own
+abbrev pub program_line : Text → Text
+program_line = own_lines.program_line name
+
+-- that memory ran out
+abbrev pub memory_line : Text
+memory_line = own_lines.memory_line name
+
+-- the command line: the command with all arguments
+abbrev pub command_line : App
+command_line = command_by name options
+
+-- the page of help
+abbrev pub help_page : Text
+help_page = page_by ABOVE.now options BELOW.now
+
+-- the values of each option, whether each flag is given, and the files, in order
+pub record Values : Type 0 where
+  pub tree : Bool
+  pub dates : List Text
+  pub three : Option Text
+  pub calendars : List Text
+  pub all : List Text
+  pub otherwise : Option Text
+  pub id : Option Text
+  pub order : Option Text
+  pub names : List Text
+  pub short_years : Option Text
+  pub short_hebrew_years : Option Text
+  pub short_other_years : Option Text
+  pub charter_years : Bool
+  pub skip : Option Text
+  pub delimiter : Option Text
+  pub to : Option Text
+  pub spans : Bool
+  pub edtf : Bool
+  pub register : Bool
+  pub unknown : Bool
+  pub summary : Bool
+  pub files : List Text
+
+-- the values that clap finds in the arguments
+abbrev pub values_of : List Row → Values
+values_of found = record {
+  tree = is_set (one_of (codes "tree") found);
+  dates = unwrap_or (all_of (codes "date") found) [];
+  three = first_of (codes "three") found;
+  calendars = unwrap_or (all_of (codes "calendar") found) [];
+  all = unwrap_or (all_of (codes "all") found) [];
+  otherwise = first_of (codes "else") found;
+  id = first_of (codes "id") found;
+  order = first_of (codes "order") found;
+  names = unwrap_or (all_of (codes "names") found) [];
+  short_years = first_of (codes "short-years") found;
+  short_hebrew_years = first_of (codes "short-hebrew-years") found;
+  short_other_years = first_of (codes "short-other-years") found;
+  charter_years = is_set (one_of (codes "charter-years") found);
+  skip = first_of (codes "skip") found;
+  delimiter = first_of (codes "delimiter") found;
+  to = first_of (codes "to") found;
+  spans = is_set (one_of (codes "spans") found);
+  edtf = is_set (one_of (codes "edtf") found);
+  register = is_set (one_of (codes "register") found);
+  unknown = is_set (one_of (codes "unknown") found);
+  summary = is_set (one_of (codes "summary") found);
+  files = unwrap_or (all_of (codes "file") found) [];
+}
+
+abbrev pub is_given : Option Text → Bool
+is_given word = option_map_or (λ given. true) word false
+
+abbrev pub are_given : List Text → Bool
+are_given words = not (length words == 0)
+
+-- the columns or the form of a sheet are given, which a tree does not leave open
+abbrev pub is_at_odds : Values → Bool
+is_at_odds values =
+    values.tree && (are_given values.dates || is_given values.three || are_given values.calendars
+    || are_given values.all || is_given values.skip || is_given values.delimiter)
+
+abbrev pub or_word : Option Text → Text → Option Text
+or_word None other = Some other
+or_word word other = word
+
+-- the columns of dates and of calendars of a tree's sheet, and the order of numbers where no other is given
+abbrev pub of_tree : Values → Values
+of_tree values = record values {
+  dates = codes "date" ∷ [];
+  calendars = codes "calendar" ∷ [];
+  order = or_word values.order (codes "day");
+}
+
+-- the column of the dates that are joined of three stands behind the others, and its word is the list of these
+abbrev pub with_three : Values → Values
+with_three values = record values { dates = values.dates ++ option_to_list values.three }
+
+-- the values that are meant
+abbrev pub meant : Values → Values
+meant values = if values.tree then of_tree values else with_three values
 
 -- where the calendars of the dates are: in these columns, with a word for empty fields, or a word says them for all dates
 -- of a column; one for all columns of dates, or one for each
@@ -109,32 +244,44 @@ pub record Ask (values : Values) (task : Task) : Type 0 where
   pub files : task.files ≡ values.files
   pub files_fit : AreFilesToConvert values.files
 
--- the check of what is wrong where this holds
-abbrev pub false_check : Bool → Fault → Check Fault
-false_check holds fault = record { fails = λ f. (f ≡ fault) × (holds ≡ true); passes = holds ≡ false }
+-- the check of what is wrong where this holds, of which this is said
+abbrev pub false_check : Bool → Text → Check
+false_check holds what = record { fails = λ fault. (fault ≡ refused what) × (holds ≡ true); passes = holds ≡ false }
 
 -- the check of what comes of words
-abbrev pub result_check : {A : Type 0} → Result A Fault → Check Fault
+abbrev pub result_check : {A : Type 0} → Result A Fault → Check
 result_check {A} result = record { fails = λ f. result ≡ Err f; passes = (a : A) × (result ≡ Ok a) }
 
--- the checks of values, in order
-abbrev pub value_checks : Values → List (Check Fault)
-value_checks values =
-    false_check (length values.dates == 0) no_date
-    ∷ false_check (nat_lt date_limit (length values.dates)) too_many_dates
-    ∷ false_check (are_misfits (length values.dates) (length values.calendars) (length values.all)) calendar_count
-    ∷ false_check (is_else_alone (length values.calendars) values.otherwise) else_alone
-    ∷ option_check order_option unknown_order values.order
-    ∷ option_check short_option bad_short_years values.short_years
-    ∷ option_check short_hebrew_option bad_short_hebrew_years values.short_hebrew_years
-    ∷ option_check short_option bad_short_other_years (other_word values.short_other_years values.short_years)
-    ∷ option_check skip_option bad_skip values.skip
-    ∷ option_check delimiter_option unknown_delimiter values.delimiter
-    ∷ result_check (columns_asked values.to)
-    ∷ result_check (three_asked values.three)
-    ∷ false_check (asks_for_registers_of_input values) register_of_input
-    ∷ file_check too_many_files file_twice values.files
-    ∷ []
+-- the checks of values, in order: of where the dates and their calendars are, of words, and of what is to come out
+abbrev pub date_checks : Values → List Check
+date_checks values =
+    false_check (length values.dates == 0) (codes "no column of dates: give --date COLUMN")
+    ∷ false_check (nat_lt date_limit (length values.dates)) (codes "more than 8 columns of dates")
+    ∷ false_check (are_misfits (length values.dates) (length values.calendars) (length values.all))
+    (codes "give --calendar COLUMN or --all CALENDAR, once or once for each --date")
+    ∷ false_check (is_else_alone (length values.calendars) values.otherwise) (codes "--else is for --calendar") ∷ []
+
+abbrev pub word_checks : Values → List Check
+word_checks values =
+    option_check order_option (codes "unknown order: ") values.order
+    ∷ option_check short_option (codes "bad short years: ") values.short_years
+    ∷ option_check short_hebrew_option (codes "bad short Hebrew years: ") values.short_hebrew_years
+    ∷ option_check short_option (codes "bad short years of other calendars: ")
+    (other_word values.short_other_years values.short_years)
+    ∷ option_check skip_option (codes "bad number of records to skip: ") values.skip
+    ∷ option_check delimiter_option (codes "unknown delimiter: ") values.delimiter ∷ []
+
+abbrev pub file_checks : Bool → List Text → List Check
+file_checks register files =
+    false_check (register && (length files == 0)) (codes "--register is for files") ∷ file_check files ∷ []
+
+abbrev pub output_checks : Values → List Check
+output_checks values =
+    result_check (columns_asked values.to) ∷ result_check (three_asked values.three)
+    ∷ file_checks values.register values.files
+
+abbrev pub value_checks : Values → List Check
+value_checks values = date_checks values ++ (word_checks values ++ output_checks values)
 
 -- what is given asks for this task: nothing is at odds with a tree, and what is meant asks for it
 pub record AskMeant (values : Values) (task : Task) : Type 0 where
@@ -142,20 +289,21 @@ pub record AskMeant (values : Values) (task : Task) : Type 0 where
   pub asks : Ask (meant values) task
 
 -- the checks of what is given, and then of what is meant
-abbrev pub given_checks : Values → List (Check Fault)
-given_checks values = false_check (is_at_odds values) tree_at_odds ∷ value_checks (meant values)
+abbrev pub given_checks : Values → List Check
+given_checks values =
+    false_check (is_at_odds values) (codes "--tree takes no --date, --three, --calendar, --all, --skip and --delimiter")
+    ∷ value_checks (meant values)
 
 -- the command line, and what is asked by it
-abbrev pub sheet_line : CommandLine Task Fault
+abbrev pub sheet_line : CommandLine Task
 sheet_line = record {
   command = command_line;
   asks = λ found task. AskMeant (values_of found) task;
   checks = λ found. given_checks (values_of found);
-  usage = usage;
 }
 
 -- what the arguments mean and nothing else, what is wrong with them, and that something is
-abbrev pub MeanJust : List Text → Meaning Task Fault → Type 0
+abbrev pub MeanJust : List Text → Meaning Task → Type 0
 MeanJust = lines.MeanJust sheet_line
 
 abbrev pub IsFaultOf : List Text → Fault → Type 0
@@ -191,7 +339,5 @@ task_of job = record {
 }
 
 -- what a request stands for
-abbrev pub meaning_of : Request Job → Meaning Task Fault
+abbrev pub meaning_of : Request Job → Meaning Task
 meaning_of = meaning_by task_of
-
--- ---- what the parts of a request promise

@@ -1,8 +1,8 @@
 -- What the value of `--three` names: the columns with the years, the months and the days of dates.
-use Rattle.std.specs.Prelude.{◌==◌, ℕ, Bool, Option, None, Some, Result, Ok, if◌then◌else◌, length, nat_lt}
+use Rattle.std.specs.Prelude.{◌==◌, ◌++◌, ℕ, Bool, codes, Option, None, Some, Result, Ok, if◌then◌else◌, length, nat_lt}
 use Rattle.std.specs.List.{after_first, before_first, position_or_len}
 use Rattle.clap.specs.Words.{Text}
-use Rattle.sheet_arguments.specs.Faults.{Fault, bad_three}
+use Rattle.programs.specs.Faults.{Fault, refused}
 use Rattle.sheet_arguments.specs.WordLists.{or_fault}
 use Rattle.sheet_arguments.specs.declared.three_columns.ThreeColumns.{ThreeColumns}
 
@@ -40,7 +40,7 @@ three_in list = begins_with_year (cut list)
 -- the three that are asked for, if any, or what is wrong
 abbrev pub three_asked : Option Text → Result (Option ThreeWords) Fault
 three_asked None = Ok None
-three_asked (Some list) = or_fault (bad_three list) (three_in list) (λ three. Ok (Some three))
+three_asked (Some list) = or_fault (refused (codes "bad year, month and day: " ++ list)) (three_in list) (λ three. Ok (Some three))
 
 -- ---- what clauses see
 

@@ -1,5 +1,5 @@
 -- What lists of words name.
-use Rattle.std.specs.Prelude.{◌≡◌, ◌==◌, ◌++◌, ◌∷◌, Bool, List, [], map, Option, Some, None, Result, Ok, Err, if◌then◌else◌}
+use Rattle.std.specs.Prelude.{◌≡◌, ◌==◌, ◌++◌, ◌∷◌, Bool, List, [], codes, map, Option, Some, None, Result, Ok, Err, if◌then◌else◌}
 use Rattle.std.specs.List.{find, list_any, slice_split}
 use Rattle.std.specs.Str.{bytes_eq, str_to_ascii_lowercase}
 use Rattle.clap.specs.Words.{Text}
@@ -7,15 +7,22 @@ use Rattle.date_texts.specs.Calendars.{all_targets}
 use Rattle.date_texts.specs.Trimmed.{trimmed}
 use Rattle.date_texts.specs.declared.target.Target.TheVariants as target
 use Rattle.date_texts.specs.declared.calendar.Calendar.TheVariants.{Gregorian}
+use Rattle.programs.specs.Faults.{Fault, refused}
 use Rattle.sheets.specs.Headings.{asked_name}
 use Rattle.sheets.specs.declared.choices.AskedColumn.{AskedColumn}
 use Rattle.sheets.specs.declared.choices.AskedColumn.TheVariants.{Cells, Church, DayNumber, Weekday}
-use Rattle.sheet_arguments.specs.Faults.{Fault, column_twice, unknown_column}
 
 -- goes on with what there is, or ends with the fault where there is nothing
 abbrev pub or_fault : {A B : Type 0} → Fault → Option A → (A → Result B Fault) → Result B Fault
 or_fault fault None next = Err fault
 or_fault fault (Some a) next = next a
+
+-- what is said of a name that names no column, and of a column that was named before
+abbrev pub unknown_column : Text → Fault
+unknown_column name = refused (codes "unknown column: " ++ name)
+
+abbrev pub column_twice : AskedColumn → Fault
+column_twice column = refused (codes "column named twice: " ++ asked_name column)
 
 -- the columns that there are
 abbrev pub all_columns : List AskedColumn

@@ -1,13 +1,13 @@
 //! The columns that a list names.
 
 ghost use Rattle.std.specs.Prelude.{◌≡◌, [], Err, IfErr, IfOk, IfSome, Ok, option_map};
+ghost use Rattle.programs.specs.Faults.{fault_of_error};
 ghost use Rattle.sheets.specs.Headings.{asked_name};
-ghost use Rattle.sheet_arguments.specs.Faults.{fault_of_error};
 ghost use Rattle.sheet_arguments.specs.WordLists.{column_named as named_spec, columns_asked, is_among as among_spec, names_in};
 ghost use Rattle.sheet_arguments.specs.WordLists.{with_columns};
 
-use crate::request_faults::{RequestFault, column_name};
 use date_texts::{Calendar, Target, target_named, trimmed};
+use programs::RequestFault;
 use sheets::AskedColumn;
 use std::alloc::Global;
 
@@ -37,6 +37,18 @@ fn column_named(name: &str) -> Option<AskedColumn>
     }
 }
 
+/// The name of a column asked.
+fn column_name(column: AskedColumn) -> &'static str
+    ensures { result.now ≡ asked_name column }
+{
+    match column {
+        AskedColumn::DayNumber => "rd",
+        AskedColumn::Weekday => "weekday",
+        AskedColumn::Church => "church",
+        AskedColumn::Cells(target) => target.name(),
+    }
+}
+
 /// Whether a column is among others.
 fn is_among(columns: &[AskedColumn], column: AskedColumn) -> bool
     ensures { result ≡ among_spec columns.now column }
@@ -55,10 +67,10 @@ fn read_columns(alloc: Global, list: &str) -> Result<Vec<AskedColumn>, RequestFa
     let mut columns = Vec::new(alloc);
     'names: for name in list.split(',') {
         let Some(column) = column_named(name) else {
-            return Err(RequestFault::UnknownColumn(name));
+            return Err(RequestFault::Refused("unknown column: ", name));
         };
         if is_among(columns.as_slice(), column) {
-            return Err(RequestFault::ColumnTwice(column));
+            return Err(RequestFault::Refused("column named twice: ", column_name(column)));
         }
         if columns.push(column).is_err() {
             return Err(RequestFault::OutOfMemory);
@@ -71,8 +83,7 @@ fn read_columns(alloc: Global, list: &str) -> Result<Vec<AskedColumn>, RequestFa
 ///
 /// # Errors
 ///
-/// The names are looked at from left to right: `UnknownColumn` for the first that names no column, and `ColumnTwice`
-/// for the first whose column was named before, whichever comes first. `OutOfMemory` where memory runs out.
+/// The names are looked at from left to right, for the first that names no column, or whose column was named before.
 pub fn chosen_columns<'a>(
     alloc: Global,
     list: Option<&'a str>,

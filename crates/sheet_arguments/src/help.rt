@@ -2,7 +2,7 @@
 
 ghost use Rattle.std.specs.Prelude.{◌≡◌};
 ghost use Rattle.programs.specs.HelpPages.{page_text};
-ghost use Rattle.sheet_arguments.specs.HelpPage.{help_page};
+ghost use Rattle.sheet_arguments.specs.Requests.{help_page};
 
 use crate::option_values::MOST_ABOVE;
 use programs::{Argument, Help, Kind, Page, Value};

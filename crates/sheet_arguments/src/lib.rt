@@ -4,11 +4,9 @@
 mod column_lists;
 mod help;
 mod option_values;
-mod request_faults;
 mod requests;
 mod three_columns;
 
 pub use help::{ARGUMENTS, HELP, page_of_help};
-pub use request_faults::RequestFault;
 pub use requests::{CalendarsAsked, Job, NAME, VERSION, command, read_request};
 pub use three_columns::ThreeColumns;

@@ -1,16 +1,12 @@
 //! The values of the options.
 
-ghost use Rattle.std.specs.Prelude.{◌≡◌, ◌↔◌, ◌%◌, ℕ, IfErr, IfOk, IsSomeAnd, Some, option_map, true};
+ghost use Rattle.std.specs.Prelude.{◌≡◌, ◌↔◌, ◌%◌, ℕ, Some, option_map, true};
 ghost use Rattle.std.specs.Str.{str_to_ascii_lowercase};
-ghost use Rattle.programs.specs.Meanings.{option_check};
-ghost use Rattle.programs.specs.Values.{IsNumberWord, IsValueOf, byte_of, delimiter_option};
-ghost use Rattle.sheet_arguments.specs.Faults.{bad_short_hebrew_years, bad_short_other_years, bad_short_years};
-ghost use Rattle.sheet_arguments.specs.Faults.{bad_skip, fault_of_error, unknown_delimiter, unknown_order};
+ghost use Rattle.programs.specs.Values.{IsNumberWord};
 ghost use Rattle.sheet_arguments.specs.OptionValues.{order_number, order_option, other_word as other_spec};
 ghost use Rattle.sheet_arguments.specs.OptionValues.{short_hebrew_option, short_number, short_option, skip_option};
 
-use crate::request_faults::RequestFault;
-use programs::{Delimiter, OptionValue, chosen, number_named};
+use programs::{OptionValue, number_named};
 use written_dates::{Order, Short};
 
 /// The last century that may be added to short years.
@@ -165,121 +161,14 @@ impl OptionValue for Skip {
     }
 }
 
-/// The order that `--order` asks for.
-///
-/// # Errors
-///
-/// `UnknownOrder` for a word that names none.
-pub fn chosen_order<'a>(word: Option<&'a str>) -> Result<OrderValue, RequestFault<'a>>
-    ensures value { IfOk result (λ value. IsValueOf order_option (option_map (λ w. w.now) word.entry)
-        (order_number value.order)) }
-    ensures fault { IfErr result (λ error. IsSomeAnd (fault_of_error error)
-        ((option_check order_option unknown_order (option_map (λ w. w.now) word.entry)).fails)) }
-{
-    match chosen::<OrderValue>(word) {
-        Ok(order) => Ok(order),
-        Err(word) => Err(RequestFault::UnknownOrder(word)),
-    }
-}
-
-/// What `--short-years` asks for.
-///
-/// # Errors
-///
-/// `BadShortYears` for a word that says nothing.
-pub fn chosen_short_years<'a>(word: Option<&'a str>) -> Result<ShortYears, RequestFault<'a>>
-    ensures value { IfOk result (λ value. IsValueOf short_option (option_map (λ w. w.now) word.entry)
-        (short_number value.rule)) }
-    ensures fault { IfErr result (λ error. IsSomeAnd (fault_of_error error)
-        ((option_check short_option bad_short_years (option_map (λ w. w.now) word.entry)).fails)) }
-{
-    match chosen::<ShortYears>(word) {
-        Ok(years) => Ok(years),
-        Err(word) => Err(RequestFault::BadShortYears(word)),
-    }
-}
-
-/// What `--short-hebrew-years` asks for.
-///
-/// # Errors
-///
-/// `BadShortHebrewYears` for a word that says nothing.
-pub fn chosen_short_hebrew_years<'a>(
-    word: Option<&'a str>,
-) -> Result<ShortHebrewYears, RequestFault<'a>>
-    ensures value { IfOk result (λ value. IsValueOf short_hebrew_option (option_map (λ w. w.now) word.entry)
-        (short_number value.rule)) }
-    ensures fault { IfErr result (λ error. IsSomeAnd (fault_of_error error)
-        ((option_check short_hebrew_option bad_short_hebrew_years (option_map (λ w. w.now) word.entry)).fails)) }
-{
-    match chosen::<ShortHebrewYears>(word) {
-        Ok(years) => Ok(years),
-        Err(word) => Err(RequestFault::BadShortHebrewYears(word)),
-    }
-}
-
 /// The word that counts for short years of other calendars: the one for them, and without it `keep`, where that stands
 /// for short years.
-fn other_word<'a>(word: Option<&'a str>, years: Option<&'a str>) -> Option<&'a str>
+pub fn other_word<'a>(word: Option<&'a str>, years: Option<&'a str>) -> Option<&'a str>
     ensures { option_map (λ w. w.now) result
         ≡ other_spec (option_map (λ w. w.now) word.entry) (option_map (λ w. w.now) years.entry) }
 {
     match (word, years) {
         (None, Some(rule)) if rule == "keep" => Some(rule),
         (word, _) => word,
-    }
-}
-
-/// What `--short-other-years` asks for, beside the word of `--short-years`.
-///
-/// # Errors
-///
-/// `BadShortOtherYears` for a word that says nothing.
-pub fn chosen_short_other_years<'a>(
-    word: Option<&'a str>,
-    years: Option<&'a str>,
-) -> Result<ShortYears, RequestFault<'a>>
-    ensures value { IfOk result (λ value. IsValueOf short_option
-        (other_spec (option_map (λ w. w.now) word.entry) (option_map (λ w. w.now) years.entry))
-        (short_number value.rule)) }
-    ensures fault { IfErr result (λ error. IsSomeAnd (fault_of_error error)
-        ((option_check short_option bad_short_other_years
-        (other_spec (option_map (λ w. w.now) word.entry) (option_map (λ w. w.now) years.entry))).fails)) }
-{
-    match chosen::<ShortYears>(other_word(word, years)) {
-        Ok(years) => Ok(years),
-        Err(word) => Err(RequestFault::BadShortOtherYears(word)),
-    }
-}
-
-/// How many records `--skip` asks to pass over.
-///
-/// # Errors
-///
-/// `BadSkip` for a word that is no such number.
-pub fn chosen_skip<'a>(word: Option<&'a str>) -> Result<Skip, RequestFault<'a>>
-    ensures value { IfOk result (λ value. IsValueOf skip_option (option_map (λ w. w.now) word.entry) (value.count)) }
-    ensures fault { IfErr result (λ error. IsSomeAnd (fault_of_error error)
-        ((option_check skip_option bad_skip (option_map (λ w. w.now) word.entry)).fails)) }
-{
-    match chosen::<Skip>(word) {
-        Ok(skip) => Ok(skip),
-        Err(word) => Err(RequestFault::BadSkip(word)),
-    }
-}
-
-/// The delimiter that `--delimiter` asks for.
-///
-/// # Errors
-///
-/// `UnknownDelimiter` for a word that names none.
-pub fn chosen_delimiter<'a>(word: Option<&'a str>) -> Result<Delimiter, RequestFault<'a>>
-    ensures value { IfOk result (λ value. IsValueOf delimiter_option (option_map (λ w. w.now) word.entry) (byte_of value)) }
-    ensures fault { IfErr result (λ error. IsSomeAnd (fault_of_error error)
-        ((option_check delimiter_option unknown_delimiter (option_map (λ w. w.now) word.entry)).fails)) }
-{
-    match chosen::<Delimiter>(word) {
-        Ok(delimiter) => Ok(delimiter),
-        Err(word) => Err(RequestFault::UnknownDelimiter(word)),
     }
 }

@@ -1,38 +1,28 @@
 //! What the arguments ask for.
 
-ghost use Rattle.std.specs.Prelude.{◌≡◌, ◌==◌, ◌&&◌, ◌∷◌, [], IfErr, IfOk, IfSome, IsSomeAnd, OnOk, false, length, map};
-ghost use Rattle.std.specs.Prelude.{option_map, take};
+ghost use Rattle.std.specs.Prelude.{◌≡◌, ◌==◌, ◌&&◌, ◌∷◌, [], IfErr, IfOk, IfSome, OnOk, false, length, map, option_map};
 ghost use Rattle.std.specs.String.{string_bytes};
 ghost use Rattle.clap.specs.Words.{app_of, found_of, rows_of};
-ghost use Rattle.programs.specs.FileLists.{AreFilesToConvert, IsFileFault};
+ghost use Rattle.programs.specs.Faults.{fault_of_error};
+ghost use Rattle.programs.specs.FileLists.{AreFilesToConvert};
 ghost use Rattle.programs.specs.Meanings.{FailFirst, wrong};
-ghost use Rattle.programs.specs.Values.{IsValueOf, delimiter_option};
-ghost use Rattle.sheets.specs.Choices.{date_limit};
-ghost use Rattle.sheet_arguments.specs.CommandLine.{command_line, values_of};
-ghost use Rattle.sheet_arguments.specs.Faults.{calendar_count, fault_of_error, file_twice, no_date, register_of_input};
-ghost use Rattle.sheet_arguments.specs.Faults.{too_many_dates, too_many_files};
-ghost use Rattle.sheet_arguments.specs.OptionValues.{order_number, order_option, short_hebrew_option, short_number};
-ghost use Rattle.sheet_arguments.specs.OptionValues.{short_option, skip_option};
-ghost use Rattle.sheet_arguments.specs.Requests.{Ask, MeanJust, are_misfits as misfits_spec, calendars_wanted};
-ghost use Rattle.sheet_arguments.specs.Requests.{is_misfit as misfit_spec, meaning_of, sheet_line, task_of};
-ghost use Rattle.sheet_arguments.specs.TreeValues.{is_at_odds as odds_spec, meant as meant_spec, with_three as three_spec};
-ghost use Rattle.sheet_arguments.specs.Requests.{AskMeant, given_checks};
-ghost use Rattle.sheet_arguments.specs.Requests.{value_checks};
-ghost use Rattle.sheet_arguments.specs.private.Requests.{AreSaidBy, FewDates, WordsAre, output_checks, values_by};
-ghost use Rattle.sheet_arguments.specs.Requests.{spans_asked as spans_spec, wanted_by};
-ghost use Rattle.sheet_arguments.specs.private.Requests.{word_checks};
+ghost use Rattle.sheet_arguments.specs.Requests.{command_line, values_of, Ask, AskMeant, MeanJust};
+ghost use Rattle.sheet_arguments.specs.Requests.{are_misfits as misfits_spec, calendars_wanted};
+ghost use Rattle.sheet_arguments.specs.Requests.{date_checks, file_checks, given_checks};
+ghost use Rattle.sheet_arguments.specs.Requests.{is_misfit as misfit_spec, meaning_of, sheet_line};
+ghost use Rattle.sheet_arguments.specs.Requests.{spans_asked as spans_spec, task_of, value_checks, wanted_by};
+ghost use Rattle.sheet_arguments.specs.Requests.{word_checks, is_at_odds as odds_spec, meant as meant_spec};
+ghost use Rattle.sheet_arguments.specs.Requests.{with_three as three_spec};
+ghost use Rattle.sheet_arguments.specs.private.Requests.{AreSaidBy, FewDates, values_by};
 
 use crate::column_lists::chosen_columns;
 use crate::help::ARGUMENTS;
-use crate::option_values::{
-    chosen_delimiter, chosen_order, chosen_short_hebrew_years, chosen_short_other_years,
-    chosen_short_years, chosen_skip,
-};
-use crate::request_faults::RequestFault;
+use crate::option_values::{OrderValue, ShortHebrewYears, ShortYears, Skip, other_word};
 use crate::three_columns::{ThreeColumns, chosen_three};
 use clap::{ArgMatches, Command};
 use programs::{
-    Request, check_files, command_with, is_given, read_arguments, value_given, values_given,
+    Delimiter, Request, RequestFault, check_files, chosen, command_with, is_given, read_arguments,
+    value_given, values_given,
 };
 use sheets::{AskedColumn, MAX_DATES, Spans};
 use std::alloc::{AllocError, Global};
@@ -88,17 +78,6 @@ pub struct Job<'a> {
     pub files: Vec<&'a str>,
 }
 
-/// The words of how a sheet and its dates are read, as the arguments have them.
-#[derive(Clone, Copy)]
-struct Words<'a> {
-    order: Option<&'a str>,
-    short_years: Option<&'a str>,
-    short_hebrew_years: Option<&'a str>,
-    short_other_years: Option<&'a str>,
-    skip: Option<&'a str>,
-    delimiter: Option<&'a str>,
-}
-
 /// The values of the options and the files, as the arguments have them.
 #[derive(Drop)]
 struct Options<'a> {
@@ -109,9 +88,14 @@ struct Options<'a> {
     all: Vec<&'a str>,
     otherwise: Option<&'a str>,
     id: Option<&'a str>,
+    order: Option<&'a str>,
     names: Vec<&'a str>,
-    words: Words<'a>,
+    short_years: Option<&'a str>,
+    short_hebrew_years: Option<&'a str>,
+    short_other_years: Option<&'a str>,
     charter_years: bool,
+    skip: Option<&'a str>,
+    delimiter: Option<&'a str>,
     to: Option<&'a str>,
     spans: bool,
     edtf: bool,
@@ -132,20 +116,6 @@ pub fn command<'a>(alloc: Global) -> Result<Command<'a>, AllocError>
     command_with(alloc, NAME, VERSION, &ARGUMENTS)
 }
 
-/// The words that clap found.
-fn words_found<'a>(matches: &ArgMatches<'a>) -> Words<'a>
-    ensures { WordsAre result (values_of (rows_of (found_of matches.now))) }
-{
-    Words {
-        order: value_given(matches, "order"),
-        short_years: value_given(matches, "short-years"),
-        short_hebrew_years: value_given(matches, "short-hebrew-years"),
-        short_other_years: value_given(matches, "short-other-years"),
-        skip: value_given(matches, "skip"),
-        delimiter: value_given(matches, "delimiter"),
-    }
-}
-
 /// The values of the options that clap found, and the files.
 fn options_found<'a>(alloc: Global, matches: &ArgMatches<'a>) -> Result<Options<'a>, AllocError>
     ensures { IfOk result (λ options. values_by options ≡ values_of (rows_of (found_of matches.now))) }
@@ -163,9 +133,14 @@ fn options_found<'a>(alloc: Global, matches: &ArgMatches<'a>) -> Result<Options<
         all,
         otherwise: value_given(matches, "else"),
         id: value_given(matches, "id"),
+        order: value_given(matches, "order"),
         names,
-        words: words_found(matches),
+        short_years: value_given(matches, "short-years"),
+        short_hebrew_years: value_given(matches, "short-hebrew-years"),
+        short_other_years: value_given(matches, "short-other-years"),
         charter_years: is_given(matches, "charter-years"),
+        skip: value_given(matches, "skip"),
+        delimiter: value_given(matches, "delimiter"),
         to: value_given(matches, "to"),
         spans: is_given(matches, "spans"),
         edtf: is_given(matches, "edtf"),
@@ -205,23 +180,26 @@ fn are_misfits(dates: usize, columns: usize, calendars: usize) -> bool
 ///
 /// # Errors
 ///
-/// `NoDate`, `TooManyDates`, `CalendarCount` and `ElseAlone`, whichever applies first.
+/// The first thing that is wrong.
 fn dates_fit<'a>(options: &Options<'a>) -> Result<(), RequestFault<'a>>
     ensures fine { OnOk result (FewDates (values_by options.now)) }
     ensures fault { IfErr result (λ error. IfSome (fault_of_error error)
-        (FailFirst (take 4 (value_checks (values_by options.now))))) }
+        (FailFirst (date_checks (values_by options.now)))) }
 {
     let dates = count_of(options.dates.as_slice());
     let columns = count_of(options.calendars.as_slice());
     let all = count_of(options.all.as_slice());
     if dates == 0 {
-        Err(RequestFault::NoDate)
+        Err(RequestFault::Refused("no column of dates: give --date COLUMN", ""))
     } else if dates > MAX_DATES {
-        Err(RequestFault::TooManyDates)
+        Err(RequestFault::Refused("more than 8 columns of dates", ""))
     } else if are_misfits(dates, columns, all) {
-        Err(RequestFault::CalendarCount)
+        Err(RequestFault::Refused(
+            "give --calendar COLUMN or --all CALENDAR, once or once for each --date",
+            "",
+        ))
     } else if columns == 0 && options.otherwise.is_some() {
-        Err(RequestFault::ElseAlone)
+        Err(RequestFault::Refused("--else is for --calendar", ""))
     } else {
         Ok(())
     }
@@ -258,18 +236,22 @@ struct Reading {
 ///
 /// # Errors
 ///
-/// The first that applies: `UnknownOrder`, `BadShortYears`, `BadShortHebrewYears`, `BadShortOtherYears`, `BadSkip` and
-/// `UnknownDelimiter`.
-fn chosen_reading<'a>(words: &Words<'a>) -> Result<Reading, RequestFault<'a>>
-    ensures value { IfOk result (AreSaidBy words.now) }
-    ensures fault { IfErr result (λ error. IfSome (fault_of_error error) (FailFirst (word_checks words.now))) }
+/// The first word that says nothing.
+fn chosen_reading<'a>(options: &Options<'a>) -> Result<Reading, RequestFault<'a>>
+    ensures value { IfOk result (AreSaidBy (values_by options.now)) }
+    ensures fault { IfErr result (λ error. IfSome (fault_of_error error)
+        (FailFirst (word_checks (values_by options.now)))) }
 {
-    let order = chosen_order(words.order)?;
-    let short_years = chosen_short_years(words.short_years)?;
-    let short_hebrew_years = chosen_short_hebrew_years(words.short_hebrew_years)?;
-    let short_other_years = chosen_short_other_years(words.short_other_years, words.short_years)?;
-    let skip = chosen_skip(words.skip)?;
-    let delimiter = chosen_delimiter(words.delimiter)?;
+    let order = chosen::<OrderValue>("unknown order: ", options.order)?;
+    let short_years = chosen::<ShortYears>("bad short years: ", options.short_years)?;
+    let short_hebrew_years = chosen::<ShortHebrewYears>(
+        "bad short Hebrew years: ",
+        options.short_hebrew_years,
+    )?;
+    let other = other_word(options.short_other_years, options.short_years);
+    let short_other_years = chosen::<ShortYears>("bad short years of other calendars: ", other)?;
+    let skip = chosen::<Skip>("bad number of records to skip: ", options.skip)?;
+    let delimiter = chosen::<Delimiter>("unknown delimiter: ", options.delimiter)?;
     Ok(Reading {
         order: order.order,
         short_years: short_years.rule,
@@ -295,15 +277,15 @@ fn spans_asked(spans: bool, edtf: bool) -> Spans
 ///
 /// # Errors
 ///
-/// `RegisterOfInput`, and the faults of the files as [`check_files`] has them.
-fn outputs_fit<'a>(register: bool, files: &[&'a str]) -> Result<(), RequestFault<'a>>
+/// Registers are asked for of no file, or else the faults of the files as [`check_files`] has them.
+fn files_fit<'a>(register: bool, files: &[&'a str]) -> Result<(), RequestFault<'a>>
     ensures fine { OnOk result (((register && (length (map (λ f. f.now) files.now) == 0)) ≡ false)
         × AreFilesToConvert (map (λ f. f.now) files.now)) }
     ensures fault { IfErr result (λ error. IfSome (fault_of_error error)
-        (FailFirst (output_checks register (map (λ f. f.now) files.now)))) }
+        (FailFirst (file_checks register (map (λ f. f.now) files.now)))) }
 {
     if register && count_of(files) == 0 {
-        Err(RequestFault::RegisterOfInput)
+        Err(RequestFault::Refused("--register is for files", ""))
     } else {
         Ok(check_files(files)?)
     }
@@ -313,20 +295,17 @@ fn outputs_fit<'a>(register: bool, files: &[&'a str]) -> Result<(), RequestFault
 ///
 /// # Errors
 ///
-/// The first that applies: `NoDate`, `TooManyDates`, `CalendarCount`, `ElseAlone`, `UnknownOrder`,
-/// `BadShortYears`, `BadShortHebrewYears`, `BadShortOtherYears`, `BadSkip`, `UnknownDelimiter`, the faults of the list
-/// of columns as [`chosen_columns`] has them, `BadThree`, `RegisterOfInput`, and the faults of the files as
-/// [`check_files`] has them; and `OutOfMemory` where memory runs out on the way.
+/// The first thing that is wrong, in the order of the lines below.
 fn chosen_job<'a>(alloc: Global, options: Options<'a>) -> Result<Job<'a>, RequestFault<'a>>
     ensures asked { IfOk result (λ job. Ask (values_by options.entry) (task_of job)) }
     ensures fault { IfErr result (λ error. IfSome (fault_of_error error)
         (FailFirst (value_checks (values_by options.entry)))) }
 {
     dates_fit(&options)?;
-    let reading = chosen_reading(&options.words)?;
+    let reading = chosen_reading(&options)?;
     let columns = chosen_columns(alloc, options.to)?;
     let three = chosen_three(options.three)?;
-    outputs_fit(options.register, options.files.as_slice())?;
+    files_fit(options.register, options.files.as_slice())?;
     Ok(Job {
         tree: options.tree,
         dates: options.dates,
@@ -361,8 +340,8 @@ fn is_at_odds(options: &Options) -> bool
             || options.three.is_some()
             || count_of(options.calendars.as_slice()) != 0
             || count_of(options.all.as_slice()) != 0
-            || options.words.skip.is_some()
-            || options.words.delimiter.is_some())
+            || options.skip.is_some()
+            || options.delimiter.is_some())
 }
 
 /// A list of one word.
@@ -396,30 +375,10 @@ fn meant<'a>(alloc: Global, options: Options<'a>) -> Result<Options<'a>, AllocEr
     let dates = one_word(alloc, "date")?;
     let calendars = one_word(alloc, "calendar")?;
     Ok(Options {
-        tree: options.tree,
         dates,
-        three: options.three,
         calendars,
-        all: options.all,
-        otherwise: options.otherwise,
-        id: options.id,
-        names: options.names,
-        words: Words {
-            order: Some(options.words.order.unwrap_or("day")),
-            short_years: options.words.short_years,
-            short_hebrew_years: options.words.short_hebrew_years,
-            short_other_years: options.words.short_other_years,
-            skip: options.words.skip,
-            delimiter: options.words.delimiter,
-        },
-        charter_years: options.charter_years,
-        to: options.to,
-        spans: options.spans,
-        edtf: options.edtf,
-        register: options.register,
-        unknown: options.unknown,
-        summary: options.summary,
-        files: options.files,
+        order: Some(options.order.unwrap_or("day")),
+        ..options
     })
 }
 
@@ -427,14 +386,17 @@ fn meant<'a>(alloc: Global, options: Options<'a>) -> Result<Options<'a>, AllocEr
 ///
 /// # Errors
 ///
-/// The first that applies: `TreeAtOdds`, and the faults of [`chosen_job`].
+/// What a tree does not take is given, or else the faults of [`chosen_job`].
 fn meant_job<'a>(alloc: Global, options: Options<'a>) -> Result<Job<'a>, RequestFault<'a>>
     ensures asked { IfOk result (λ job. AskMeant (values_by options.entry) (task_of job)) }
     ensures fault { IfErr result (λ error. IfSome (fault_of_error error)
         (FailFirst (given_checks (values_by options.entry)))) }
 {
     if is_at_odds(&options) {
-        return Err(RequestFault::TreeAtOdds);
+        return Err(RequestFault::Refused(
+            "--tree takes no --date, --three, --calendar, --all, --skip and --delimiter",
+            "",
+        ));
     }
     match meant(alloc, options) {
         Ok(options) => chosen_job(alloc, options),
@@ -458,8 +420,8 @@ fn job_found<'a>(alloc: Global, matches: &ArgMatches<'a>) -> Result<Job<'a>, Req
 ///
 /// # Errors
 ///
-/// The first that applies: `Usage` where the arguments are not as they are taken; and then `TreeAtOdds` and the others in
-/// the order of [`RequestFault`]. Besides these, `OutOfMemory` where memory runs out on the way.
+/// `Usage` where the arguments are not as they are taken, or else `Refused` for the first thing that is wrong with them;
+/// and `OutOfMemory` where memory runs out on the way.
 pub fn read_request<'a>(
     alloc: Global,
     arguments: &'a [String],

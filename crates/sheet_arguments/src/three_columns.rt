@@ -1,11 +1,11 @@
 //! The three columns that a list names.
 
 ghost use Rattle.std.specs.Prelude.{◌≡◌, Err, IfErr, IfOk, IfSome, Ok, option_map};
-ghost use Rattle.sheet_arguments.specs.Faults.{fault_of_error};
+ghost use Rattle.programs.specs.Faults.{fault_of_error};
 ghost use Rattle.sheet_arguments.specs.ThreeColumns.{cut as cut_spec, three_asked, three_in, words_seen};
 ghost use Rattle.sheet_arguments.specs.private.ThreeColumns.{parts_seen};
 
-use crate::request_faults::RequestFault;
+use programs::RequestFault;
 
 /// The words that name the columns with the years, the months and the days of dates.
 #[derive(Clone, Copy)]
@@ -38,7 +38,7 @@ fn three_named(list: &str) -> Option<ThreeColumns<'_>>
 ///
 /// # Errors
 ///
-/// `BadThree` where it is no list of three words.
+/// It is no list of three words.
 pub fn chosen_three<'a>(list: Option<&'a str>) -> Result<Option<ThreeColumns<'a>>, RequestFault<'a>>
     ensures value { IfOk result (λ three.
         three_asked (option_map (λ l. l.now) list.entry) ≡ Ok (option_map words_seen three)) }
@@ -50,6 +50,6 @@ pub fn chosen_three<'a>(list: Option<&'a str>) -> Result<Option<ThreeColumns<'a>
     };
     match three_named(list) {
         Some(three) => Ok(Some(three)),
-        None => Err(RequestFault::BadThree(list)),
+        None => Err(RequestFault::Refused("bad year, month and day: ", list)),
     }
 }

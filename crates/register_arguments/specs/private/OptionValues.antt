@@ -1,7 +1,7 @@
 -- What a list of targets means.
 use Rattle.std.specs.Prelude.{◌≡◌, ◌↔◌, ℕ, List, Result, Ok, Err}
 use Rattle.date_texts.specs.declared.target.Target.{Target}
-use Rattle.register_arguments.specs.Faults.{Fault}
+use Rattle.programs.specs.Faults.{Fault}
 use Rattle.register_arguments.specs.OptionValues.{AsksForTargets, IsListFault}
 
 -- what a list means: the targets that it asks for, or what is wrong with it

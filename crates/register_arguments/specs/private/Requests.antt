@@ -1,6 +1,6 @@
 -- The values that the options hold.
 use Rattle.std.specs.Prelude.{map, option_map}
-use Rattle.register_arguments.specs.CommandLine.{Values}
+use Rattle.register_arguments.specs.Requests.{Values}
 use Rattle.register_arguments.specs.declared.requests.Options.{Options}
 
 -- the values that the options hold

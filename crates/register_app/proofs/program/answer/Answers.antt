@@ -4,7 +4,7 @@ use Rattle.std.proofs.lemmas.List.{length-map, nil_from_length}
 use Rattle.std.specs.String.{string_bytes}
 use Rattle.programs.specs.Meanings.{help, version, work}
 use Rattle.register_arguments.specs.Requests.{MeanJust, register_line, task_of}
-use Rattle.register_arguments.specs.Faults.{fault_of_error}
+use Rattle.programs.specs.Faults.{fault_of_error}
 use Rattle.register_app.specs.Answers.{version_line}
 use Rattle.programs.proofs.RefusedLemmas.{is_wrong}
 use Rattle.register_app.proofs.RefusedLemmas.{is_refused, never_refused}

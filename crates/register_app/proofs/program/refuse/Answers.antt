@@ -1,6 +1,6 @@
 -- Why nothing is done is reported, with its status.
 use Rattle.register_app.specs.ProgramFaults.{fault_line, fault_status}
-use Rattle.register_arguments.specs.Faults.{name}
+use Rattle.register_arguments.specs.Requests.{name}
 use Rattle.programs.proofs.RefusedLemmas.{status_told}
 use Rattle.register_app.proofs.RefusedLemmas.{is_reported}
 use Rattle.register_app.proofs.program.refuse.Goals as goal

@@ -1,8 +1,8 @@
 -- The names of the list are its pieces in order, and each one read so far named a target of its own.
-use Rattle.std.proofs.Common.{rules, ◌≡◌, sym, refl, inl, inr, is_ok, true, Ok, Err, Contains}
+use Rattle.std.proofs.Common.{rules, ℕ, List, ◌≡◌, ap, sym, refl, inl, inr, is_ok, true, Ok, Err, Contains, ◌++◌, codes}
 use Rattle.std.proofs.lemmas.List.{map-append}
 use Rattle.std.proofs.lemmas.Iterator.Consumers.{YieldsList-end, YieldsList-so_far, YieldsList-turn}
-use Rattle.register_arguments.specs.Faults.{unknown_target, target_twice}
+use Rattle.programs.specs.Faults.{refused}
 use Rattle.register_arguments.proofs.ListLemmas.{means_just, named_more, names_of_split, never_twice, once_more}
 use Rattle.register_arguments.proofs.ListLemmas.{stands_at}
 use Rattle.register_arguments.specs.OptionValues.{StandsBehind}
@@ -25,7 +25,7 @@ behind c =
 
 pub returns-in_default-clause-fault : goal.returns-in_default-clause-fault
 returns-in_default-clause-fault c =
-    means_just c.one_target.ensures c.args.list.now (Err (unknown_target c.in-Some.name.now)) (inl (
+    means_just c.one_target.ensures c.args.list.now (Err (refused (codes "unknown target: " ++ c.in-Some.name.now))) (inl (
       c.in-Some.name.now,
       refl,
       (
@@ -37,9 +37,10 @@ returns-in_default-clause-fault c =
 
 pub returns-then-contains-clause-fault : goal.returns-then-contains-clause-fault
 returns-then-contains-clause-fault c =
-    means_just c.one_target.ensures c.args.list.now (Err (target_twice c.in-Some-target_named.target)) (inr (
+    let sentence : List ℕ → List ℕ = λ word. codes "target named twice: " ++ word in
+    means_just c.one_target.ensures c.args.list.now (Err (refused (sentence c.name.result.now))) (inr (
       c.in-Some-target_named.target,
-      refl,
+      ap (λ word. refused (sentence word)) c.name.ensures,
       (
         c.names.targets.items,
         c.in-Some.name.now,

@@ -3,11 +3,11 @@ use Rattle.std.proofs.Common.{rules, arith, ap, ◌≡◌, ◌∙◌, refl, Resu
 use Rattle.clap.proofs.TakesLemmas.{passed_up}
 use Rattle.register_records.specs.Records.{has_notes}
 use Rattle.programs.proofs.MeaningLemmas.{found_first, if_some}
+use Rattle.programs.specs.Faults.{Fault, fault_of_error}
 use Rattle.programs.specs.Meanings.{FailFirst}
-use Rattle.register_arguments.specs.CommandLine.{Values}
-use Rattle.register_arguments.specs.Faults.{Fault, fault_of_error}
+use Rattle.programs.specs.declared.request_faults.RequestFault.{RequestFault}
+use Rattle.register_arguments.specs.Requests.{Values}
 use Rattle.register_arguments.specs.Requests.{value_checks}
-use Rattle.register_arguments.specs.declared.request_faults.RequestFault.{RequestFault}
 use Rattle.register_arguments.specs.declared.jobs.Job.{Job}
 use Rattle.register_arguments.proofs.SetupLemmas.{asked_once, notes_by}
 use Rattle.register_arguments.proofs.requests.chosen_job.Goals as goal

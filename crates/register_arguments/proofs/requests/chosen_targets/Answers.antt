@@ -1,7 +1,7 @@
 -- What the option asks for is what its list means.
 use Rattle.std.proofs.Common.{refl, Ok}
 use Rattle.std.proofs.lemmas.Result.{IfErr-weaker, IfOk-weaker}
-use Rattle.register_arguments.specs.Faults.{fault_of_error}
+use Rattle.programs.specs.Faults.{fault_of_error}
 use Rattle.register_arguments.proofs.ListLemmas.{found_in_list}
 use Rattle.register_arguments.proofs.requests.chosen_targets.Goals as goal
 

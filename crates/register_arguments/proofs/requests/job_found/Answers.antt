@@ -1,8 +1,8 @@
 -- The values are those of the options.
 use Rattle.std.proofs.Common.{IfErr, IfSome, subst}
+use Rattle.programs.specs.Faults.{fault_of_error}
 use Rattle.programs.specs.Meanings.{FailFirst}
-use Rattle.register_arguments.specs.CommandLine.{Values}
-use Rattle.register_arguments.specs.Faults.{fault_of_error}
+use Rattle.register_arguments.specs.Requests.{Values}
 use Rattle.register_arguments.specs.Requests.{value_checks}
 use Rattle.register_arguments.proofs.requests.job_found.Goals as goal
 

@@ -4,12 +4,10 @@ use Rattle.std.specs.Option.{option_map_or}
 use Rattle.std.specs.String.{string_bytes}
 use Rattle.clap.specs.Words.{matches_of}
 use Rattle.programs.specs.Meanings.{help, version, work}
-use Rattle.sheet_arguments.specs.CommandLine.{command_line, values_of}
-use Rattle.sheet_arguments.specs.Requests.{MeanJust, meaning_of, sheet_line, task_of}
-use Rattle.sheet_arguments.specs.TreeValues.{meant}
+use Rattle.sheet_arguments.specs.Requests.{command_line, values_of, MeanJust, meaning_of, sheet_line, task_of, meant}
 use Rattle.programs.specs.declared.requests.Request.{Request}
 use Rattle.sheet_arguments.specs.declared.requests.Job.{Job}
-use Rattle.sheet_arguments.specs.Faults.{fault_of_error}
+use Rattle.programs.specs.Faults.{fault_of_error}
 use Rattle.sheet_app.specs.Answers.{version_line}
 use Rattle.programs.proofs.RefusedLemmas.{are_wrong, is_refused, is_wrong, never_wrong}
 use Rattle.sheet_app.proofs.TaskLemmas.{is_task}

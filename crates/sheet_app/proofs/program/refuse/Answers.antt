@@ -1,7 +1,7 @@
 -- Why nothing is done is reported, with its status.
 use Rattle.std.proofs.Common.{refl}
 use Rattle.sheet_app.specs.ProgramFaults.{fault_line, fault_status}
-use Rattle.sheet_arguments.specs.Faults.{name}
+use Rattle.sheet_arguments.specs.Requests.{name}
 use Rattle.programs.proofs.RefusedLemmas.{status_told}
 use Rattle.sheet_app.proofs.RefusedLemmas.{is_reported}
 use Rattle.sheet_app.proofs.program.refuse.Goals as goal

@@ -31,10 +31,10 @@ returns-in_default-clause-fault c =
 pub returns-then-is_among-clause-fault : goal.returns-then-is_among-clause-fault
 returns-then-is_among-clause-fault c =
     let (after, is) = cut (goal.at.returns-then-is_among-clause-fault c).In-Some in
-    ap (with_columns []) is ∙ column_again (map (λ name. name.now) c.names.yielded) c.in-Some.name.now
-    c.names.columns.items c.names.invariant.2 after c.in-Some-column_named.column
+    rw c.column_name.ensures (ap (with_columns []) is ∙ column_again (map (λ name. name.now) c.names.yielded)
+    c.in-Some.name.now c.names.columns.items c.names.invariant.2 after c.in-Some-column_named.column
     (sym c.column_named.ensures ∙ c.in-Some-column_named.is)
-    (rw c.as_slice.ensures.value at (sym c.is_among.ensures ∙ c.if-is_among.true))
+    (rw c.as_slice.ensures.value at (sym c.is_among.ensures ∙ c.if-is_among.true)))
 
 pub names-preserved : goal.names-preserved
 names-preserved c =

@@ -1,92 +1,94 @@
 -- What the options mean.
-use Rattle.std.proofs.Common.{drop, inl, inr, refl, take}
+use Rattle.std.proofs.Common.{◌++◌, List, [], ◌∷◌, refl, take}
+use Rattle.programs.proofs.CheckLemmas.{among_first, behind, found_at, found_up}
 use Rattle.programs.proofs.MeaningLemmas.{AllPass}
-use Rattle.programs.specs.Meanings.{FailFirst}
-use Rattle.sheet_arguments.specs.CommandLine.{Values}
-use Rattle.sheet_arguments.specs.Faults.{Fault}
-use Rattle.sheet_arguments.specs.Requests.{result_check, value_checks}
-use Rattle.sheet_arguments.specs.private.Requests.{AreSaidBy, FewDates, output_checks, values_by}
-use Rattle.sheet_arguments.specs.private.Requests.{word_checks}
-use Rattle.sheet_arguments.specs.ThreeColumns.{three_asked}
-use Rattle.sheet_arguments.specs.WordLists.{columns_asked}
+use Rattle.programs.specs.Meanings.{Check, FailFirst}
+use Rattle.sheet_arguments.specs.Requests.{Values, date_checks, file_checks, output_checks, value_checks, word_checks}
+use Rattle.sheet_arguments.specs.private.Requests.{AreSaidBy, FewDates, values_by}
 use Rattle.sheet_arguments.specs.declared.requests.Reading.{Reading}
-use Rattle.sheet_arguments.specs.declared.requests.Words.{Words}
-use Rattle.sheet_arguments.proofs.FaultLemmas.{among_first, behind, found_up}
 use Rattle.sheet_arguments.proofs.requests.chosen_job.Goals as goal
 
--- what passes up to the words, and up to the delimiter
-passed_four : (v : Values) → FewDates v → AllPass (take 4 (value_checks v))
-passed_four v few = (few.0, (few.1, (few.2, (few.3, tt))))
-
-passed_words : (words : Words) (reading : Reading) → AreSaidBy words reading → AllPass (word_checks words)
-passed_words words reading said =
-    ((_, said.0), ((_, said.1), ((_, said.2), ((_, said.3), ((_, said.4), ((_, said.5), tt))))))
+-- what passes up to the columns, and so on
+passed : (values : Values) (reading : Reading) (later : List Check) → FewDates values → AreSaidBy values reading
+    → AllPass later → AllPass (date_checks values ++ (word_checks values ++ later))
+passed values reading later few said rest = (
+  few.0,
+  (
+    few.1,
+    (
+      few.2,
+      (
+        few.3,
+        (
+          (_, said.0),
+          (
+            (_, said.1),
+            (
+              (_, said.2),
+              (
+                (_, said.3),
+                (
+                  (_, said.4),
+                  (
+                    (_, said.5),
+                    rest,
+                  ),
+                ),
+              ),
+            ),
+          ),
+        ),
+      ),
+    ),
+  ),
+)
 
 pub returns-in_err-dates_fit-clause-fault : goal.returns-in_err-dates_fit-clause-fault
 returns-in_err-dates_fit-clause-fault c =
-    let checks = value_checks (values_by c.args.options) in
-    found_up c.from_residual.result c.in_err-dates_fit.field-0.0 checks (FailFirst (take 4 checks))
-    c.from_residual.ensures.1 c.in_err-dates_fit.ensures.fault (among_first (take 4 checks) (drop 4 checks))
+    let v = values_by c.args.options in
+    found_up c.from_residual.result c.in_err-dates_fit.field-0.0 (value_checks v) (FailFirst (date_checks v))
+    c.from_residual.ensures.1 c.in_err-dates_fit.ensures.fault
+    (among_first (date_checks v) (word_checks v ++ output_checks v))
 
 pub returns-in_err-reading-clause-fault : goal.returns-in_err-reading-clause-fault
 returns-in_err-reading-clause-fault c =
     let v = values_by c.args.options in
-    let checks = value_checks v in
-    let words = word_checks c.args.options.words in
-    let four = passed_four v c.in_ok-dates_fit.ensures.fine in
-    let first : (fault : Fault) → FailFirst words fault → FailFirst checks fault
-    = λ fault is. behind (take 4 checks) (drop 4 checks) fault four (among_first words (drop 10 checks) fault is) in
-    found_up c.from_residual-in_err-reading.result c.in_err-reading.field-0.0 checks (FailFirst words)
-    c.from_residual-in_err-reading.ensures.1 c.in_err-reading.ensures.fault first
+    let few = c.in_ok-dates_fit.ensures.fine in
+    found_up c.from_residual-in_err-reading.result c.in_err-reading.field-0.0 (value_checks v) (FailFirst (word_checks v))
+    c.from_residual-in_err-reading.ensures.1 c.in_err-reading.ensures.fault
+    (λ fault is. behind (date_checks v) (word_checks v ++ output_checks v) fault (few.0, (few.1, (few.2, (few.3, tt))))
+    (among_first (word_checks v) (output_checks v) fault is))
 
 pub returns-in_err-columns-clause-fault : goal.returns-in_err-columns-clause-fault
 returns-in_err-columns-clause-fault c =
     let v = values_by c.args.options in
-    let checks = value_checks v in
-    let four = passed_four v c.in_ok-dates_fit.ensures.fine in
-    let words = word_checks c.args.options.words in
-    let said = passed_words c.args.options.words _ c.in_ok-reading.ensures.value in
-    let fails = (result_check (columns_asked v.to)).fails in
-    let first : (fault : Fault) → fails fault → FailFirst checks fault
-    = λ fault is. behind (take 4 checks) (drop 4 checks) fault four
-    (behind words (drop 10 checks) fault said (inl is)) in
-    found_up c.from_residual-in_err-columns.result c.in_err-columns.field-0.0 checks fails
-    c.from_residual-in_err-columns.ensures.1 c.in_err-columns.ensures.fault first
+    found_at 10 (value_checks v) c.from_residual-in_err-columns.result c.in_err-columns.field-0.0
+    (passed v _ [] c.in_ok-dates_fit.ensures.fine c.in_ok-reading.ensures.value tt)
+    c.from_residual-in_err-columns.ensures.1 c.in_err-columns.ensures.fault
 
 pub returns-in_err-three-clause-fault : goal.returns-in_err-three-clause-fault
 returns-in_err-three-clause-fault c =
     let v = values_by c.args.options in
-    let checks = value_checks v in
-    let four = passed_four v c.in_ok-dates_fit.ensures.fine in
-    let words = word_checks c.args.options.words in
-    let said = passed_words c.args.options.words _ c.in_ok-reading.ensures.value in
-    let fails = (result_check (three_asked v.three)).fails in
-    let first : (fault : Fault) → fails fault → FailFirst checks fault
-    = λ fault is. behind (take 4 checks) (drop 4 checks) fault four
-    (behind words (drop 10 checks) fault said (inr ((_, c.in_ok-columns.ensures.value), inl is))) in
-    found_up c.from_residual-in_err-three.result c.in_err-three.field-0.0 checks fails
-    c.from_residual-in_err-three.ensures.1 c.in_err-three.ensures.fault first
+    found_at 11 (value_checks v) c.from_residual-in_err-three.result c.in_err-three.field-0.0
+    (passed v _ (take 1 (output_checks v)) c.in_ok-dates_fit.ensures.fine c.in_ok-reading.ensures.value
+    ((_, c.in_ok-columns.ensures.value), tt))
+    c.from_residual-in_err-three.ensures.1 c.in_err-three.ensures.fault
 
-pub returns-in_err-outputs_fit-clause-fault : goal.returns-in_err-outputs_fit-clause-fault
-returns-in_err-outputs_fit-clause-fault c =
+pub returns-in_err-files_fit-clause-fault : goal.returns-in_err-files_fit-clause-fault
+returns-in_err-files_fit-clause-fault c =
     let v = values_by c.args.options in
-    let checks = value_checks v in
-    let four = passed_four v c.in_ok-dates_fit.ensures.fine in
-    let words = word_checks c.args.options.words in
-    let said = passed_words c.args.options.words _ c.in_ok-reading.ensures.value in
-    let outputs = output_checks v.register v.files in
-    let first : (fault : Fault) → FailFirst outputs fault → FailFirst checks fault
-    = λ fault is. behind (take 4 checks) (drop 4 checks) fault four
-    (behind words (drop 10 checks) fault said
-    (inr ((_, c.in_ok-columns.ensures.value), inr ((_, c.in_ok-three.ensures.value), is)))) in
-    found_up c.from_residual-in_err-outputs_fit.result c.in_err-outputs_fit.field-0.0 checks (FailFirst outputs)
-    c.from_residual-in_err-outputs_fit.ensures.1 (rw c.as_slice.ensures.value at c.in_err-outputs_fit.ensures.fault) first
+    let files = file_checks v.register v.files in
+    found_up c.from_residual-in_err-files_fit.result c.in_err-files_fit.field-0.0 (value_checks v) (FailFirst files)
+    c.from_residual-in_err-files_fit.ensures.1 (rw c.as_slice.ensures.value at c.in_err-files_fit.ensures.fault)
+    (λ fault is. behind (take 12 (value_checks v)) files fault
+    (passed v _ (take 2 (output_checks v)) c.in_ok-dates_fit.ensures.fine c.in_ok-reading.ensures.value
+    ((_, c.in_ok-columns.ensures.value), ((_, c.in_ok-three.ensures.value), tt))) is)
 
 pub returns-clause-asked : goal.returns-clause-asked
 returns-clause-asked c =
     let few = c.in_ok-dates_fit.ensures.fine in
     let said = c.in_ok-reading.ensures.value in
-    let fit = rw c.as_slice.ensures.value at c.in_ok-outputs_fit.ensures.fine in
+    let fit = rw c.as_slice.ensures.value at c.in_ok-files_fit.ensures.fine in
     record {
       tree = refl;
       dates = refl;

@@ -1,9 +1,8 @@
 -- The values are those of the options.
 use Rattle.std.proofs.Common.{IfErr, IfSome, subst}
+use Rattle.programs.specs.Faults.{fault_of_error}
 use Rattle.programs.specs.Meanings.{FailFirst}
-use Rattle.sheet_arguments.specs.CommandLine.{Values}
-use Rattle.sheet_arguments.specs.Faults.{fault_of_error}
-use Rattle.sheet_arguments.specs.Requests.{given_checks}
+use Rattle.sheet_arguments.specs.Requests.{Values, given_checks}
 use Rattle.sheet_arguments.proofs.requests.job_found.Goals as goal
 
 pub returns-in-Ok-clause-fault : goal.returns-in-Ok-clause-fault

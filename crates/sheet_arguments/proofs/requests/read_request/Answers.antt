@@ -1,37 +1,24 @@
 -- What the arguments mean, and that it is all that they mean.
-use Rattle.std.proofs.Common.{◌≡◌, List, map, IfSome}
+use Rattle.std.proofs.Common.{map, IfSome}
 use Rattle.std.specs.String.{string_bytes}
-use Rattle.clap.specs.Words.{App, Text}
 use Rattle.clap.proofs.TakesLemmas.{passed_up}
+use Rattle.programs.specs.Faults.{fault_of_error}
 use Rattle.programs.specs.Meanings.{wrong}
-use Rattle.programs.specs.Requests.{AreUnread}
+use Rattle.programs.specs.declared.request_faults.RequestFault.{RequestFault}
 use Rattle.programs.specs.declared.requests.Request.{Request}
-use Rattle.programs.specs.declared.requests.UsageFault.{UsageFault}
-use Rattle.programs.specs.declared.requests.UsageFault.TheVariants as usage_fault
-use Rattle.programs.proofs.MeaningLemmas.{IsClear, fault_just, help_just, usage_just, version_just, work_just}
-use Rattle.sheet_arguments.specs.CommandLine.{command_line}
-use Rattle.sheet_arguments.specs.Faults.{fault_of_error, fault_of_usage}
+use Rattle.programs.proofs.MeaningLemmas.{fault_just, help_just, unread_just, version_just, work_just}
 use Rattle.sheet_arguments.specs.Requests.{MeanJust, sheet_line, task_of}
-use Rattle.sheet_arguments.specs.declared.request_faults.RequestFault.{RequestFault}
 use Rattle.sheet_arguments.specs.declared.requests.Job.{Job}
 use Rattle.sheet_arguments.proofs.ArgumentLemmas.{is_clear}
 use Rattle.sheet_arguments.proofs.requests.read_request.Goals as goal
 
--- where arguments are not as they are taken, that is what is wrong
-unread_just : (arguments : List Text) (app : App) → IsClear sheet_line → app ≡ command_line → (fault : UsageFault)
-    → AreUnread app arguments fault
-    → IfSome (fault_of_error (fault_of_usage fault)) (λ f. MeanJust arguments (wrong f))
-unread_just arguments app clear is usage_fault.OutOfMemory unread = tt
-unread_just arguments app clear is (usage_fault.Usage error) unread =
-    usage_just sheet_line arguments clear app is error unread
-
 pub returns-in_err-read_arguments-clause-refused : goal.returns-in_err-read_arguments-clause-refused
 returns-in_err-read_arguments-clause-refused c =
     let arguments = map string_bytes c.args.arguments.now in
-    let fault = c.in_err-read_arguments.field-0.0 in
-    passed_up {T = Request Job} {E = RequestFault} c.from_residual.result (fault_of_usage fault)
+    let error = c.in_err-read_arguments.field-0.0 in
+    passed_up {T = Request Job} {E = RequestFault} c.from_residual.result error
     (λ (r : RequestFault). IfSome (fault_of_error r) (λ f. MeanJust arguments (wrong f))) c.from_residual.ensures.1
-    (unread_just arguments _ is_clear c.in-Ok.ensures fault c.in_err-read_arguments.ensures.unread)
+    (unread_just sheet_line arguments is_clear _ c.in-Ok.ensures error c.in_err-read_arguments.ensures.unread)
 
 pub returns-in_err-job_found-in-Convert-clause-refused : goal.returns-in_err-job_found-in-Convert-clause-refused
 returns-in_err-job_found-in-Convert-clause-refused c =

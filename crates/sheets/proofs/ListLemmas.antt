@@ -1,7 +1,8 @@
 -- Lists that are taken from the front.
 use Rattle.std.proofs.Common.{◌≡◌, ◌≤◌, ◌+◌, ◌∙◌, ℕ, zero, suc, List, [], ◌∷◌, ◌++◌, take, drop, length, refl, sym, ap}
-use Rattle.std.proofs.Common.{arith, get_or, ◌<◌}
+use Rattle.std.proofs.Common.{arith, get_or, ◌<◌, All, Bool, true, false, if◌then◌else◌, subst}
 use Rattle.std.proofs.lemmas.List.{drop_all, length-drop, take_all}
+use Rattle.std.proofs.lemmas.List.Elements.{All-push}
 
 -- one more
 pub one_taken : {T : Type 0} (all : List T) (k : ℕ) (x : T) (rest : List T) → drop k all ≡ x ∷ rest
@@ -35,3 +36,9 @@ stands_below (y ∷ all) (suc k) (suc above) x other rest e h =
 
 pub none_below : {T : Type 0} (all : List T) (k above : ℕ) → k ≤ above → drop k all ≡ [] → length all ≤ above
 none_below all k above low e = omega (arith, length-drop k all, ap length e)
+
+-- what holds of each item of a list holds of each where one more was pushed, or none
+pub each_pushed : {T : Type 0} (P : T → Type 0) (b : Bool) (xs new : List T) (x : T)
+    → new ≡ (if b then xs ++ x ∷ [] else xs) → All P xs → P x → All P new
+each_pushed P true xs new x e each one = subst (All P) (sym e) (All-push P xs x each one)
+each_pushed P false xs new x e each one = subst (All P) (sym e) each

@@ -17,6 +17,7 @@ mod feast_names;
 pub mod laws;
 mod line_writers;
 mod lines;
+mod met_calendars;
 mod name_calendars;
 mod name_lists;
 mod name_meanings;

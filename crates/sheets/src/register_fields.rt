@@ -10,12 +10,13 @@ ghost use Rattle.sheets.specs.private.OwnViews.{own_seen};
 ghost use Rattle.std.specs.Fmt.{decimal};
 
 use crate::choices::{CalendarField, DateColumn, IdField, SheetChoice};
+use crate::met_calendars::MetCalendars;
 use crate::own_calendars::{OwnDate, has_styles, own_date};
 use crate::reading::field_at;
 use csv::ByteRecord;
 use date_texts::{Calendar, calendar_named};
 use std::str;
-use written_dates::{CalendarMeaning, CalendarNames, without_blanks};
+use written_dates::{CalendarMeaning, without_blanks};
 
 /// The date of a record: its calendar as the register has it, what is meant for it, and its text.
 #[derive(Clone, Copy)]
@@ -47,13 +48,14 @@ fn if_empty(otherwise: Option<CalendarMeaning>, field: &[u8]) -> Option<Calendar
 
 /// What a field of a calendar means: by the names, or where it is empty.
 fn meant_in(
-    names: &CalendarNames,
+    met: &mut MetCalendars,
     otherwise: Option<CalendarMeaning>,
     field: &[u8],
 ) -> Option<CalendarMeaning>
-    ensures { result ≡ in_spec names.now otherwise field.now }
+    ensures meant { result ≡ in_spec met.old.names.now otherwise field.now }
+    ensures names { met.new.names ≡ met.old.names }
 {
-    match names.meant(field) {
+    match met.meant(field) {
         Some(meaning) => Some(meaning),
         None => if_empty(otherwise, field),
     }
@@ -71,18 +73,19 @@ fn one_called(field: &[u8]) -> Option<CalendarMeaning>
 
 /// The calendar of a record, and what is meant for its dates.
 fn calendar_of<'a>(
-    names: &CalendarNames,
+    met: &mut MetCalendars,
     place: CalendarField,
     record: &'a ByteRecord,
 ) -> (&'a [u8], Option<CalendarMeaning>)
-    ensures text { result.0.now ≡ calendar_text names.now place (fields_of record.now) }
-    ensures meant { result.1 ≡ meaning_in names.now place (fields_of record.now) }
+    ensures text { result.0.now ≡ calendar_text met.old.names.now place (fields_of record.now) }
+    ensures meant { result.1 ≡ meaning_in met.old.names.now place (fields_of record.now) }
+    ensures names { met.new.names ≡ met.old.names }
 {
     match place {
         CalendarField::All(meaning) => (meaning.calendar().name().as_bytes(), Some(meaning)),
         CalendarField::Column(column) => {
             let field = field_at(record, column.place as usize);
-            match meant_in(names, column.otherwise, field) {
+            match meant_in(met, column.otherwise, field) {
                 Some(meaning) => (meaning.calendar().name().as_bytes(), Some(meaning)),
                 None => (field, one_called(field)),
             }
@@ -110,12 +113,15 @@ pub(crate) fn date_said<'a>(
     choice: &SheetChoice,
     column: &DateColumn,
     record: &'a ByteRecord,
+    met: &mut MetCalendars,
 ) -> SaidDate<'a>
+    requires { met.old.names.now ≡ choice.now.calendars.now }
+    ensures names { met.new.names ≡ met.old.names }
     ensures calendar { result.calendar.now ≡ calendar_for choice.now column.now (fields_of record.now) }
     ensures meant { result.meant ≡ meaning_for choice.now column.now (fields_of record.now) }
     ensures text { result.text.now ≡ date_text choice.now column.now (fields_of record.now) }
 {
-    let (calendar, meant) = calendar_of(choice.calendars, column.calendar, record);
+    let (calendar, meant) = calendar_of(met, column.calendar, record);
     let text = field_at(record, column.date as usize);
     match own_by(choice, meant, text) {
         Some(own) => SaidDate {

@@ -8,6 +8,7 @@ ghost use Rattle.sheets.specs.private.Reading.{IsBegun};
 ghost use Rattle.sheets.specs.private.SheetRecords.{FindsRecord, fields_read};
 
 use crate::choices::SheetSetup;
+use crate::met_calendars::MetCalendars;
 use crate::reading::read_next;
 use crate::record_logs::RecordLog;
 use crate::sheet_ends::SheetCause;
@@ -28,11 +29,13 @@ pub(crate) struct SheetReader<'s> {
     count: u32,
     // No call found an end or a fault.
     is_going: bool,
+    met: MetCalendars<'s>,
     // For clauses alone: the records as they were, and those given.
     opened: Snapshot<Reader<&'s [u8]>>,
     given: RecordLog,
     ghost live: { is_going ≡ true → IsBegun records } by { Prim.hlevel props },
     ghost sized: { length of_sheet.columns.items ≡ length setup.choice.dates.now },
+    ghost called: { met.names.now ≡ setup.choice.calendars.now },
     ghost counted: { length given ≡ count },
     ghost few: { count ≤ record_limit },
     // The records given are the first, and those that are left follow them.
@@ -48,12 +51,15 @@ fn read_record(
     setup: &SheetSetup,
     of_sheet: &mut SheetRecord,
     count: u32,
+    met: &mut MetCalendars,
 ) -> Result<bool, SheetCause>
+    requires names { met.old.names.now ≡ setup.now.choice.calendars.now }
     requires reading { IsBegun records.old }
     requires sized { length of_sheet.old.columns.items ≡ length setup.now.choice.dates.now }
     requires few { count ≤ record_limit }
     ensures found { FindsRecord setup.now.choice count (left_of records.old) records.new of_sheet.new result }
     ensures sized { length of_sheet.new.columns.items ≡ length of_sheet.old.columns.items }
+    ensures names { met.new.names ≡ met.old.names }
 {
     if !read_next(records, &mut of_sheet.fields)? {
         return Ok(false);
@@ -61,7 +67,7 @@ fn read_record(
     if count >= MAX_RECORDS {
         return Err(SheetCause::TooManyRecords);
     }
-    of_sheet.renew(setup, count + 1)?;
+    of_sheet.renew(setup, count + 1, met)?;
     Ok(true)
 }
 
@@ -85,6 +91,7 @@ impl<'s> SheetReader<'s> {
             of_sheet,
             count: 0,
             is_going: true,
+            met: MetCalendars::none(alloc, setup.choice.calendars),
             opened,
             given: RecordLog::new(),
         })
@@ -104,6 +111,7 @@ impl<'s> SheetReader<'s> {
             &self.setup,
             &mut self.of_sheet,
             self.count,
+            &mut self.met,
         );
         match found {
             Ok(true) => {

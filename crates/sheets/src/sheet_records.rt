@@ -21,6 +21,7 @@ ghost use Rattle.sheets.specs.UnknownViews.{if_stop};
 use crate::calendar_changes::{EndCalendar, MAX_DATE, at_change};
 use crate::choices::{DateColumn, End, SheetChoice, SheetSetup, Spans};
 use crate::end_texts::{DAY_MARKS, EndTexts, write_ends};
+use crate::met_calendars::MetCalendars;
 use crate::reasons::Reason;
 use crate::register_fields::{called_by, date_said, id_of};
 use crate::stops::{DateStop, NameStop, stop_by};
@@ -454,14 +455,17 @@ impl ColumnDates {
         column: &DateColumn,
         number: u32,
         fields: &ByteRecord,
+        met: &mut MetCalendars,
     ) -> Result<(), AllocError>
         requires from_one { 1 ≤ number }
         requires limited { number ≤ record_limit }
-        ensures { OnOk result
+        requires names { met.old.names.now ≡ setup.now.choice.calendars.now }
+        ensures names { met.new.names ≡ met.old.names }
+        ensures read { OnOk result
             (IsDateRead setup.now.choice number (fields_of fields.now) column.now (date_seen self.new)) }
     {
         let choice = &setup.choice;
-        let said = date_said(choice, column, fields);
+        let said = date_said(choice, column, fields, met);
         copy_text(&mut self.calendar, said.calendar)?;
         self.put_ends(choice, said.meant, said.text)?;
         let mut buffer = Buffer::new();
@@ -498,19 +502,26 @@ impl SheetRecord {
     }
 
     /// Gives the record, whose fields were read, this number, and makes its dates what is to be read for them.
-    pub fn renew(&mut self, setup: &SheetSetup, number: u32) -> Result<(), AllocError>
+    pub fn renew(
+        &mut self,
+        setup: &SheetSetup,
+        number: u32,
+        met: &mut MetCalendars,
+    ) -> Result<(), AllocError>
+        requires names { met.old.names.now ≡ setup.now.choice.calendars.now }
         requires from_one { 1 ≤ number }
         requires limited { number ≤ record_limit }
         requires count { length self.old.columns.items ≡ length setup.now.choice.dates.now }
         ensures read { OnOk result (IsRecordRead setup.now.choice (record_read self.new)) }
         ensures number { OnOk result (self.new.number ≡ number) }
         ensures fields { self.new.fields ≡ self.old.fields }
+        ensures names { met.new.names ≡ met.old.names }
         ensures count { length self.new.columns.items ≡ length self.old.columns.items }
     {
         self.number = number;
         let dates = setup.choice.dates;
         'dates: for place in 0..dates.len() {
-            self.columns[place].renew(setup, &dates[place], number, &self.fields)?;
+            self.columns[place].renew(setup, &dates[place], number, &self.fields, met)?;
         }
         Ok(())
     }

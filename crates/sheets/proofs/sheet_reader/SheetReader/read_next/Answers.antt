@@ -13,6 +13,7 @@ invariant_of-self c =
     record {
       live = λ _. next.begun;
       sized = c.read_record-found.ensures.sized ∙ self.sized;
+      called = rw c.read_record-found.ensures.names self.called;
       counted = omega (arith, more.2, self.counted);
       few = omega (arith, next.few);
       first = more.0;

@@ -22,8 +22,8 @@ stop_beside-stop-requires-clause-stop c has some =
     c.put_ends.new.self.calendar.items meant end named c.date_said-said.ensures.meant rows.first has
     (rw c.called_by.ensures at some))
 
-pub returns : goal.returns
-returns c =
+pub returns-clause-read : goal.returns-clause-read
+returns-clause-read c =
     let choice = c.args.setup.now.choice in
     let column = c.args.column.now in
     let fields = fields_of c.args.fields.now in

@@ -27,8 +27,9 @@ dates-preserved c =
       count = length-set c.dates.self.columns.items place column ∙ inv.count;
       fields = inv.fields;
       number = inv.number;
+      names = c.renew.ensures.names ∙ inv.names;
       dates = subst (λ (ys : List DateRead). AllZip R (take (place + 1) dates) ys)
           (sym (set_more date_seen c.dates.self.columns.items place column low))
           (zip_at R dates _ place none (date_seen column) c.dates-test.true inv.dates (rw inv.fields at
-          c.in_ok-renew.ensures));
+          c.in_ok-renew.ensures.read));
     }

@@ -8,6 +8,7 @@ invariant-dates l =
       count : length l.self.columns.items ≡ length l.fn.self.columns.items;
       fields : l.self.fields ≡ l.fn.self.fields;
       number : l.self.number ≡ l.number;
+      names : l.met.names ≡ l.fn.met.names;
       dates : AllZip (IsDateRead l.setup.choice l.number (fields_of l.fn.self.fields)) (take l.place l.dates)
           (take l.place (map date_seen l.self.columns.items));
     }

@@ -1,15 +1,13 @@
 -- Texts that say the name of a day and its year.
-use Rattle.std.proofs.Common.{◌≡◌, ◌↔◌, ◌∙◌, ◌+◌, ℕ, zero, suc, ◌<◌, ◌≤◌, ℤ, pos, Bool, true, false, ◌||◌, cond, refl, sym, ap, subst, arith}
-use Rattle.std.proofs.Common.{List, [], ◌∷◌, Option, Some, None, length}
-use Rattle.std.specs.List.{All, Contains, list_all, slice_index_or}
+use Rattle.std.proofs.Common.{◌≡◌, ◌∙◌, ℕ, true, false, ◌||◌, refl, sym, ap, subst, arith}
+use Rattle.std.proofs.Common.{List, Option, Some, None}
+use Rattle.std.specs.List.{list_all}
 use Rattle.day_numbers.proofs.SignedArithmeticLemmas.{signed_arith}
-use Rattle.day_numbers.specs.Rules.{IsDateOf, day_number_of}
 use Rattle.day_numbers.specs.declared.ymd.Ymd.{Ymd}
 use Rattle.church_year.specs.declared.churches.Church.{Church}
 use Rattle.church_year.specs.declared.churches.Church.TheVariants.{Julian, Gregorian}
 use Rattle.church_year.specs.declared.feasts.Feast.{Feast as Festival}
 use Rattle.church_year.specs.declared.feasts.Place.{Place}
-use Rattle.church_year.specs.Easter.{rules_of}
 use Rattle.church_year.specs.FeastDates.{feast_date_in}
 use Rattle.church_year.specs.Feasts.{IsFeastDate, feast_day, placed}
 use Rattle.church_year.proofs.FeastDateLemmas.{date_found, in_years, named_is}
@@ -21,23 +19,20 @@ use Rattle.written_dates.specs.declared.rules.InYear.TheVariants.{Feast}
 use Rattle.written_dates.specs.declared.rules.Reading.{Reading}
 use Rattle.written_dates.specs.declared.rules.Reading.TheVariants.{Civil}
 use Rattle.written_dates.specs.declared.written.Answer.{Answer}
-use Rattle.written_dates.specs.declared.written.Answer.TheVariants.{Stays, Date}
+use Rattle.written_dates.specs.declared.written.Answer.TheVariants.{Date}
 use Rattle.written_dates.specs.declared.written.Choice.{Choice}
-use Rattle.written_dates.specs.declared.written.Short.{Short}
 use Rattle.written_dates.specs.declared.written.Short.TheVariants.{Keep}
 use Rattle.written_dates.specs.Rules.{civil_reading}
-use Rattle.written_dates.specs.Signs.{bare, begins_with_dash, has_minus, has_other, runs_behind_minus, three_runs}
+use Rattle.written_dates.specs.Signs.{bare, begins_with_dash, has_minus, has_other}
 use Rattle.written_dates.specs.Sums.{found_items}
 use Rattle.written_dates.specs.Tokens.{Piece, tokens}
 use Rattle.written_dates.specs.Written.{agrees, answer, date_of, dated, if_agreed, is_half_year, items_answer}
-use Rattle.written_dates.specs.Written.{counted_by, dated_text, lacks_month, short_rule, unless_turned, written}
+use Rattle.written_dates.specs.Written.{counted_by, dated_text, lacks_month, short_rule, written}
 use Rattle.written_dates.specs.Items.{is_of_calendar}
 use Rattle.written_dates.specs.declared.meanings.Era.{Era}
 use Rattle.written_dates.specs.declared.meanings.Era.TheVariants as eras
 use Rattle.written_dates.proofs.TimeLemmas.{dated_whole, read_dated}
-use Rattle.church_days.specs.DayNames.{DayName, day_names}
-use Rattle.church_days.specs.Names.{FallsOn}
-use Rattle.church_days.specs.Texts.{calendar_of, SaysName, IsInWords, NamesReadBack}
+use Rattle.church_days.specs.Texts.{calendar_of, IsInWords, NamesReadBack}
 
 -- the month and the day of a feast's date
 feast_found : (church : Church) (year : ℕ) (feast : Festival) (place : Place) (date : Ymd)

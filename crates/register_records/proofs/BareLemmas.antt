@@ -1,10 +1,10 @@
 -- Texts that hold no byte that calls for quotes, and plain texts, which are ASCII besides.
 use Rattle.std.proofs.Common.{◌≡◌, ℕ, zero, suc, ◌+◌, ◌-◌, ◌*◌, ◌/◌, ◌<◌, ◌≤◌, true, false, List, [], ◌∷◌, ◌++◌, length}
-use Rattle.std.proofs.Common.{get_or, take, drop, IfSome, Some, Err, IsAscii, Option, Result, sym, refl, ap, ◌∙◌, subst}
+use Rattle.std.proofs.Common.{get_or, take, drop, IfSome, Some, Err, Option, sym, refl, ap, ◌∙◌}
 use Rattle.std.proofs.Common.{arith, take_all, rules}
-use Rattle.register_records.proofs.Common.{cut_from, needs_byte, needs_quotes, Refusal, IsPlain, has_plain_texts}
+use Rattle.register_records.proofs.Common.{cut_from, needs_byte, needs_quotes, IsPlain, has_plain_texts}
 use Rattle.register_records.proofs.Common.{is_plain_byte, are_utf8, body_of, body_of_texts, writing, Fields, Texts}
-use Rattle.register_records.proofs.Common.{texts_of, is_delimiter, CHUNK, Form, take-add, and_parts, or_from, or_parts}
+use Rattle.register_records.proofs.Common.{texts_of, is_delimiter, CHUNK, Form, take-add, and_parts}
 use Rattle.register_records.proofs.Common.{nat_tests, AllPass-from_list_all, list_all, ⊤, is_utf8}
 use Rattle.std.proofs.lemmas.List.{drop-drop, take-append-drop}
 use Rattle.std.specs.Simd.{first_chunks}

@@ -5,7 +5,7 @@ use Rattle.std.proofs.Common.{◌∙◌, append_assoc, append-nil, arith, length
 use Rattle.register_records.proofs.Common.{escaped-double, escaped-other, fields-snoc, field_text, fields_text}
 use Rattle.register_records.proofs.Common.{is_blank, needs_byte, needs_quotes, row_body, target_name, is_plain, Refusal}
 use Rattle.register_records.proofs.Common.{Target, IsDayNumber, has_plain_texts, Column, cell_columns, columns}
-use Rattle.register_records.proofs.Common.{entry_order, kind_columns, tail_order, Begins, GainsFields, writing}
+use Rattle.register_records.proofs.Common.{entry_order, kind_columns, tail_order, writing}
 use Rattle.register_records.proofs.Common.{line_text, TableRow, Texts, is_delimiter, entry_field, kind_name, kind_names}
 use Rattle.register_records.proofs.Common.{row_fields, text_shown, take-append-add, and_parts, nat_tests, ints}
 use Rattle.register_records.proofs.Common.{map-append, take_more, AllPass-from_list_all, signed_decimal, list_all}

@@ -45,7 +45,7 @@ use Rattle.written_dates.specs.Words.{same_word}
 use Rattle.written_dates.specs.Written.{answer, answer_by, answer_text, begins_at_midnight, dated_text, is_dated}
 use Rattle.written_dates.specs.Written.{is_found}
 use Rattle.written_dates.specs.Written.{civil_text, date_of, if_agreed}
-use Rattle.written_dates.specs.Written.{items_answer, reading_by, unless_turned, written, written_by, written_form}
+use Rattle.written_dates.specs.Written.{items_answer, reading_by, unless_turned, written_by, written_form}
 use Rattle.written_dates.specs.Written.{before_time}
 use Rattle.written_dates.proofs.NameLawLemmas.{found_is_longest, found_stands}
 use Rattle.written_dates.proofs.PieceLemmas.{IgnoresBlanks, SeenAlike, alike_seen, are_honest, honest, no_blanks}

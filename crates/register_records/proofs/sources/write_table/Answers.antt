@@ -6,7 +6,7 @@ use Rattle.register_records.proofs.TableLemmas.{broken_by_reader, broken_by_tabl
 use Rattle.register_records.proofs.TableLemmas.{faultless, flushed, kept, marked, of_reader, other_cause, whole_rows}
 use Rattle.register_records.proofs.StepLemmas.{passed_on}
 use Rattle.register_records.proofs.sources.write_table.Given.{Over}
-use Rattle.register_records.proofs.sources.write_table.Goals.{After-write_heading, In_err-put_next, Then-branch}
+use Rattle.register_records.proofs.sources.write_table.Goals.{After-write_heading, In_err-put_next}
 use Rattle.register_records.proofs.sources.write_table.Goals as goal
 
 -- the table once its heading was written, or once that broke it off

@@ -1,4 +1,4 @@
-use Rattle.std.proofs.Common.{◌≡◌, ◌∙◌, false, sym, arith, get_or, drop}
+use Rattle.std.proofs.Common.{◌≡◌, ◌∙◌, false, sym, arith, get_or}
 use Rattle.written_dates.specs.Times.{begins_time}
 use Rattle.written_dates.proofs.TimeLemmas.{at_front, goes_on}
 use Rattle.written_dates.proofs.times.timeless.Goals as goal

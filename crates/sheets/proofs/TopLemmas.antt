@@ -1,11 +1,16 @@
 -- What stands in a sheet down to its names.
-use Rattle.std.proofs.Common.{◌≡◌, ◌≤◌, ◌<◌, ◌∙◌, ◌++◌, ◌+◌, ℕ, List, [], ◌∷◌, ap, append-nil, append_assoc, drop}
+use Rattle.std.proofs.Common.{◌≡◌, ◌≤◌, ◌<◌, ◌∙◌, ◌++◌, ◌+◌, ◌-◌, ℕ, List, [], ◌∷◌, ap, append-nil, append_assoc, arith, drop}
 use Rattle.std.proofs.Common.{get_or, length, map, refl, sym, take}
 use Rattle.sheets.proofs.Common.{Fields, top_records, SheetChoice}
 use Rattle.std.proofs.lemmas.List.{take-append-drop, take-take, take_more}
 use Rattle.sheets.specs.Sheets.{filled}
 use Rattle.sheets.proofs.RowLemmas.{same_head}
-use Rattle.sheets.proofs.WidthLemmas.{none_filled}
+
+-- no field is added up to none
+none_filled : (fields : Fields) → filled 0 fields ≡ fields
+none_filled fields =
+    let none : 0 - length fields ≡ 0 = omega arith in
+    rw none (append-nil fields)
 
 -- one record more
 pub top_line : (all left : List Fields) (k : ℕ) (lines : Fields) → lines ≡ [] → k < length all → left ≡ drop k all

@@ -63,14 +63,6 @@ gains_one fields old new gains places width = record {
   width = width;
 }
 
--- no record more
-pub gains_none : (joined : JoinedSheet) → GainsRecords [] joined joined
-gains_none joined = record {
-  text = λ d text has. subst (λ t. Holds d t joined.sheet) (sym (append-nil text)) has;
-  places = refl;
-  width = refl;
-}
-
 -- some, and then others
 pub gains_more : (first then all : List Fields) (old mid new : JoinedSheet) → GainsRecords first old mid
     → GainsRecords then mid new → all ≡ first ++ then → GainsRecords all old new

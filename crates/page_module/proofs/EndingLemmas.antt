@@ -45,8 +45,7 @@ pub ends_asked : (P : SheetChoice → Type 0) (request : SheetRequest) (choice :
 ends_asked P request choice is ending.NoMemory by = tt
 ends_asked P request choice is ending.NameList by = absurd by
 ends_asked P request choice is ending.Choice by = inr (choice, is, by)
-ends_asked P request choice is ending.NoNames by = (choice, is, by)
-ends_asked P request choice is ending.TooManyRecords by = (choice, is, by)
+ends_asked P request choice is why by = (choice, is, by)
 
 -- and where there is no choice, for each that must be more than a choice
 pub ends_early : (P : SheetChoice → Type 0) → ((choice : SheetChoice) → P choice → IsChoice choice)
@@ -56,8 +55,7 @@ ends_early P more request ending.NameList by = by
 ends_early P more request ending.Choice (inl none) = inl none
 ends_early P more request ending.Choice (inr (choice, is, refused)) =
     inr (choice, is, λ holds. refused (more choice holds))
-ends_early P more request ending.NoNames by = absurd by
-ends_early P more request ending.TooManyRecords by = absurd by
+ends_early P more request why by = absurd by
 
 -- the ending for a cause
 pub ends_by_cause : (P : SheetChoice → Type 0) (sheet : List ℕ) (choice : SheetChoice) (cause : SheetCause)
@@ -65,10 +63,9 @@ pub ends_by_cause : (P : SheetChoice → Type 0) (sheet : List ℕ) (choice : Sh
     → (cause ≡ causes.NoNames → length (text_records choice.delimiter sheet) ≤ choice.above)
     → (cause ≡ causes.TooManyRecords → record_limit < length (below choice (text_records choice.delimiter sheet)))
     → EndsBy P choice sheet why
-ends_by_cause P sheet choice causes.NoMemory why e holds none more = rw e tt
-ends_by_cause P sheet choice causes.SinkFault why e holds none more = rw e tt
 ends_by_cause P sheet choice causes.NoNames why e holds none more = rw e (holds, none refl)
 ends_by_cause P sheet choice causes.TooManyRecords why e holds none more = rw e (holds, more refl)
+ends_by_cause P sheet choice cause why e holds none more = rw e tt
 
 -- the whole text of an output that was empty is what was made
 pub made_whole : (given written text : List ℕ) (Made : List ℕ → Type 0)

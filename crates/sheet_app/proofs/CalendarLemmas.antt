@@ -1,5 +1,6 @@
 -- What words say of the calendar of dates.
-use Rattle.std.proofs.Common.{◌≡◌, ◌∙◌, ◌∷◌, [], List, Option, None, Some, IfSome, ap, map, refl, subst, sym, ℕ, IfNone}
+use Rattle.std.proofs.Common.{◌≡◌, ◌∙◌, List, Option, None, Some, IfSome, ap, map, refl, subst, sym, ℕ, IfNone}
+use Rattle.std.proofs.lemmas.Simd.{map-map}
 use Rattle.sheet_app.proofs.Common.{Text, NameLine, bare_name}
 use Rattle.sheets.specs.NameLists.{calendar_names_in, calendar_seen}
 use Rattle.sheets.specs.NameMeanings.{SaysCalendar}
@@ -11,8 +12,7 @@ use Rattle.sheet_app.specs.CalendarWords.{IsMeant, SaysBy, SaysNothing, named_in
 -- names without the blanks at their ends, as lists have them
 bare_listed : (names : List CalendarName)
     → map bare_name names ≡ map (λ e. (without_blanks e.0, e.1)) (map calendar_seen names)
-bare_listed [] = refl
-bare_listed (name ∷ names) = ap (λ (l : List (List ℕ × CalendarMeaning)). bare_name name ∷ l) (bare_listed names)
+bare_listed names = sym (map-map (λ (e : List ℕ × CalendarMeaning). (without_blanks e.0, e.1)) calendar_seen names)
 
 -- what a word means by the names that lines give
 pub named_by : (lines : List NameLine) (names : List CalendarName) (entries : List (List ℕ × CalendarMeaning))

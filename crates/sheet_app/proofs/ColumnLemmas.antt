@@ -1,10 +1,11 @@
 -- The columns that words name, one after the other.
-use Rattle.std.proofs.Common.{◌≡◌, ◌↔◌, ◌∙◌, ◌+◌, ◌-◌, ◌<◌, ◌≤◌, ◌⊎◌, ◌∷◌, ◌++◌, ℕ, zero, suc, List, [], None, Some, ap}
-use Rattle.std.proofs.Common.{arith, get_or, inl, inr, length, length-append, refl, slice_get, sym, subst, map}
-use Rattle.std.proofs.Common.{Contains, Option, option_map}
-use Rattle.sheet_app.proofs.Common.{Bor, DateColumn, NameLine, Task, Text, calendar_words}
+use Rattle.std.proofs.Common.{◌≡◌, ◌↔◌, ◌∙◌, ◌+◌, ◌-◌, ◌<◌, ◌≤◌, ◌∷◌, ◌++◌, ℕ, List, [], None, Some, ap}
+use Rattle.std.proofs.Common.{arith, get_or, inl, inr, length, length-append, refl, slice_get, sym, subst}
+use Rattle.std.proofs.Common.{Contains, Option}
+use Rattle.sheet_app.proofs.Common.{DateColumn, NameLine, Task, Text, calendar_words}
 use Rattle.std.proofs.lemmas.List.Elements.{Contains-get_or}
-use Rattle.std.proofs.lemmas.Option.{get_or_from_slice_get, slice_get-get_or, slice_get-map, slice_get_within}
+use Rattle.std.proofs.lemmas.Option.{get_or_from_slice_get, none-some, slice_get_within}
+use Rattle.sheets.proofs.TakeLemmas.{appended}
 use Rattle.register_records.specs.Entries.{Fields}
 use Rattle.sheet_arguments.specs.Requests.{CalendarsWanted, all_have, in_columns}
 use Rattle.programs.specs.Values.{IsNumberWord}
@@ -20,17 +21,6 @@ use Rattle.sheet_app.specs.declared.columns.ColumnFault.TheVariants as column_fa
 abbrev pub HoldsOfNoneBefore : (Text → Type 0) → Fields → ℕ → Type 0
 HoldsOfNoneBefore Holds names n = (index : ℕ) → index < n → ¬ Holds (get_or names index [])
 
-none_some : {B : Type 0} (b : B) → None ≡ Some b → ⊥
-none_some b e = cc
-
--- what stands at an index of a list with one more item
-get_more : {B : Type 0} (xs : List B) (y : B) (k : ℕ) (b : B) → slice_get (xs ++ y ∷ []) k ≡ Some b
-    → (slice_get xs k ≡ Some b) ⊎ ((k ≡ length xs) × (y ≡ b))
-get_more [] y zero b is = inr (refl, cc)
-get_more [] y (suc k) b is = absurd (none_some b is)
-get_more (x ∷ xs) y zero b is = inl is
-get_more (x ∷ xs) y (suc k) b is = elim (get_more xs y k b is) [ inl h ↦ inl h | inr h ↦ inr (ap suc h.0, h.1) ]
-
 -- these are the columns of dates at the first indices, so many
 pub record AreFirstDates (lines : List NameLine) (names : Fields) (task : Task) (columns : List DateColumn) (n : ℕ) : Type 0 where
   pub as_many : length columns ≡ n
@@ -42,7 +32,7 @@ pub one_more_date : (lines : List NameLine) (names : Fields) (task : Task) (colu
     → new ≡ columns ++ column ∷ [] → AreFirstDates lines names task new (n + 1)
 one_more_date lines names task columns new n column first is more = record {
   as_many = ap length more ∙ omega (arith, first.as_many, length-append columns (column ∷ []));
-  each = λ index other at. elim (get_more columns column index other (sym (ap (λ l. slice_get l index) more) ∙ at)) [
+  each = λ index other at. elim (appended columns column other index (sym (ap (λ l. slice_get l index) more) ∙ at)) [
     | inl old ↦ first.each index other old
     | inr last ↦
         let here : n ≡ index = sym (last.0 ∙ first.as_many) in
@@ -71,17 +61,10 @@ pub no_column : (names : Fields) (word text bare : Text) (most : ℕ) → text �
 no_column names word text bare most e f many is none bare_none = record {
   no_name = rw e at none;
   no_bare_name = rw f at bare_none;
-  no_number = λ number named. none_some number ((is number).1 (rw many named));
+  no_number = λ number named. none-some number ((is number).1 (rw many named));
 }
 
 -- the column of dates that a word asks for
-pub asked_word : (words : List (Bor Text)) (index : ℕ) (word : Bor Text) → index < length words
-    → word ≡ get_or words index word → slice_get (map (λ (w : Bor Text). w.now) words) index ≡ Some word.now
-asked_word words index word within there =
-    let found : slice_get words index ≡ Some word
-    = slice_get-get_or words index word within ∙ ap (λ (w : Bor Text). Some w) (sym there) in
-    slice_get-map (λ (w : Bor Text). w.now) words index ∙ ap (option_map (λ (w : Bor Text). w.now)) found
-
 pub date_column : (lines : List NameLine) (names : Fields) (task : Task) (index : ℕ) (word : Text) (column : DateColumn)
     → slice_get task.dates index ≡ Some word → IsDateField names task index word column.date
     → IsCalendarField lines names task.calendars index column.calendar → IsDateColumn lines names task index column

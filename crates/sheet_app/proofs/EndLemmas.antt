@@ -71,11 +71,7 @@ module _ {W : Type 0} (o : outputs.Ghosts W) where
       (more, behind_mark sheet _ _ _ _ mark ([], inl refl, nothing o marked written same))
   broken_marked choice sheet given marked written fault.TooManyRecords mark (more, inr gained) =
       (more, behind_mark sheet _ _ _ _ mark (gained.0, inr gained.1, gained.2))
-  broken_marked choice sheet given marked written fault.Unread mark h = absurd h
-  broken_marked choice sheet given marked written fault.Unnamed mark h = absurd h
-  broken_marked choice sheet given marked written fault.NotUtf8 mark h = absurd h
-  broken_marked choice sheet given marked written fault.NoTree mark h = absurd h
-  broken_marked choice sheet given marked written (fault.NoColumn word names) mark h = absurd h
+  broken_marked choice sheet given marked written other mark h = absurd h
 
   -- what was converted by a choice, behind the mark, is what a task asks
   pub asked_done : (task : Task) (lines : List NameLine) (most : ℕ) (sheet : List ℕ) (choice : SheetChoice)

@@ -16,11 +16,6 @@ pub handed : {A E : Type 0} (Q : E → Type 0) (result : Result A E) (fault : E)
 handed Q (Ok a) fault on is = absurd on
 handed Q (Err why) fault on is = subst Q (sym on) is
 
-pub on_err : {A E : Type 0} (P Q : E → Type 0) (result : Result A E) → ((error : E) → P error → Q error) → IfErr result P
-    → IfErr result Q
-on_err P Q (Ok a) follows is = tt
-on_err P Q (Err error) follows is = follows error is
-
 -- it is of more outputs too
 pub of_more : (names more : List Text) (fault : FileFault) → ((name : Text) → Contains names name → Contains more name)
     → IsOfOutputs names fault → IsOfOutputs more fault

@@ -1,8 +1,9 @@
 -- The lines on sheets.
-use Rattle.std.proofs.Common.{◌≡◌, ◌<◌, ◌+◌, ◌∙◌, ◌++◌, ◌∷◌, ℕ, zero, suc, List, [], Bool, Option, Some, None, ap}
+use Rattle.std.proofs.Common.{◌≡◌, ◌<◌, ◌+◌, ◌∙◌, ◌++◌, ◌∷◌, ℕ, zero, suc, List, [], Bool, Some, ap}
 use Rattle.std.proofs.Common.{append_assoc, append-nil, arith, codes, false, get_or, length, map, min, refl, subst, sym}
 use Rattle.std.proofs.Common.{take, true, ◌==◌, Err, IfErr, IfOk, Ok, Result, if◌then◌else◌}
-use Rattle.sheet_app.proofs.Common.{Appends, Text, DateCounts, Task}
+use Rattle.sheet_app.proofs.Common.{Text, DateCounts, Task}
+use Rattle.std.proofs.KnownBytes.{Appends-nil, Appends-trans}
 use Rattle.std.specs.List.{flat_map}
 use Rattle.std.proofs.lemmas.List.{length-map, take_min, take_more}
 use Rattle.std.proofs.lemmas.List.Concat.{flat_map-append}
@@ -56,21 +57,10 @@ shown f dates all n k e same =
     ap (λ i. take i (map f dates)) (e ∙ ap (min n) (sym (length-map dates f))) ∙ take_min n (map f dates)
     ∙ ap (λ xs. take n (map f xs)) same
 
-none_gained : (held : Option (List ℕ)) → Appends held held []
-none_gained None = tt
-none_gained (Some bytes) = sym (append-nil bytes)
-
-pub both_gained : (a b c : Option (List ℕ)) (one other : List ℕ) → Appends a b one → Appends b c other
-    → Appends a c (one ++ other)
-both_gained None b c one other x y = tt
-both_gained (Some xs) None c one other x y = absurd x
-both_gained (Some xs) (Some ys) None one other x y = absurd y
-both_gained (Some xs) (Some ys) (Some zs) one other x y = y ∙ ap (λ l. l ++ other) x ∙ append_assoc xs one other
-
 -- no sheet was reported yet
 pub none_reported : {W E : Type 0} (e : outputs.Ghosts E) (task : Task) (before : E)
     → AreReported {W = W} e task [] before before
-none_reported e task before = record { good = λ good. good; gained = λ all good. none_gained (e.contents before) }
+none_reported e task before = record { good = λ good. good; gained = λ all good. Appends-nil (e.contents before) }
 
 -- one sheet more was
 pub more_reported : {W E : Type 0} (e : outputs.Ghosts E) (task : Task) (sheets new : List (EndedSheet W))
@@ -83,7 +73,7 @@ more_reported e task sheets new sheet before between after more are says = rw mo
       let (first, last) = All-pop (λ (s : EndedSheet _). s.is_reported ≡ true) (sheets ++ sheet ∷ []) sheets (Some sheet)
       refl all in
       rw (flat_map-append (ended_lines task) sheets (sheet ∷ []), append-nil (ended_lines task sheet))
-      (both_gained (e.contents before) (e.contents between) (e.contents after) _ _ (are.gained first (says.good good))
+      (Appends-trans (e.contents before) (e.contents between) (e.contents after) _ _ (are.gained first (says.good good))
       (says.gained last good));
 })
 

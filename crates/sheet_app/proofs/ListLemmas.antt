@@ -3,7 +3,8 @@ use Rattle.std.proofs.Common.{◌≡◌, ◌++◌, ◌∷◌, [], List, All, app
 use Rattle.std.proofs.Common.{ℕ, ap, ap₂, refl, ◌<◌, ◌+◌, Bool, get_or, take, true, ◌==◌}
 use Rattle.sheet_app.proofs.Common.{Bor, AllZip, Text, NameLine, Task, IsNewSheet, ending_of, names_ending, sheet_name}
 use Rattle.std.specs.declared.io.traits.Read as reads
-use Rattle.std.proofs.lemmas.List.{get_or-map, length-map, map-append, take_more}
+use Rattle.std.proofs.lemmas.List.{map-append, map_more, take-map}
+use Rattle.std.proofs.lemmas.Slice.Zip.{all_zipped_more}
 use Rattle.std.proofs.lemmas.List.Elements.{All-cons, All-nil, All-push, All-head, All-tail}
 use Rattle.register_records.specs.declared.outputs.Output as outputs
 use Rattle.sheet_app.specs.EndedSheets.{IsEndedSheet, ended_name}
@@ -24,36 +25,25 @@ pub each_more : {X : Type 0} (P : X → Type 0) (xs new : List X) (x : X) → ne
     → All P new
 each_more P xs new x n each one = subst (All P) (sym n) (All-push P xs x each one)
 
--- what holds of each item that is left holds of the first, and of the others
+-- what holds of each item that is left holds of the first
 pub first_of_left : {X : Type 0} (P : X → Type 0) (left rest : List X) (x : X) → left ≡ x ∷ rest → All P left → P x
 first_of_left P left rest x l each = All-head P x rest (subst (All P) l each)
 
-pub others_left : {X : Type 0} (P : X → Type 0) (left rest : List X) (x : X) → left ≡ x ∷ rest → All P left → All P rest
-others_left P left rest x l each = All-tail P x rest (subst (All P) l each)
-
 -- with one item more, and its end
-pub zip_pushed : {X Y : Type 0} (R : X → Y → Type 0) (xs : List X) (ys : List Y) (x : X) (y : Y) → AllZip R xs ys → R x y
-    → AllZip R (xs ++ x ∷ []) (ys ++ y ∷ [])
-zip_pushed R [] [] x y zip one = (one, tt)
-zip_pushed R [] (b ∷ ys) x y zip one = absurd zip
-zip_pushed R (a ∷ xs) [] x y zip one = absurd zip
-zip_pushed R (a ∷ xs) (b ∷ ys) x y zip one = (zip.0, zip_pushed R xs ys x y zip.1 one)
-
 pub zip_more : {X Y : Type 0} (R : X → Y → Type 0) (all xs left rest : List X) (ys new : List Y) (x : X) (y : Y)
     → new ≡ ys ++ y ∷ [] → left ≡ x ∷ rest → xs ++ left ≡ all → AllZip R xs ys → R x y
     → (taken : List X) × (taken ++ rest ≡ all) × AllZip R taken new
 zip_more R all xs left rest ys new x y n s e zip one =
-    (xs ++ x ∷ [], rw append_assoc (rw s at e), rw n (zip_pushed R xs ys x y zip one))
+    (xs ++ x ∷ [], rw append_assoc (rw s at e), rw n (all_zipped_more R xs ys x y zip one))
 
 -- the sheets that were made have ended
 pub ends_named : {R W : Type 0} (r : reads.Ghosts R) (o : outputs.Ghosts W) (IsNamed : Text → Type 0) (task : Task)
     (lines : List NameLine) (sheets : List (FileSheet R W)) (ended : List (EndedSheet W))
     → AllZip (IsEndOf r o IsNamed task lines) sheets ended → map ended_name ended ≡ map sheet_name sheets
 ends_named r o IsNamed task lines [] [] zip = refl
-ends_named r o IsNamed task lines [] (end ∷ ended) zip = absurd zip
-ends_named r o IsNamed task lines (sheet ∷ sheets) [] zip = absurd zip
 ends_named r o IsNamed task lines (sheet ∷ sheets) (end ∷ ended) zip =
     ap₂ (λ (n : Text) (ns : List Text). n ∷ ns) zip.0.named (ends_named r o IsNamed task lines sheets ended zip.1)
+ends_named r o IsNamed task lines sheets ended zip = absurd zip
 
 pub ends_all : {R W : Type 0} (r : reads.Ghosts R) (o : outputs.Ghosts W) (IsOpened : Text → R → Type 0)
     (IsMade : Text → ℕ → W → Type 0) (IsNamed : Text → Type 0) (task : Task) (lines : List NameLine)
@@ -62,8 +52,6 @@ pub ends_all : {R W : Type 0} (r : reads.Ghosts R) (o : outputs.Ghosts W) (IsOpe
     → AllZip (IsEndOf r o IsNamed task lines) sheets ended
     → All (IsEndedSheet r o IsOpened IsMade IsNamed task lines) ended
 ends_all r o IsOpened IsMade IsNamed task lines [] [] new zip = All-nil (IsEndedSheet r o IsOpened IsMade IsNamed task lines)
-ends_all r o IsOpened IsMade IsNamed task lines [] (end ∷ ended) new zip = absurd zip
-ends_all r o IsOpened IsMade IsNamed task lines (sheet ∷ sheets) [] new zip = absurd zip
 ends_all r o IsOpened IsMade IsNamed task lines (sheet ∷ sheets) (end ∷ ended) new zip =
     let New = IsNewSheet o IsOpened IsMade task (register_endings task) in
     let one = All-head New sheet sheets new in
@@ -79,6 +67,7 @@ ends_all r o IsOpened IsMade IsNamed task lines (sheet ∷ sheets) (end ∷ ende
       names = λ all. subst (All IsNamed) (one.places ∙ ap (λ (file : Text). names_ending (ending_of task) (λ ending. ending)
           (register_endings task) file) (sym name)) (zip.0.names all);
     }) (ends_all r o IsOpened IsMade IsNamed task lines sheets ended (All-tail New sheet sheets new) zip.1)
+ends_all r o IsOpened IsMade IsNamed task lines sheets ended new zip = absurd zip
 
 -- one more, of the name at its index
 pub named_more : {X : Type 0} (f : X → Text) (names : List (Bor Text)) (done new : List X) (one : X) (i : ℕ) (d : Bor Text)
@@ -86,10 +75,8 @@ pub named_more : {X : Type 0} (f : X → Text) (names : List (Bor Text)) (done n
     → map f done ≡ take i (map (λ (n : Bor Text). n.now) names)
     → map f new ≡ take (i + 1) (map (λ (n : Bor Text). n.now) names)
 named_more f names done new one i d n s within e =
-    let texts : List Text = map (λ (m : Bor Text). m.now) names in
-    let long : i < length texts = simp length-map within in
-    let next : get_or texts i [] ≡ (get_or names i d).now = get_or-map (λ (m : Bor Text). m.now) names i d [] within in
-    rw (n, map-append, e, s, take_more texts i [] long, next) refl
+    let text : Bor Text → Text = λ n. n.now in
+    rw (n, map-append, e, s, take-map text i names, take-map text (i + 1) names, map_more text names i d within) refl
 
 -- there are no names exactly where nothing is named
 is_none : (n : ℕ) (b : Bool) → b ≡ (n == 0) → b ≡ true → n ≡ 0

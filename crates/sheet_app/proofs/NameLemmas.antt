@@ -6,6 +6,7 @@ use Rattle.sheet_app.proofs.Common.{string_bytes, place_name, names_ending}
 use Rattle.std.proofs.lemmas.List.{flat_map_more, map-append, take_all, take_more}
 use Rattle.std.proofs.lemmas.List.Elements.{All-append, All-push}
 use Rattle.std.proofs.lemmas.List.Quantifiers.{all_pairs_push}
+use Rattle.std.proofs.lemmas.Simd.{map-map}
 use Rattle.programs.specs.Openings.{IsNewlyMade}
 use Rattle.programs.specs.declared.places.Place.{Place}
 use Rattle.register_records.specs.declared.outputs.Output as outputs
@@ -34,8 +35,7 @@ all_lists P f xs i end each = subst (λ (ys : List _). All P (flat_map f ys)) (t
 -- names by things that have endings are names by these endings
 same_endings : {X : Type 0} (file : List ℕ) (text : X → List ℕ) (others : List X)
     → map (λ ending. file ++ text ending) others ≡ map (λ ending. file ++ ending) (map text others)
-same_endings file text [] = refl
-same_endings file text (x ∷ xs) = ap (λ (rest : List (List ℕ)). (file ++ text x) ∷ rest) (same_endings file text xs)
+same_endings file text others = sym (map-map (λ (ending : List ℕ). file ++ ending) text others)
 
 -- the names of the places of a sheet, its own and those of its registers
 pub all_placed : (before now new : List (List ℕ)) (file own : List ℕ) (endings : List (String Global)) → before ≡ []

@@ -21,10 +21,7 @@ pub of_one : (lines : List NameLine) (words : List Text) (word : Text) (why : Pr
 of_one lines words word (program_fault.UnknownCalendar w) within is =
     (subst (Contains words) (is_only word w.now is.0) within, is.1)
 of_one lines words word program_fault.OutOfMemory within is = tt
-of_one lines words word (program_fault.Arguments error) within is = absurd is
-of_one lines words word (program_fault.Files fault) within is = absurd is
-of_one lines words word (program_fault.UnreadList file) within is = absurd is
-of_one lines words word (program_fault.NoList file fault) within is = absurd is
+of_one lines words word other within is = absurd is
 
 module _ {R : Type 0} (r : reads.Ghosts R) (IsOpened : Text → R → Type 0) (task : Task) (built : List ℕ) where
   -- a task that is not begun for one of its files
@@ -32,9 +29,7 @@ module _ {R : Type 0} (r : reads.Ghosts R) (IsOpened : Text → R → Type 0) (t
   of_task (program_fault.UnknownCalendar word) is = absurd is
   of_task program_fault.OutOfMemory is = tt
   of_task (program_fault.Arguments error) is = absurd is
-  of_task (program_fault.Files fault) is = is
-  of_task (program_fault.UnreadList file) is = is
-  of_task (program_fault.NoList file fault) is = is
+  of_task why is = is
 
   -- and for one of its words
   pub of_words : (lines : List NameLine) (why : ProgramFault) → AreNamesOf r IsOpened task built lines
@@ -42,10 +37,7 @@ module _ {R : Type 0} (r : reads.Ghosts R) (IsOpened : Text → R → Type 0) (t
   of_words lines (program_fault.UnknownCalendar word) named is =
       record { lines = lines; named = named; among = is.0; unknown = is.1 }
   of_words lines program_fault.OutOfMemory named is = tt
-  of_words lines (program_fault.Arguments error) named is = absurd is
-  of_words lines (program_fault.Files fault) named is = absurd is
-  of_words lines (program_fault.UnreadList file) named is = absurd is
-  of_words lines (program_fault.NoList file fault) named is = absurd is
+  of_words lines other named is = absurd is
 
   three : {A : Type 0} (status : ℕ) → (status ≡ 3) ⊎ (status ≡ 3)
       → (2 ≤ status) × (status ≤ 3) × (status ≡ 2 → A)
@@ -60,17 +52,12 @@ module _ {R : Type 0} (r : reads.Ghosts R) (IsOpened : Text → R → Type 0) (t
   gives_three (program_fault.UnknownCalendar word) status is either =
       (grind (arith, either), grind (arith, either), λ two. (word.now, is))
   gives_three (program_fault.Arguments error) status is either = absurd is
-  gives_three (program_fault.Files fault) status is either = three status either
-  gives_three (program_fault.UnreadList file) status is either = three status either
-  gives_three (program_fault.NoList file fault) status is either = three status either
-  gives_three program_fault.OutOfMemory status is either = three status either
+  gives_three why status is either = three status either
 
   -- and it is the one that arguments ask for
   pub of_asked : (arguments : List Text) (why : ProgramFault) → MeanJust arguments (work task)
       → IsFaultOfStart r IsOpened task built why → IsFaultOfAsked arguments why
   of_asked arguments (program_fault.UnknownCalendar word) just is = (task, just, is.among)
   of_asked arguments (program_fault.Arguments error) just is = absurd is
-  of_asked arguments (program_fault.Files fault) just is = (task, just, is)
-  of_asked arguments (program_fault.UnreadList file) just is = (task, just, is)
-  of_asked arguments (program_fault.NoList file fault) just is = (task, just, is)
   of_asked arguments program_fault.OutOfMemory just is = tt
+  of_asked arguments why just is = (task, just, is)

@@ -1,5 +1,5 @@
 -- What arguments ask for is a choice.
-use Rattle.std.proofs.Common.{◌≡◌, ◌≤◌, ◌+◌, ◌*◌, ◌∙◌, ◌⊎◌, ◌++◌, ◌∷◌, ℕ, suc, Bool, List, [], Option, None, Some}
+use Rattle.std.proofs.Common.{◌≡◌, ◌≤◌, ◌+◌, ◌*◌, ◌∙◌, ◌++◌, ◌∷◌, ℕ, suc, Bool, List, [], Option, None, Some}
 use Rattle.std.proofs.Common.{Result, Ok, Err, ap, arith, false, get_or, inl, inr, length, length-append, map, refl}
 use Rattle.std.proofs.Common.{subst, sym, true, ap₂, ◌==◌, codes, count_by, if◌then◌else◌, nat_lt, unwrap_or}
 use Rattle.sheet_app.proofs.Common.{Bor, Text, DateColumn, NameLine, Task}
@@ -7,6 +7,7 @@ use Rattle.std.specs.Cmp.{IsEquivalence}
 use Rattle.std.specs.List.{AllByRecursion, IsDistinct, flat_map, list_any}
 use Rattle.std.specs.Set.{is_member}
 use Rattle.std.specs.Str.{bytes_eq}
+use Rattle.std.proofs.lemmas.Bool.{cases_Bool}
 use Rattle.std.proofs.lemmas.Cmp.{nat_list_eq_equiv}
 use Rattle.std.proofs.lemmas.List.{length-map}
 use Rattle.std.proofs.lemmas.List.Sums.{sum_by-cons}
@@ -53,17 +54,14 @@ alike_equiv = record {
 abbrev target_alike : Target → Target → Bool
 target_alike a b = bytes_eq (target_name a) (target_name b)
 
-no_value : {B : Type 0} (fault : Fault) (b : B) → Err fault ≡ Ok b → ⊥
-no_value fault b e = cc
-
 found_next : {A B : Type 0} (fault : Fault) (found : Option A) (next : A → Result B Fault) (b : B)
     → or_fault fault found next ≡ Ok b → (a : A) × (next a ≡ Ok b)
-found_next fault None next b is = absurd (no_value fault b is)
+found_next fault None next b is = absurd (cc)
 found_next fault (Some a) next b is = (a, is)
 
 new_next : {B : Type 0} (among : Bool) (fault : Fault) (next : Result B Fault) (b : B)
     → (if among then Err fault else next) ≡ Ok b → (among ≡ false) × (next ≡ Ok b)
-new_next true fault next b is = absurd (no_value fault b is)
+new_next true fault next b is = absurd (cc)
 new_next false fault next b is = (refl, is)
 
 among_alike : (column : AskedColumn) (columns : List AskedColumn)
@@ -99,24 +97,8 @@ asked_distinct (Some list) all is = distinct [] (names_in list) all none_distinc
 
 -- each column is one of those that there are
 member : (column : AskedColumn) → is_member alike all_columns column ≡ true
-member DayNumber = refl
-member Weekday = refl
-member Church = refl
 member (Cells (target.Date calendar.Gregorian)) = refl
-member (Cells (target.Date calendar.Iso)) = refl
-member (Cells (target.Date calendar.Julian)) = refl
-member (Cells (target.Date calendar.Coptic)) = refl
-member (Cells (target.Date calendar.Ethiopic)) = refl
-member (Cells (target.Date calendar.Egyptian)) = refl
-member (Cells (target.Date calendar.Armenian)) = refl
-member (Cells (target.Date calendar.Islamic)) = refl
-member (Cells (target.Date calendar.Hebrew)) = refl
-member (Cells (target.Date calendar.Longcount)) = refl
-member (Cells (target.Date calendar.French)) = refl
-member (Cells (target.Date calendar.Roman)) = refl
-member (Cells (target.Date calendar.Republican)) = refl
-member (Cells target.Haab) = refl
-member (Cells target.Tzolkin) = refl
+member column = refl
 
 few : (all : List AskedColumn) → IsDistinct alike all → nat_lt column_limit (length all) ≡ false
 few all so =
@@ -126,10 +108,6 @@ few all so =
 not_both : (b c : Bool) → c ≡ false → (b ≡ true → c ≡ true) → b ≡ false
 not_both true c isnt same = absurd (let holds = same refl in cc)
 not_both false c isnt same = refl
-
-told : (b : Bool) → (b ≡ true) ⊎ (b ≡ false)
-told true = inl refl
-told false = inr refl
 
 -- of columns that are alike there is at most one
 no_other : (p : AskedColumn → Bool) (column : AskedColumn) (columns : List AskedColumn)
@@ -160,7 +138,7 @@ unfolding IsDistinct
 at_most_one p only [] is_only so = omega arith
 at_most_one p only (column ∷ columns) is_only so =
     let rest = at_most_one p only columns is_only so.1 in
-    elim (told (p column)) [
+    elim (cases_Bool (p column)) [
       | inl holds ↦
           one_counted p column columns holds (no_other p column columns
           (λ other is. rw (is_only column holds, is_only other is) (alike_equiv.refl only)) so.0)
@@ -169,21 +147,15 @@ at_most_one p only (column ∷ columns) is_only so =
 
 only_day : (column : AskedColumn) → is_day_number column ≡ true → column ≡ DayNumber
 only_day DayNumber is = refl
-only_day Weekday is = absurd (cc)
-only_day Church is = absurd (cc)
-only_day (Cells target) is = absurd (cc)
+only_day column is = absurd (cc)
 
 only_weekday : (column : AskedColumn) → is_weekday column ≡ true → column ≡ Weekday
 only_weekday Weekday is = refl
-only_weekday DayNumber is = absurd (cc)
-only_weekday Church is = absurd (cc)
-only_weekday (Cells target) is = absurd (cc)
+only_weekday column is = absurd (cc)
 
 only_church : (column : AskedColumn) → is_church column ≡ true → column ≡ Church
 only_church Church is = refl
-only_church DayNumber is = absurd (cc)
-only_church Weekday is = absurd (cc)
-only_church (Cells target) is = absurd (cc)
+only_church column is = absurd (cc)
 
 asked_once : (all : List AskedColumn) → IsDistinct alike all → asks_twice all ≡ false
 asked_once all so =
@@ -196,19 +168,15 @@ other_targets : (one : Target) (columns : List AskedColumn)
     → AllByRecursion (λ other. alike (Cells one) other ≡ false) columns
     → AllByRecursion (λ other. target_alike one other ≡ false) (asked_targets columns)
 other_targets one [] apart = tt
-other_targets one (DayNumber ∷ columns) (first, apart) = other_targets one columns apart
-other_targets one (Weekday ∷ columns) (first, apart) = other_targets one columns apart
-other_targets one (Church ∷ columns) (first, apart) = other_targets one columns apart
 other_targets one (Cells other ∷ columns) (first, apart) = (first, other_targets one columns apart)
+other_targets one (column ∷ columns) (first, apart) = other_targets one columns apart
 
 targets_distinct : (columns : List AskedColumn) → IsDistinct alike columns
     → IsDistinct target_alike (asked_targets columns)
 unfolding IsDistinct
 targets_distinct [] so = tt
-targets_distinct (DayNumber ∷ columns) so = targets_distinct columns so.1
-targets_distinct (Weekday ∷ columns) so = targets_distinct columns so.1
-targets_distinct (Church ∷ columns) so = targets_distinct columns so.1
 targets_distinct (Cells one ∷ columns) so = (other_targets one columns so.0, targets_distinct columns so.1)
+targets_distinct (column ∷ columns) so = targets_distinct columns so.1
 
 none_twice : (targets : List Target) → IsDistinct target_alike targets → ¬ (NamesTwice targets)
 none_twice targets so (i, j, before, within, same) =
@@ -227,10 +195,9 @@ once task choice is same =
 -- there are as many headings as are wanted
 headings_long : (taken wanted headings : Fields) → AreHeadings taken wanted headings → length headings ≡ length wanted
 headings_long taken [] [] are = refl
-headings_long taken [] (heading ∷ headings) are = absurd are
-headings_long taken (name ∷ wanted) [] are = absurd are
 headings_long taken (name ∷ wanted) (heading ∷ headings) are =
     ap suc (headings_long (taken ++ heading ∷ []) wanted headings are.1)
+headings_long taken wanted headings are = absurd are
 
 both_ends : (columns : List AskedColumn)
     → length (map (asked_behind (codes "first")) columns ++ map (asked_behind (codes "last")) columns)
@@ -243,8 +210,7 @@ both_ends columns =
 columns_long : (kind : Spans) (columns : List AskedColumn)
     → length (column_names kind columns) + length (mark_names kind) + 1 ≡ added_each kind (length columns)
 columns_long spans.Unread columns = let same = length-map columns asked_name in omega (arith, same)
-columns_long spans.Ends columns = let same = both_ends columns in omega (arith, same)
-columns_long spans.EndsAndEdtf columns = let same = both_ends columns in omega (arith, same)
+columns_long kind columns = let same = both_ends columns in omega (arith, same)
 
 names_long : (kind : Spans) (columns : List AskedColumn)
     → length (asked_names kind columns) ≡ added_each kind (length columns)

@@ -16,8 +16,8 @@ use Rattle.date_texts.specs.Trimmed.{trimmed}
 use Rattle.date_texts.specs.declared.date.Date.{Date}
 use Rattle.date_texts.specs.declared.refusal.Refusal.TheVariants as refusal
 use Rattle.register_records.specs.Entries.{Texts, are_short, are_utf8}
-use Rattle.register_records.specs.Outcomes.{IsOutcome, IsRowOf, Says, accepted, no_date_text, no_such_date}
-use Rattle.register_records.specs.Outcomes.{out_of_range, refused, unknown_calendar}
+use Rattle.register_records.specs.Outcomes.{IsOutcome, IsRowOf, Says, accepted}
+use Rattle.register_records.specs.Outcomes.{refused}
 use Rattle.written_dates.specs.Fields.{or_field}
 use Rattle.written_dates.specs.declared.fields.CalendarMeaning.TheVariants.{One}
 use Rattle.written_dates.specs.declared.fields.CalendarNames.{CalendarNames}
@@ -36,21 +36,16 @@ SaysOne t = (calendar : Calendar) × (date : Date) × Says t.calendar t.date cal
 
 says_one : (body : Result Texts Refusal) (outcome : Result ℤ Refusal) → IsOutcome body outcome → is_ok outcome ≡ true
     → (t : Texts) → body ≡ Ok t → SaysOne t
-says_one body outcome refused ok t is = absurd (cc)
-says_one body outcome (unknown_calendar none) ok t is = absurd (cc)
-says_one body outcome (no_date_text c named none) ok t is = absurd (cc)
-says_one body outcome (no_such_date c d says none) ok t is = absurd (cc)
-says_one body outcome (out_of_range c d says is_date none) ok t is = absurd (cc)
 says_one (Ok u) outcome (accepted c d says is_date in_range) ok t is =
     let same : u ≡ t = cc in (c, d, subst (λ (v : Texts). Says v.calendar v.date c d) same says)
+says_one body outcome other ok t is = absurd (cc)
 
 -- they are UTF-8
 body_ok : (short utf8 : Bool) (t : Texts) (outcome : Result ℤ Refusal)
     → IsOutcome (cond short (cond utf8 (Ok t) (Err refusal.NotUtf8)) (Err refusal.FieldTooLong)) outcome
     → is_ok outcome ≡ true → (utf8 ≡ true) × SaysOne t
 body_ok true true t outcome h ok = (refl, says_one (Ok t) outcome h ok t refl)
-body_ok true false t outcome refused ok = absurd (cc)
-body_ok false utf8 t outcome refused ok = absurd (cc)
+body_ok short utf8 t outcome refused ok = absurd (cc)
 
 -- the calendar that a text of a register names has the name
 named_call : (test : Calendar → Bool) (text : List ℕ) (cs : List Calendar) (c : Calendar)
@@ -127,8 +122,7 @@ for_meaning one choice column fields (Some meaning) calendar text c date named u
 and_third : (a b c d : Bool) → (((a && b) && c) && d) ≡ true → c ≡ true
 and_third a b true d e = refl
 and_third true true false d e = absurd (cc)
-and_third true false false d e = absurd (cc)
-and_third false b false d e = absurd (cc)
+and_third a b false d e = absurd (cc)
 
 -- the date of a record whose first row was accepted
 pub accepted_date : (one : OneCalendar) (choice : SheetChoice) (column : DateColumn) (number : ℕ) (fields : Fields)

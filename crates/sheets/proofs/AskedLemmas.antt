@@ -4,16 +4,15 @@ use Rattle.std.proofs.Common.{append-nil, append_assoc, arith, drop, drop-cons, 
 use Rattle.std.proofs.Common.{codes, map, suc, true, zero, option_to_list}
 use Rattle.sheets.proofs.Common.{flat_map, Fields, asked_targets, AskedColumn, DayNumber}
 use Rattle.std.specs.List.{list_all}
-use Rattle.std.proofs.lemmas.List.{take_more, take_more_set}
-use Rattle.std.proofs.lemmas.List.Concat.{flat_map-append}
+use Rattle.std.proofs.lemmas.List.{drop-drop, flat_map_more, take_more, take_more_set}
 use Rattle.register_records.specs.Columns.{Column, cell_columns, kind_columns, tail_order}
 use Rattle.register_records.specs.Outcomes.{TableRow}
 use Rattle.date_texts.specs.declared.target.Target.{Target}
 use Rattle.sheets.specs.private.AskedViews.{day_columns, has_cells}
 use Rattle.sheets.specs.Choices.{target_in}
 use Rattle.sheets.specs.Converted.{asked_fields, asked_text, asked_texts, cells_taken, shown_in}
-use Rattle.sheets.specs.declared.choices.AskedColumn.TheVariants.{Cells, Church, Weekday}
-use Rattle.sheets.proofs.RowLemmas.{drop_both, same_head}
+use Rattle.sheets.specs.declared.choices.AskedColumn.TheVariants.{Cells, Weekday}
+use Rattle.sheets.proofs.RowLemmas.{same_head}
 
 pub asked_step : (columns : List AskedColumn) (i : ℕ) (d : AskedColumn) (row : TableRow) (cells : List (List ℕ))
     (taken more : ℕ) (made all : Fields) → i < length columns → more ≡ cells_taken (get_or columns i d)
@@ -24,15 +23,14 @@ asked_step columns i d row cells taken more made all lt is e =
     let column = get_or columns i d in
     append_assoc made (asked_text column row (drop taken cells) ∷ []) _
     ∙ ap (λ rest. made ++ asked_text column row (drop taken cells) ∷ asked_texts (drop (i + 1) columns) row rest)
-    (sym (drop_both taken more (taken + more) cells refl) ∙ ap (λ n. drop n (drop taken cells)) is)
+    (sym (drop-drop more taken cells) ∙ ap (λ n. drop n (drop taken cells)) is)
     ∙ ap (λ rest. made ++ asked_texts rest row (drop taken cells))
     (sym (drop-cons columns i d lt ∙ ap (λ j. column ∷ drop j columns) (sym (add-one i)))) ∙ e
 
 targets_more : (columns : List AskedColumn) (i : ℕ) (d : AskedColumn) → i < length columns
     → asked_targets (take (i + 1) columns) ≡ asked_targets (take i columns) ++ target_in (get_or columns i d)
 targets_more columns i d lt =
-    ap asked_targets (take_more columns i d lt) ∙ flat_map-append target_in (take i columns) (get_or columns i d ∷ [])
-    ∙ ap (λ ts. asked_targets (take i columns) ++ ts) (append-nil (target_in (get_or columns i d)))
+    ap asked_targets (take_more columns i d lt) ∙ sym (flat_map_more target_in [] (take i columns) (get_or columns i d))
 
 pub target_taken : (columns : List AskedColumn) (i : ℕ) (d : AskedColumn) (o : Option Target) (t : Target) (ts : List Target)
     (count : ℕ) → i < length columns → count < length ts → option_to_list o ≡ target_in (get_or columns i d) → o ≡ Some t
@@ -68,14 +66,11 @@ cells_shown [] [] row place all same = refl
 cells_shown (Cells t ∷ columns) (u ∷ ts) row place all same =
     ap (λ (rest : Fields). get_or (drop place row.cells) 0 [] ∷ rest)
     (ap (λ (cells : List (List ℕ)). asked_texts columns row cells ++ shown_in (codes "refusal") row ∷ [])
-    (drop_both place 1 (place + 1) row.cells refl) ∙ cells_shown columns ts row (place + 1) all (omega arith))
+    (drop-drop 1 place row.cells) ∙ cells_shown columns ts row (place + 1) all (omega arith))
     ∙ ap (λ (text : List ℕ). text ∷ map (λ (c : Column). c.field row) (cell_columns (place + 1) ts ++ behind_cells))
     (same_head place row.cells [])
-cells_shown (column ∷ columns) [] row place all same = absurd (omega arith)
-cells_shown [] (u ∷ ts) row place all same = absurd (omega arith)
-cells_shown (DayNumber ∷ columns) (u ∷ ts) row place all same = absurd (cc)
-cells_shown (Weekday ∷ columns) (u ∷ ts) row place all same = absurd (cc)
-cells_shown (Church ∷ columns) (u ∷ ts) row place all same = absurd (cc)
+cells_shown (column ∷ columns) (u ∷ ts) row place all same = absurd (cc)
+cells_shown columns ts row place all same = absurd (omega arith)
 
 pub asked_of_tail : (columns others : List AskedColumn) (passed targets : ℕ) → passed ≤ 2
     → columns ≡ drop passed day_columns ++ others → length others ≡ targets → list_all has_cells others ≡ true

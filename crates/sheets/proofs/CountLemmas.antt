@@ -1,13 +1,13 @@
 -- Dates that were refused or are empty are counted record by record.
-use Rattle.std.proofs.Common.{◌≡◌, ◌≤◌, ◌<◌, ◌∙◌, ◌+◌, ◌++◌, ℕ, zero, suc, List, [], ◌∷◌, Option, None, Some, Bool}
-use Rattle.std.proofs.Common.{true, false, ap, append-nil, arith, cond, count_by, get_or, get_or-set_other}
-use Rattle.std.proofs.Common.{get_or-set_same, inl, inr, length, length-append, map, refl, replicate, set, sym}
+use Rattle.std.proofs.Common.{◌≡◌, ◌≤◌, ◌<◌, ◌∙◌, ◌+◌, ◌++◌, ℕ, zero, suc, List, [], ◌∷◌, Option, Some, Bool}
+use Rattle.std.proofs.Common.{true, false, ap, arith, cond, count_by, get_or, get_or-set_other}
+use Rattle.std.proofs.Common.{get_or-set_same, inl, inr, length, length-append, refl, replicate, set, sym}
 use Rattle.std.proofs.Common.{if◌then◌else◌, slice_get}
 use Rattle.sheets.proofs.Common.{flat_map, Refusal, Fields, Dated, CountsDates, AreSheetCounts, no_counts}
 use Rattle.sheets.proofs.Common.{DateColumn}
 use Rattle.std.specs.List.{zip}
 use Rattle.std.proofs.lemmas.Bool.Decides.{eqb_tells}
-use Rattle.std.proofs.lemmas.List.Concat.{flat_map-append}
+use Rattle.std.proofs.lemmas.List.{flat_map_more}
 use Rattle.std.proofs.lemmas.List.Sums.{count_by-le-length, sum_by-append}
 use Rattle.date_texts.specs.declared.refusal.Refusal.TheVariants as refusals
 use Rattle.register_records.specs.RefusalCounts.{count_of}
@@ -17,18 +17,10 @@ use Rattle.sheets.specs.DateCounts.{is_empty, is_refused, is_refused_with, is_sp
 use Rattle.sheets.specs.declared.date_counts.DateCounts.{DateCounts}
 use Rattle.sheets.specs.declared.date_counts.SheetCounts.{SheetCounts}
 
-pub none_more : (counts : DateCounts) → CountsDates [] counts counts
-none_more counts = record { refused = omega arith; reasons = λ refusal. omega arith; empty = omega arith; spans = omega arith }
-
 -- each has no count yet
 none_refused : (refusal : Refusal) → count_of no_counts.refused_with refusal ≡ 0
 none_refused refusals.FieldCount = refl
-none_refused refusals.FieldTooLong = refl
-none_refused refusals.NotUtf8 = refl
-none_refused refusals.UnknownCalendar = refl
-none_refused refusals.DateText = refl
-none_refused refusals.NoSuchDate = refl
-none_refused refusals.OutOfRange = refl
+none_refused refusal = refl
 
 pub none_at : (counts : DateCounts) (n i : ℕ) → AreDateCounts [] counts
     → AreDateCounts [] (get_or (replicate n counts) i no_counts)
@@ -44,16 +36,14 @@ zip_more : {X Y : Type 0} (xs : List X) (ys : List Y) (x : X) (y : Y) → length
     → zip (xs ++ x ∷ []) (ys ++ y ∷ []) ≡ zip xs ys ++ (x, y) ∷ []
 zip_more [] [] x y e = refl
 zip_more (a ∷ xs) (b ∷ ys) x y e = ap (λ rest. (a, b) ∷ rest) (zip_more xs ys x y (omega arith))
-zip_more [] (b ∷ ys) x y e = absurd (omega arith)
-zip_more (a ∷ xs) [] x y e = absurd (omega arith)
+zip_more xs ys x y e = absurd (omega arith)
 
 dates_more : (columns : List DateColumn) (place : ℕ) (done : List Fields) (rows : List (List Dated)) (fields : Fields)
     (one : List Dated) → length done ≡ length rows → dates_at columns place (done ++ fields ∷ []) (rows ++ one ∷ [])
     ≡ dates_at columns place done rows ++ date_at columns place fields one
 dates_more columns place done rows fields one e =
     let f : Fields × List Dated → List DateRow = λ r. date_at columns place r.0 r.1 in
-    ap (flat_map f) (zip_more done rows fields one e) ∙ flat_map-append f (zip done rows) ((fields, one) ∷ [])
-    ∙ ap (λ dates. dates_at columns place done rows ++ dates) (append-nil (date_at columns place fields one))
+    ap (flat_map f) (zip_more done rows fields one e) ∙ sym (flat_map_more f [] (zip done rows) (fields, one))
 
 pub counts_more : (columns : List DateColumn) (done : List Fields) (rows : List (List Dated)) (fields : Fields)
     (one : List Dated) (old new : SheetCounts) → length done ≡ length rows → AreSheetCounts columns done rows old
@@ -65,25 +55,15 @@ counts_more columns done rows fields one old new same all more =
           let then_ = more.dates place low in
           let xs = dates_at columns place done rows in
           let ys = date_at columns place fields one in
-          let next = dates_more columns place done rows fields one same in
+          let next : (p : DateRow → Bool) → count_by p (dates_at columns place (done ++ fields ∷ []) (rows ++ one ∷ []))
+          ≡ count_by p xs + count_by p ys
+          = λ p. ap (count_by p) (dates_more columns place done rows fields one same) ∙ both p xs ys in
           record {
-            refused = omega (
-              arith,
-              then_.refused,
-              before.refused,
-              both is_refused xs ys,
-              ap (count_by is_refused) next,
-            );
+            refused = omega (arith, then_.refused, before.refused, next is_refused);
             reasons = λ refusal.
-                omega (
-                  arith,
-                  then_.reasons refusal,
-                  before.reasons refusal,
-                  both (is_refused_with refusal) xs ys,
-                  ap (count_by (is_refused_with refusal)) next,
-                );
-            empty = omega (arith, then_.empty, before.empty, both is_empty xs ys, ap (count_by is_empty) next);
-            spans = omega (arith, then_.spans, before.spans, both is_span xs ys, ap (count_by is_span) next);
+                omega (arith, then_.reasons refusal, before.reasons refusal, next (is_refused_with refusal));
+            empty = omega (arith, then_.empty, before.empty, next is_empty);
+            spans = omega (arith, then_.spans, before.spans, next is_span);
           };
       blank = omega (arith, more.blank, all.blank, both is_blank_record done (fields ∷ []));
     }
@@ -95,8 +75,7 @@ if_few false dates few = few
 
 of_few : (fields : Fields) (column : Option DateColumn) (row : Option Dated) → length (date_of fields column row) ≤ 1
 of_few fields (Some column) (Some row) = omega arith
-of_few fields (Some column) None = omega arith
-of_few fields None row = omega arith
+of_few fields column row = omega arith
 
 dates_few : (columns : List DateColumn) (place : ℕ) (records : List Fields) (rows : List (List Dated))
     → length (dates_at columns place records rows) ≤ length records
@@ -118,31 +97,19 @@ up_to columns records rows counts limit all few =
       dates = λ place low.
           let of_column = all.dates place low in
           let dates = dates_at columns place records rows in
-          let many = dates_few columns place records rows in
+          let most : (p : DateRow → Bool) → count_by p dates ≤ limit
+          = λ p. omega (arith, count_by-le-length p dates, dates_few columns place records rows, few) in
           record {
-            refused = omega (arith, of_column.refused, count_by-le-length is_refused dates, many, few);
-            reasons = λ refusal.
-                omega (arith, of_column.reasons refusal, count_by-le-length (is_refused_with refusal) dates, many, few);
-            empty = omega (arith, of_column.empty, count_by-le-length is_empty dates, many, few);
-            spans = omega (arith, of_column.spans, count_by-le-length is_span dates, many, few);
+            refused = omega (arith, of_column.refused, most is_refused);
+            reasons = λ refusal. omega (arith, of_column.reasons refusal, most (is_refused_with refusal));
+            empty = omega (arith, of_column.empty, most is_empty);
+            spans = omega (arith, of_column.spans, most is_span);
           };
       blank = omega (arith, all.blank, count_by-le-length is_blank_record records, few);
     }
 
--- where an element stands, and what is made of it
-pub slot_of : {X : Type 0} (xs : List X) (i : ℕ) (d : X) → i < length xs → slice_get xs i ≡ Some (get_or xs i d)
-slot_of [] i d low = absurd (omega arith)
-slot_of (x ∷ xs) zero d low = refl
-slot_of (x ∷ xs) (suc i) d low = slot_of xs i d (omega arith)
-
 pub one_found : {X : Type 0} (found : Option X) (x y : X) → found ≡ Some x → found ≡ Some y → x ≡ y
 one_found found x y a b = cc
-
-pub seen_slot : {X Y : Type 0} (f : X → Y) (xs : List X) (i : ℕ) (d : X) → i < length xs
-    → slice_get (map f xs) i ≡ Some (f (get_or xs i d))
-seen_slot f [] i d low = absurd (omega arith)
-seen_slot f (x ∷ xs) zero d low = refl
-seen_slot f (x ∷ xs) (suc i) d low = seen_slot f xs i d (omega arith)
 
 -- the date at one place more is counted
 pub place_counted : (columns : List DateColumn) (fields : Fields) (rows : List Dated) (place : ℕ) (column : DateColumn)

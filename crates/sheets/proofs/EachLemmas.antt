@@ -1,30 +1,24 @@
 -- Writers beside one another, each for the output at its place.
-use Rattle.std.proofs.Common.{◌≡◌, ◌≢◌, ◌≤◌, ◌<◌, ◌∙◌, ◌++◌, ◌+◌, ℕ, zero, suc, List, [], ◌∷◌, Some, ap, arith, inl}
+use Rattle.std.proofs.Common.{◌≡◌, ◌≢◌, ◌≤◌, ◌<◌, ◌∙◌, ◌++◌, ◌+◌, ℕ, List, [], ◌∷◌, Some, ap, arith, inl}
 use Rattle.std.proofs.Common.{inr, length, refl, set, subst, sym, Err, Ok, Result, slice_get}
 use Rattle.sheets.proofs.Common.{Fields, Gathers, first_fault, RecordRead, SheetCause, SheetChoice, LineWriter}
 use Rattle.std.proofs.lemmas.Bool.Decides.{eqb_tells}
-use Rattle.std.proofs.lemmas.Option.{slice_get_within}
+use Rattle.std.proofs.lemmas.List.{get_or-set_other, get_or-set_same, get_or_append_left, get_or_push, length-set}
+use Rattle.std.proofs.lemmas.List.{length_push}
+use Rattle.std.proofs.lemmas.Option.{gets, slice_get_cases, slice_get_within}
 use Rattle.register_records.specs.declared.outputs.Output as outputs
 use Rattle.sheets.specs.private.LineWriters.{Each, GathersEach}
 use Rattle.sheets.proofs.CountLemmas.{one_found}
 use Rattle.sheets.proofs.LineWriterLemmas.{gathers_more, gathers_none}
 
 set_there : {X : Type 0} (xs : List X) (i : ℕ) (x : X) → i < length xs → slice_get (set xs i x) i ≡ Some x
-set_there [] i x low = absurd (omega arith)
-set_there (y ∷ xs) zero x low = refl
-set_there (y ∷ xs) (suc i) x low = set_there xs i x (omega arith)
+set_there xs i x low = grind (arith, gets, get_or-set_same, length-set)
 
 set_elsewhere : {X : Type 0} (xs : List X) (i j : ℕ) (x : X) → j ≢ i → slice_get (set xs i x) j ≡ slice_get xs j
-set_elsewhere [] i j x other = refl
-set_elsewhere (y ∷ xs) zero zero x other = absurd (other refl)
-set_elsewhere (y ∷ xs) zero (suc j) x other = refl
-set_elsewhere (y ∷ xs) (suc i) zero x other = refl
-set_elsewhere (y ∷ xs) (suc i) (suc j) x other = set_elsewhere xs i j x (λ e. other (ap suc e))
+set_elsewhere xs i j x other = grind (arith, gets, get_or-set_other, length-set)
 
 pub found_at : {X : Type 0} (xs : List X) (i : ℕ) → i < length xs → (x : X) × (slice_get xs i ≡ Some x)
-found_at [] i low = absurd (omega arith)
-found_at (y ∷ xs) zero low = (y, refl)
-found_at (y ∷ xs) (suc i) low = found_at xs i (omega arith)
+found_at xs i low = grind (arith, slice_get_cases xs i)
 
 before_it : (place i : ℕ) → place < i + 1 → place ≢ i → place < i
 before_it place i below other = omega arith
@@ -137,16 +131,11 @@ module _ {M W : Type 0} (o : outputs.Ghosts W) (line : M → SheetChoice → Rec
 -- one answer more
 pub answer_last : {X : Type 0} (answers : List X) (answer : X) (i : ℕ) → length answers ≡ i
     → slice_get (answers ++ answer ∷ []) i ≡ Some answer
-answer_last [] answer zero e = refl
-answer_last [] answer (suc i) e = absurd (omega arith)
-answer_last (x ∷ answers) answer zero e = absurd (omega arith)
-answer_last (x ∷ answers) answer (suc i) e = answer_last answers answer i (omega arith)
+answer_last answers answer i e = grind (arith, gets, get_or_push, length_push)
 
 pub answer_kept : {X : Type 0} (answers : List X) (answer : X) (place : ℕ) (found : X) → slice_get answers place ≡ Some
     found → slice_get (answers ++ answer ∷ []) place ≡ Some found
-answer_kept [] answer place found e = absurd (cc)
-answer_kept (x ∷ answers) answer zero found e = e
-answer_kept (x ∷ answers) answer (suc place) found e = answer_kept answers answer place found e
+answer_kept answers answer place found e = grind (arith, gets, get_or_append_left, length_push)
 
 -- the first fault of one answer more
 fault_more : (answers : List (Result (Unit {0}) SheetCause)) (answer : Result (Unit {0}) SheetCause)

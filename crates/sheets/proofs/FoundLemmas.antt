@@ -1,11 +1,11 @@
 -- What is not known is counted date by date.
-use Rattle.std.proofs.Common.{◌≡◌, ◌≤◌, ◌<◌, ◌+◌, ◌*◌, ◌^◌, ◌∙◌, ◌++◌, ℕ, zero, suc, List, [], ◌∷◌, Option, None, Some}
-use Rattle.std.proofs.Common.{inl, inr, ap, append-nil, append_assoc, arith, get_or, length, map, sym, take}
+use Rattle.std.proofs.Common.{◌≡◌, ◌≤◌, ◌<◌, ◌+◌, ◌*◌, ◌^◌, ◌∙◌, ◌++◌, ℕ, zero, suc, List, [], ◌∷◌, Option, Some}
+use Rattle.std.proofs.Common.{inl, ap, append-nil, append_assoc, arith, get_or, length, map, sym, take}
 use Rattle.std.proofs.Common.{option_to_list}
-use Rattle.sheets.proofs.Common.{AllZip, Fields, line_text, DateStop, NameStop, SheetDate, records_text}
+use Rattle.sheets.proofs.Common.{Fields, line_text, DateStop, NameStop, SheetDate, records_text}
 use Rattle.sheets.proofs.Common.{NameCount, all_dates, is_alike, list_head, name_record, name_seen, DateColumn}
 use Rattle.sheets.proofs.Common.{SheetChoice, UnknownName}
-use Rattle.std.proofs.lemmas.List.{flat_map_more, length-append, length-map, map-append, take_more}
+use Rattle.std.proofs.lemmas.List.{flat_map_more, length-append, length-map, map_more, map_push}
 use Rattle.std.proofs.lemmas.List.Concat.{flat_map-append}
 use Rattle.std.proofs.lemmas.List.Sums.{count_by-le-length}
 use Rattle.sheets.specs.DateStops.{name_in}
@@ -34,19 +34,10 @@ has_room most stops names are few =
       others = omega (arith, are.more_are, count_by-le-length (is_other (take most (firsts stops))) stops, few);
     }
 
--- of each date there is what stopped it
-pub zip_both : {A B : Type 0} (P : A → B → Type 0) (xs : List A) (ys : List B) (us : List A) (vs : List B)
-    → AllZip P xs ys → AllZip P us vs → AllZip P (xs ++ us) (ys ++ vs)
-zip_both P [] [] us vs zip more = more
-zip_both P [] (y ∷ ys) us vs zip more = absurd zip
-zip_both P (x ∷ xs) [] us vs zip more = absurd zip
-zip_both P (x ∷ xs) (y ∷ ys) us vs zip more = (zip.0, zip_both P xs ys us vs zip.1 more)
-
 -- a date was stopped by one name at most
 name_few : (stop : Option DateStop) → length (option_to_list (name_in stop)) ≤ 1
-name_few None = omega arith
 name_few (Some (inl name)) = omega arith
-name_few (Some (inr reason)) = omega arith
+name_few stop = omega arith
 
 pub names_few : (stops : List (Option DateStop)) → length (names_in stops) ≤ length stops
 names_few [] = omega arith
@@ -80,14 +71,11 @@ pub dates_taken : (dates : List SheetDate) (columns : List DateColumn) (fields :
 dates_taken dates columns fields k d lt =
     let f : DateColumn → SheetDate = λ column. (column, fields) in
     append_assoc dates (map f (take k columns)) (f (get_or columns k d) ∷ [])
-    ∙ ap (λ (xs : List SheetDate). dates ++ xs)
-    (sym (ap (map f) (take_more columns k d lt) ∙ map-append f (take k columns) (get_or columns k d ∷ [])))
+    ∙ ap (λ (xs : List SheetDate). dates ++ xs) (sym (map_more f columns k d lt))
 
 pub dates_more : (choice : SheetChoice) (records : List Fields) (fields : Fields)
     → all_dates choice (records ++ fields ∷ []) ≡ all_dates choice records ++ dates_of choice fields
-dates_more choice records fields =
-    flat_map-append (dates_of choice) records (fields ∷ [])
-    ∙ ap (λ (xs : List SheetDate). all_dates choice records ++ xs) (append-nil (dates_of choice fields))
+dates_more choice records fields = sym (flat_map_more (dates_of choice) [] records fields)
 
 -- one more name of a list
 pub listed_more : (names : List UnknownName) (k : ℕ) (name : UnknownName) → k < length names
@@ -98,9 +86,8 @@ listed_more names k name lt is =
     let done = take k names in
     let next : map name_record (map name_seen (take (k + 1) names))
     ≡ map name_record (map name_seen done) ++ name_record (name_seen name) ∷ []
-    = ap (λ (xs : List UnknownName). map name_record (map name_seen xs)) (take_more names k name lt)
-    ∙ ap (map name_record) (map-append name_seen done (get_or names k name ∷ []))
-    ∙ map-append name_record (map name_seen done) (name_seen (get_or names k name) ∷ [])
+    = ap (map name_record) (map_more name_seen names k name lt)
+    ∙ map_push name_record (map name_seen done) (name_seen (get_or names k name))
     ∙ ap (λ (x : UnknownName). map name_record (map name_seen done) ++ name_record (name_seen x) ∷ []) (sym is) in
     flat_map_more (line_text 44) [] (list_head ∷ map name_record (map name_seen done)) (name_record (name_seen name))
     ∙ ap (λ (xs : List Fields). records_text 44 (list_head ∷ xs)) (sym next)

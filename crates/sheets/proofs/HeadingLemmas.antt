@@ -1,12 +1,12 @@
 -- Headings are named one after the other.
 use Rattle.std.proofs.Common.{◌≡◌, ◌<◌, ◌≤◌, ◌+◌, ◌∙◌, ◌++◌, ℕ, zero, suc, Bool, true, false, List, [], ◌∷◌, refl, sym}
-use Rattle.std.proofs.Common.{ap, subst, arith, append_assoc, append-nil, drop, get_or, length, map, take, ◌||◌, Vec}
+use Rattle.std.proofs.Common.{ap, subst, arith, append_assoc, append-nil, drop, get_or, length, ◌||◌, Vec}
 use Rattle.sheets.proofs.Common.{bytes_eq, fields_of, Fields, NamesMore, taken_by, wanted_all, DateColumn}
-use Rattle.sheets.proofs.Common.{is_taken, items_of, AskedColumn}
+use Rattle.sheets.proofs.Common.{is_taken, items_of}
 use Rattle.std.specs.Fmt.{decimal}
 use Rattle.std.specs.declared.alloc.Global.{Global}
 use Rattle.std.proofs.lemmas.Cmp.{nat_list_eq_equiv}
-use Rattle.std.proofs.lemmas.List.{at_drop_more, map-append, take_more}
+use Rattle.std.proofs.lemmas.List.{at_drop_more, map-append, map_push}
 use Rattle.sheets.specs.Headings.{AreHeadings, IsHeading, numbered, wanted_heading}
 use Rattle.sheets.specs.declared.new_headings.NewNames.{NewNames}
 
@@ -29,13 +29,12 @@ first_free taken wanted name (suc (suc k)) low e free least =
 pub more_headings : (taken wanted more headings others : Fields) → AreHeadings taken wanted headings
     → AreHeadings (taken ++ headings) more others → AreHeadings taken (wanted ++ more) (headings ++ others)
 more_headings taken [] more [] others h both = rw append-nil at both
-more_headings taken [] more (x ∷ headings) others h both = absurd h
-more_headings taken (w ∷ wanted) more [] others h both = absurd h
 more_headings taken (w ∷ wanted) more (x ∷ headings) others h both = (
   h.0,
   more_headings (taken ++ x ∷ []) wanted more headings others h.1
       (subst (λ (all : Fields). AreHeadings all more others) (sym (append_assoc taken (x ∷ []) headings)) both),
 )
+more_headings taken wanted more headings others h both = absurd h
 
 pub both_named : (wanted more : Fields) (old mid new : NewNames) → NamesMore wanted old mid → NamesMore more mid new
     → NamesMore (wanted ++ more) old new
@@ -68,18 +67,10 @@ then_all several date xs ys all old mid new e h i =
     ∙ map-append (wanted_heading several (get_or (fields_of old.own) date.date [])) xs ys))
     (then_named _ (wanted_all several date ys) old mid new h i)
 
-pub name_more : (f : AskedColumn → List ℕ) (columns : List AskedColumn) (i : ℕ) (d : AskedColumn) → i < length columns
-    → map f (take (i + 1) columns) ≡ map f (take i columns) ++ f (get_or columns i d) ∷ []
-name_more f columns i d lt =
-    ap (map f) (take_more columns i d lt) ∙ map-append f (take i columns) (get_or columns i d ∷ [])
-
 -- a name is that at this place, or stands behind it
 pub taken_next : (xs : Fields) (k : ℕ) (name : List ℕ) → k < length xs
     → is_taken (drop k xs) name ≡ (bytes_eq name (get_or xs k []) || is_taken (drop (k + 1) xs) name)
-taken_next [] k name lt = absurd (omega arith)
-taken_next (x ∷ xs) zero name lt = refl
-taken_next (x ∷ xs) (suc k) name lt =
-    let up : suc k + 1 ≡ suc (k + 1) = omega arith in rw up (taken_next xs k name (omega arith))
+taken_next xs k name lt = at_drop_more (λ (ys : Fields). is_taken ys name) xs k [] lt
 
 -- a new name is that at this place, or stands behind it
 pub made_next : (made : List (Vec ℕ Global)) (k : ℕ) (text : Vec ℕ Global) (name : List ℕ) → k < length made
@@ -95,7 +86,7 @@ bytes_alike name = nat_list_eq_equiv.refl name
 -- the new names, each by its bytes
 pub made_named : (made : List (Vec ℕ Global)) (text : Vec ℕ Global)
     → items_of (made ++ text ∷ []) ≡ items_of made ++ text.items ∷ []
-made_named made text = map-append (λ (it : Vec ℕ Global). it.items) made (text ∷ [])
+made_named made text = map_push (λ (it : Vec ℕ Global). it.items) made text
 
 pub one_named : (wanted : List ℕ) (old new : NewNames) (name : List ℕ) → new.own ≡ old.own
     → items_of new.made.items ≡ items_of old.made.items ++ name ∷ [] → IsHeading (taken_by old) wanted name

@@ -19,7 +19,6 @@ pub mod DateLemmas
 pub mod AcceptedLemmas
 pub mod LawLemmas
 pub mod UndatedLemmas
-pub mod WidthLemmas
 pub mod AskedLemmas
 pub mod AskedOfSheetLemmas
 pub mod HeadingLemmas
@@ -32,4 +31,3 @@ pub mod TopLemmas
 pub mod EachLemmas
 pub mod TakeLemmas
 pub mod OutputLemmas
-pub mod WidthViews

@@ -1,9 +1,7 @@
 -- What the lines of a sheet hold.
-use Rattle.std.proofs.Common.{◌≡◌, ◌∙◌, ℕ, List, [], ◌∷◌, ◌++◌, false, length, refl, subst, sym, ap, append_assoc}
-use Rattle.std.proofs.Common.{append-nil, ◌<◌, ◌+◌, get_or, map, take, Err, Ok, OnOk, Result}
+use Rattle.std.proofs.Common.{◌≡◌, ◌∙◌, ℕ, List, [], ◌++◌, false, length, refl, subst, sym, ap, append_assoc}
+use Rattle.std.proofs.Common.{append-nil, Err, Ok, OnOk, Result}
 use Rattle.sheets.proofs.Common.{line_text, GainsFields, SheetLines}
-use Rattle.std.proofs.lemmas.List.{map-append, take_more}
-use Rattle.std.specs.Borrow.{Bor}
 use Rattle.register_records.specs.LineRoom as buffer
 use Rattle.register_records.specs.LineViews.{line_bytes}
 use Rattle.register_records.specs.private.LineViews.{line_delimiter}
@@ -58,11 +56,3 @@ line_ended old new mid same kept ends at has d before fields begun =
       some = λ some. absurd (cc);
       none = λ _. refl;
     }
-
--- one field more
-pub one_field_more : (fields : List (Bor (List ℕ))) (i : ℕ) (d : Bor (List ℕ)) → i < length fields
-    → map (λ (field : Bor (List ℕ)). field.now) (take (i + 1) fields)
-    ≡ map (λ (field : Bor (List ℕ)). field.now) (take i fields) ++ (get_or fields i d).now ∷ []
-one_field_more fields i d lt =
-    ap (map (λ (field : Bor (List ℕ)). field.now)) (take_more fields i d lt)
-    ∙ map-append (λ (field : Bor (List ℕ)). field.now) (take i fields) (get_or fields i d ∷ [])

@@ -21,8 +21,7 @@ module _ {W : Type 0} (o : outputs.Ghosts W) (d : ℕ) (given : W) where
   stands_longer output lines made more None is h = absurd (cc)
   stands_longer output lines made more (Some cause.NoMemory) is h = (front_more d _ _ made more h.0, h.1)
   stands_longer output lines made more (Some cause.SinkFault) is h = h
-  stands_longer output lines made more (Some cause.NoNames) is h = absurd h
-  stands_longer output lines made more (Some cause.TooManyRecords) is h = absurd h
+  stands_longer output lines made more (Some other) is h = absurd h
 
   -- a fault is met
   pub stands_stopped : (before after : W) (lines next : SheetLines) (made more : List Fields) (c : SheetCause)
@@ -34,9 +33,7 @@ module _ {W : Type 0} (o : outputs.Ghosts W) (d : ℕ) (given : W) where
     ap o.has_failed (ends.memory refl) ∙ h.1,
   )
   stands_stopped before after lines next made more cause.SinkFault h ends = ends.sink refl
-  stands_stopped before after lines next made more cause.NoNames h ends =
-      elim ends.causes [ inl is ↦ absurd (cc) | inr is ↦ absurd (cc) ]
-  stands_stopped before after lines next made more cause.TooManyRecords h ends =
+  stands_stopped before after lines next made more other h ends =
       elim ends.causes [ inl is ↦ absurd (cc) | inr is ↦ absurd (cc) ]
 
 -- no more lines are made
@@ -51,8 +48,7 @@ module _ {W : Type 0} (o : outputs.Ghosts W) (d : ℕ) (given : W) where
       → Produced o given output (ending_of {A = Unit {0}} (Err c)) (AreLines {A = Unit {0}} d made (Err c))
   produced_fault output lines made cause.NoMemory h mark = ((_, (h.0.0, refl), h.0.1), h.1, mark)
   produced_fault output lines made cause.SinkFault h mark = (h, mark)
-  produced_fault output lines made cause.NoNames h mark = absurd h
-  produced_fault output lines made cause.TooManyRecords h mark = absurd h
+  produced_fault output lines made other h mark = absurd h
 
   pub produced_passed : (output : W) (made : List Fields) (c : SheetCause) (result : Result (Unit {0}) SheetCause)
       → IsErrAnd result (λ e. e ≡ c)
@@ -81,12 +77,10 @@ module _ {W : Type 0} (o : outputs.Ghosts W) (d : ℕ) (given : W) where
 pub agrees_fault : {W : Type 0} (o : outputs.Ghosts W) (d : ℕ) (given output : W) (lines : SheetLines) (made : List
     Fields) (c : SheetCause) (read : Result (Unit {0}) SheetCause) → Stands o d given output lines made (Some c)
     → Agrees read (Err c)
-agrees_fault o d given output lines made cause.NoMemory read h =
-    record { all = tt; many = λ e. absurd (cc); named = λ e. cc }
-agrees_fault o d given output lines made cause.SinkFault read h =
-    record { all = tt; many = λ e. absurd (cc); named = λ e. cc }
 agrees_fault o d given output lines made cause.NoNames read h = absurd h
 agrees_fault o d given output lines made cause.TooManyRecords read h = absurd h
+agrees_fault o d given output lines made c read h =
+    record { all = tt; many = λ e. absurd (cc); named = λ e. cc }
 
 pub agrees_read : (read : Result (Unit {0}) SheetCause)
     → IfErr read (λ c. (c ≡ cause.NoMemory) ⊎ (c ≡ cause.TooManyRecords)) → Agrees read read
@@ -215,20 +209,15 @@ no_other None never = refl
 no_other (Some c) never = absurd (never c refl)
 
 pub memory_is : (read : Result (Unit {0}) SheetCause) → lacks_memory read ≡ true → read ≡ Err cause.NoMemory
-memory_is (Ok v) e = absurd (cc)
 memory_is (Err cause.NoMemory) e = refl
-memory_is (Err cause.SinkFault) e = absurd (cc)
-memory_is (Err cause.NoNames) e = absurd (cc)
-memory_is (Err cause.TooManyRecords) e = absurd (cc)
+memory_is read e = absurd (cc)
 
 -- what waits is held
 waits_stand : {W : Type 0} (o : outputs.Ghosts W) (output : W) (d : ℕ) (made : List Fields) (lines : SheetLines)
     (fault : Option SheetCause) → WaitsBy d made lines fault → Stands o d output output lines made fault
 waits_stand o output d made lines None waits = (waits (o.contents output), refl)
 waits_stand o output d made lines (Some cause.NoMemory) waits = ((0, Appends-nil _), refl)
-waits_stand o output d made lines (Some cause.SinkFault) waits = absurd waits
-waits_stand o output d made lines (Some cause.NoNames) waits = absurd waits
-waits_stand o output d made lines (Some cause.TooManyRecords) waits = absurd waits
+waits_stand o output d made lines (Some other) waits = absurd waits
 
 pub holds_waiting : {M W : Type 0} (o : outputs.Ghosts W) (output : W) (writer : LineWriter M) (d : ℕ) (made : List
     Fields) → Waits d made writer → Holds o output output writer made

@@ -1,14 +1,16 @@
 -- What the texts of meanings have, and what they lack.
 use Rattle.std.proofs.Common.{◌≡◌, ◌≢◌, ◌<◌, ◌≤◌, ◌^◌, ◌++◌, ◌∙◌, ℕ, suc, Bool, true, false, List, [], ◌∷◌}
 use Rattle.std.proofs.Common.{ap, append-nil, arith, get_or, length, length-append, refl, sym, ℤ, pos, negsuc}
-use Rattle.std.proofs.Common.{FitsSigned, w16, if◌then◌else◌}
+use Rattle.std.proofs.Common.{FitsSigned, w16, if◌then◌else◌, Bor, MatchOption, Option, drop}
 use lib.Signed.{mag}
 use Rattle.std.specs.Fmt.{decimal, signed_decimal}
 use Rattle.std.specs.Ordering.{int_eq}
-use Rattle.std.proofs.Math.Seq.{get_or-append_seam}
+use Rattle.std.specs.Str.Pattern.{FindsTextPrefix, StripsPrefix}
+use Rattle.std.proofs.Math.Seq.{drop-append_seam, get_or-append_seam}
 use Rattle.std.proofs.lemmas.Fmt.{decimal_is_IsNumeral, signed_decimal_injective}
 use Rattle.std.proofs.lemmas.Int.{ints}
 use Rattle.std.proofs.lemmas.Str.Parse.{digit_at}
+use Rattle.std.proofs.lemmas.Str.Pattern.{IsSplitOnceResult, split_after}
 use Rattle.sheets.specs.NameMeanings.{IsFewDays, day_name}
 
 -- a byte is at no place of a text
@@ -20,6 +22,16 @@ pub decimal_lacks : (n c : ℕ) → n < 2 ^ 64 → c < 48 → Lacks c (decimal n
 decimal_lacks n c few small i lt =
     let (low, high) = digit_at (decimal n) i (decimal_is_IsNumeral n few).0.1 lt in
     omega arith
+
+-- what a field says behind a word: a number, and more behind the first character of a kind
+pub parts_said : (c : ℕ) (word field rest : List ℕ) (number : ℕ) (behind : List ℕ)
+    (parts : Option (Bor (List ℕ) × Bor (List ℕ))) → StripsPrefix (FindsTextPrefix word) field rest
+    → IsSplitOnceResult c rest parts → number < 2 ^ 64 → c < 48 → field ≡ word ++ (decimal number ++ c ∷ behind)
+    → MatchOption parts ⊥ (λ p. (p.0.now ≡ decimal number) × (p.1.now ≡ behind))
+parts_said c word field rest number behind parts (n, finds, dropped, long) split few small is =
+    split_after c rest (decimal number) behind parts split (omega arith)
+    (dropped ∙ ap (λ (k : ℕ). drop k field) finds.0 ∙ ap (drop (length word)) is
+    ∙ drop-append_seam word (decimal number ++ c ∷ behind)) (decimal_lacks number c few small)
 
 -- where a text is cut at the first byte of a kind is one place
 pub first_same : (c : ℕ) (a x b y : List ℕ) → Lacks c a → Lacks c x → a ++ c ∷ b ≡ x ++ c ∷ y → (a ≡ x) × (b ≡ y)

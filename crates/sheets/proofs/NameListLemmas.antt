@@ -1,18 +1,16 @@
 -- Names of calendars in a field, one after the other, and the lines of a list.
 use Rattle.std.proofs.Common.{◌≡◌, ◌∙◌, ◌+◌, ◌++◌, ◌||◌, ℕ, Bool, true, List, [], ◌∷◌, map, length, slice_set, ap, ap₂}
-use Rattle.std.proofs.Common.{sym, refl, subst, suc, lit<, arith}
+use Rattle.std.proofs.Common.{refl, subst, lit<, arith}
 use Rattle.sheets.proofs.Common.{list_any, bytes_eq, all_calendars, calendar_name, IsNamed, Calendar}
 use Rattle.sheets.proofs.Common.{Gregorian, Fields, named_by}
 use Rattle.std.proofs.lemmas.List.Folds.{list_any-append}
+use Rattle.std.proofs.lemmas.Slice.Zip.{AllZip-long}
 use Rattle.std.proofs.lemmas.Iterator.{YieldsList}
 use Rattle.std.proofs.lemmas.Iterator.Consumers.{YieldsList-at}
 use Rattle.std.proofs.lemmas.Iterator.Splits.{YieldsList-from_str_split}
 use Rattle.std.specs.Str.Iter.{split_has_more, split_pattern, split_steps, split_text}
 use Rattle.std.specs.Str.Pattern.{FindsChar}
 use Rattle.std.specs.declared.str.Split.{Split}
-use Rattle.date_texts.specs.declared.calendar.Calendar.TheVariants.{Iso, Julian, Coptic, Ethiopic, Egyptian, Armenian}
-use Rattle.date_texts.specs.declared.calendar.Calendar.TheVariants.{Islamic, Hebrew, Longcount, French, Roman}
-use Rattle.date_texts.specs.declared.calendar.Calendar.TheVariants.{Republican}
 use Rattle.written_dates.specs.Calendars.{place}
 use Rattle.sheets.specs.NameLists.{AreLines, IsFaultOf, IsLine, IsRefused, IsRefusedBehind, columns, is_named}
 use Rattle.sheets.specs.NameLists.{names_in}
@@ -31,51 +29,23 @@ names_of_split field s t same text more pattern = YieldsList-at same
 marked : (f : Calendar → Bool) (d : Calendar) → slice_set (map f all_calendars) (place d) true
     ≡ map (λ c. bytes_eq (calendar_name d) (calendar_name c) || f c) all_calendars
 marked f Gregorian = refl
-marked f Iso = refl
-marked f Julian = refl
-marked f Coptic = refl
-marked f Ethiopic = refl
-marked f Egyptian = refl
-marked f Armenian = refl
-marked f Islamic = refl
-marked f Hebrew = refl
-marked f Longcount = refl
-marked f French = refl
-marked f Roman = refl
-marked f Republican = refl
+marked f d = refl
 
 map_same : (f g : Calendar → Bool) (cs : List Calendar) → ((c : Calendar) → f c ≡ g c) → map f cs ≡ map g cs
 map_same f g [] same = refl
 map_same f g (c ∷ cs) same = ap₂ (λ (b : Bool) (bs : List Bool). b ∷ bs) (same c) (map_same f g cs same)
-
-or_comm : (a b : Bool) → (a || b) ≡ (b || a)
-or_comm a b = grind arith
 
 -- a name more is looked at last
 one_more : (names : List (List ℕ)) (name : List ℕ) (d c : Calendar) → IsNamed name (calendar_name d)
     → (bytes_eq (calendar_name d) (calendar_name c) || list_any (λ n. is_named n c) names)
     ≡ list_any (λ n. is_named n c) (names ++ name ∷ [])
 one_more names name d c is =
-    rw (list_any-append (λ n. is_named n c) names (name ∷ []), is)
-    (or_comm (bytes_eq (calendar_name d) (calendar_name c)) (list_any (λ n. is_named n c) names) ∙ grind arith)
+    rw (list_any-append (λ n. is_named n c) names (name ∷ []), is) (grind arith)
 
 pub named_more : (names : List (List ℕ)) (name : List ℕ) (d : Calendar) → IsNamed name (calendar_name d)
     → slice_set (named_by names) (place d) true ≡ named_by (names ++ name ∷ [])
 named_more names name d is =
     marked (λ c. list_any (λ n. is_named n c) names) d ∙ map_same _ _ all_calendars (λ c. one_more names name d c is)
-
--- one record and its line more
-pub lines_more : (records : List Fields) (lines : List NameLine) (fields : Fields) (line : NameLine)
-    → AreLines records lines → IsLine fields line → AreLines (records ++ fields ∷ []) (lines ++ line ∷ [])
-lines_more [] [] fields line are is = (is, tt)
-lines_more (f ∷ records) (l ∷ lines) fields line are is = (are.0, lines_more records lines fields line are.1 is)
-lines_more records lines fields line are is = absurd are
-
-pub lines_count : (records : List Fields) (lines : List NameLine) → AreLines records lines
-    → length records ≡ length lines
-lines_count [] [] are = refl
-lines_count (f ∷ records) (l ∷ lines) are = ap suc (lines_count records lines are.1)
-lines_count records lines are = absurd are
 
 refused_behind : (before : List Fields) (lines : List NameLine) (fields : Fields) (after : List Fields) (number : ℕ)
     (why : NameListFault) → AreLines before lines → number ≡ length lines + 1 → IsRefused fields number why
@@ -87,7 +57,7 @@ refused_behind before lines fields after number why are counted refused = record
   lines = lines;
   cut = refl;
   are_lines = are;
-  refused = subst (λ k. IsRefused fields k why) (counted ∙ ap (λ k. k + 1) (sym (lines_count before lines are)))
+  refused = subst (λ k. IsRefused fields k why) (counted ∙ ap (λ k. k + 1) (AllZip-long IsLine before lines are))
       refused;
 }
 

@@ -1,5 +1,5 @@
 -- What is noted of a sheet, record by record.
-use Rattle.std.proofs.Common.{◌≡◌, ◌≤◌, ◌<◌, ◌+◌, ◌^◌, ◌∙◌, ◌++◌, ℕ, zero, suc, List, [], ◌∷◌, Option, Some, Bool}
+use Rattle.std.proofs.Common.{◌≡◌, ◌≤◌, ◌<◌, ◌+◌, ◌^◌, ◌∙◌, ◌++◌, ℕ, List, [], ◌∷◌, Option, Some, Bool}
 use Rattle.std.proofs.Common.{false, true, ap, arith, cond, get_or, length, map, refl, subst, sym, IfErr, IfOk, Result}
 use Rattle.std.proofs.Common.{if◌then◌else◌, option_to_list, slice_get}
 use Rattle.sheets.proofs.Common.{AllZip, Fields, record_limit, Dated, AreSheetCounts, DateStop, NameStop}
@@ -7,7 +7,7 @@ use Rattle.sheets.proofs.Common.{SheetDate, below, HasFound, HasNotes, IsDateRea
 use Rattle.sheets.proofs.Common.{fields_read, all_dates, name_seen, DateColumn, SheetChoice, ColumnDates}
 use Rattle.sheets.proofs.Common.{SheetCause}
 use Rattle.std.proofs.Math.Seq.{take-nil}
-use Rattle.std.proofs.lemmas.List.{length-append, length-map, map-append}
+use Rattle.std.proofs.lemmas.List.{length-append, length-map, map-append, map_push}
 use Rattle.std.proofs.lemmas.List.Sums.{count_by-le-length, sum_by_push}
 use Rattle.sheets.specs.private.CountViews.{AreUpTo, CountsRecord}
 use Rattle.sheets.specs.DateStops.{IsStopOf, is_for, name_in}
@@ -21,10 +21,10 @@ use Rattle.sheets.specs.declared.sheet_notes.SheetNotes.{SheetNotes}
 use Rattle.sheets.specs.declared.sheet_ends.SheetCause.TheVariants.{NoMemory}
 use Rattle.sheets.specs.declared.stopped_dates.Unknown.{Unknown}
 use Rattle.std.proofs.lemmas.Option.{slice_get-get_or}
-use Rattle.sheets.proofs.CountLemmas.{counts_more, one_found, seen_slot, up_to}
+use Rattle.sheets.proofs.CountLemmas.{counts_more, up_to}
 use Rattle.sheets.proofs.FoundLemmas.{dates_few, dates_more, has_room, names_both, names_few, names_one}
-use Rattle.sheets.proofs.FoundLemmas.{zip_both}
-use Rattle.std.proofs.lemmas.Slice.Zip.{AllZip-long}
+use Rattle.sheets.proofs.RowLemmas.{seen_at}
+use Rattle.std.proofs.lemmas.Slice.Zip.{AllZip-left, AllZip-long, all_zipped_more}
 
 -- no date yet
 pub none_found : (choice : SheetChoice) (found : Found) (most : ℕ) → found.most ≡ most → NoneUnread found.unread
@@ -63,11 +63,10 @@ date_found choice dates d most old new stop short is is_short counts kept named 
     record {
       limit = kept ∙ found.limit;
       stops = stops ++ stop ∷ [];
-      are_stops = zip_both (IsStopOf choice) dates stops (d ∷ []) (stop ∷ []) found.are_stops (is, tt);
+      are_stops = all_zipped_more (IsStopOf choice) dates stops d stop found.are_stops is;
       counts = record {
         shorts = found.counts.shorts ++ short ∷ [];
-        are_short = zip_both (IsShort choice) dates found.counts.shorts (d ∷ []) (short ∷ []) found.counts.are_short
-            (is_short, tt);
+        are_short = all_zipped_more (IsShort choice) dates found.counts.shorts d short found.counts.are_short is_short;
         stopped_are = omega (
           arith,
           counts.stopped,
@@ -120,11 +119,8 @@ found_room choice dates most found h few here =
 -- what was read of the date of a column
 pub zip_place : {A B : Type 0} (R : A → B → Type 0) (xs : List A) (ys : List B) (i : ℕ) (x : A) (y : B) → AllZip R xs ys
     → slice_get xs i ≡ Some x → slice_get ys i ≡ Some y → R x y
-zip_place R [] ys i x y h a b = absurd (cc)
-zip_place R (u ∷ xs) [] i x y h a b = absurd (cc)
-zip_place R (u ∷ xs) (v ∷ ys) zero x y h a b =
-    subst (λ p. R p y) (one_found (Some u) u x refl a) (subst (R u) (one_found (Some v) v y refl b) h.0)
-zip_place R (u ∷ xs) (v ∷ ys) (suc i) x y h a b = zip_place R xs ys i x y h.1 a b
+zip_place R xs ys i x y h a b =
+    let both = AllZip-left R xs ys h i in grind (arith, both)
 
 pub date_at_place : (choice : SheetChoice) (number : ℕ) (fields : Fields) (columns : List DateColumn)
     (dates : List ColumnDates) (place : ℕ) (e : DateColumn) (date : ColumnDates)
@@ -133,8 +129,7 @@ pub date_at_place : (choice : SheetChoice) (number : ℕ) (fields : Fields) (col
     → IsDateRead choice number fields (get_or columns place e) (date_seen date)
 date_at_place choice number fields columns dates place e date h low room is =
     zip_place (IsDateRead choice number fields) columns (map date_seen dates) place (get_or columns place e)
-    (date_seen date) h (slice_get-get_or columns place e low)
-    (seen_slot date_seen dates place date room ∙ ap (λ (d : ColumnDates). Some (date_seen d)) (sym is))
+    (date_seen date) h (slice_get-get_or columns place e low) (seen_at date_seen dates place date room is)
 
 pub columns_count : (choice : SheetChoice) (number : ℕ) (fields : Fields) (columns : List DateColumn)
     (dates : List ColumnDates) → AllZip (IsDateRead choice number fields) columns (map date_seen dates)
@@ -143,17 +138,13 @@ columns_count choice number fields columns dates h =
     sym (length-map dates date_seen) ∙ AllZip-long (IsDateRead choice number fields) columns (map date_seen dates) h
 
 -- one more record
-fields_more : (reads : List RecordRead) (one : RecordRead) → fields_read (reads ++ one ∷ []) ≡ fields_read reads ++
-    one.fields ∷ []
-fields_more reads one = map-append (λ (read : RecordRead). read.fields) reads (one ∷ [])
-
 pub notes_more : (choice : SheetChoice) (reads : List RecordRead) (one : RecordRead) (most : ℕ) (old new : SheetNotes)
     → new.records ≡ old.records + 1 → CountsRecord choice.dates.now one.fields (rows_read one) old.counts new.counts
     → ((dates : List SheetDate) (most : ℕ) → HasFound choice dates most old.found
     → HasFound choice (dates ++ dates_of choice one.fields) most new.found) → HasNotes choice reads most old
     → HasNotes choice (reads ++ one ∷ []) most new
 notes_more choice reads one most old new records counts found noted =
-    let fields = fields_more reads one in
+    let fields = map_push (λ (read : RecordRead). read.fields) reads one in
     record {
       records = omega (arith, records, noted.records, length-append reads (one ∷ []));
       counts = subst

@@ -1,5 +1,5 @@
 -- What one reading of a sheet makes.
-use Rattle.std.proofs.Common.{◌≡◌, ◌≤◌, ◌<◌, ◌∙◌, ◌++◌, ◌+◌, ◌-◌, ℕ, zero, suc, List, [], ◌∷◌, Some, ap, IsErrAnd}
+use Rattle.std.proofs.Common.{◌≡◌, ◌≤◌, ◌<◌, ◌∙◌, ◌++◌, ◌+◌, ◌-◌, ℕ, List, [], ◌∷◌, Some, ap, IsErrAnd}
 use Rattle.std.proofs.Common.{arith, drop, false, inl, inr, length, map, nat_lt, refl, replicate, subst, sym, take}
 use Rattle.std.proofs.Common.{true, ◌⊎◌, Err, IsOk, Ok, OnOk, Result, slice_get}
 use Rattle.sheets.proofs.Common.{AllZip, Fields, record_limit, Dated, as_text, below, AreLines, Produced}
@@ -8,9 +8,10 @@ use Rattle.sheets.proofs.Common.{HasReadSheet, line_of_entry, AreSheetCounts, al
 use Rattle.sheets.proofs.Common.{Waits, AreRecordsRead, DateRead, IsDateRead, RecordRead, fields_read}
 use Rattle.sheets.proofs.Common.{records_text, widest, DateColumn, SheetChoice, SheetCause, LineWriter}
 use Rattle.sheets.proofs.Common.{EntryLine}
+use Rattle.std.proofs.lemmas.List.{get_or-append_right, get_or-replicate, get_or_append_left, length-append}
 use Rattle.std.proofs.lemmas.List.{length-map, length-replicate, take-append-drop}
 use Rattle.std.proofs.lemmas.Bool.Decides.{nat_tests}
-use Rattle.std.proofs.lemmas.Option.{slice_get_within}
+use Rattle.std.proofs.lemmas.Option.{gets, slice_get-map, slice_get_cases, slice_get_within}
 use Rattle.std.proofs.KnownBytes.{Appends-nil}
 use Rattle.register_records.specs.declared.outputs.Output as outputs
 use Rattle.sheets.specs.Choices.{register_record}
@@ -39,7 +40,7 @@ use Rattle.sheets.proofs.EachLemmas.{found_at}
 use Rattle.sheets.proofs.NoteLemmas.{zip_place}
 use Rattle.sheets.proofs.CountLemmas.{one_found}
 use Rattle.sheets.proofs.LineWriterLemmas.{holds_waiting}
-use Rattle.sheets.proofs.RowLemmas.{below_names, body_front, sheet_made}
+use Rattle.sheets.proofs.RowLemmas.{body_front, sheet_made}
 
 -- what is said of the bytes may be said otherwise
 pub produced_as : {W : Type 0} (o : outputs.Ghosts W) (given written : W) (ending : Ending) (P Q : List ℕ → Type 0)
@@ -56,8 +57,7 @@ rows_of_record : (choice : SheetChoice) (number : ℕ) (fields : Fields) (column
 rows_of_record choice number fields [] [] h = tt
 rows_of_record choice number fields (column ∷ columns) (date ∷ dates) h =
     (h.0.dated, rows_of_record choice number fields columns dates h.1)
-rows_of_record choice number fields [] (date ∷ dates) h = absurd h
-rows_of_record choice number fields (column ∷ columns) [] h = absurd h
+rows_of_record choice number fields columns dates h = absurd h
 
 rows_from : (choice : SheetChoice) (k : ℕ) (reads : List RecordRead) → AreRecordsRead choice k reads
     → AreRowsFrom choice k (fields_read reads) (map rows_read reads)
@@ -151,14 +151,10 @@ module _ (choice : SheetChoice) (records : List Fields) (reads : List RecordRead
   pub made_of_sheet : (width : ℕ) → width ≡ widest (drop choice.above records)
       → top_records choice width records ++ map (body_line width choice) reads ≡ sheet_records choice records rows
   made_of_sheet width wide =
-      let left = drop choice.above records in
-      let rest = drop 1 left in
-      let same : rest ≡ below choice records = below_names choice records left rest refl refl in
       ap (λ xs. top_records choice width records ++ xs) (body_lines choice width reads
       ∙ sym (body_front width choice (fields_read reads) (drop (length reads) (below choice records)) rows
       (length_fields reads ∙ sym (length-map reads rows_read))) ∙ ap (λ xs. body_records width choice xs rows)
-      (sym (reads_first (below choice records) reads read.first) ∙ sym same))
-      ∙ sheet_made choice records left rest width rows refl refl wide
+      (sym (reads_first (below choice records) reads read.first))) ∙ sheet_made choice records width rows wide
 
   -- the bytes of these lines are what is to be made of the sheet
   pub sheet_bytes : (width : ℕ) → width ≡ widest (drop choice.above records) → (notes : SheetNotes) (most : ℕ)
@@ -275,21 +271,12 @@ register_produced o choice records result answer first last of given mid written
 -- the register at a place is that of the maker there
 at_map : {X Y : Type 0} (f : X → Y) (xs : List X) (place : ℕ) (y : Y) → slice_get (map f xs) place ≡ Some y
     → (x : X) × (slice_get xs place ≡ Some x) × (f x ≡ y)
-at_map f [] place y e = absurd (cc)
-at_map f (x ∷ xs) zero y e = (x, refl, cc)
-at_map f (x ∷ xs) (suc place) y e = at_map f xs place y e
+at_map f xs place y e = grind (arith, slice_get-map f xs place, slice_get_cases xs place)
 
 at_append : {X : Type 0} (xs ys : List X) (place : ℕ) (x : X) → slice_get (xs ++ ys) place ≡ Some x
     → ((place < length xs) × (slice_get xs place ≡ Some x))
     ⊎ ((length xs ≤ place) × (slice_get ys (place - length xs) ≡ Some x))
-at_append [] ys place x e = let same : place - 0 ≡ place = omega arith in inr (omega arith, ap (slice_get ys) same ∙ e)
-at_append (z ∷ xs) ys zero x e = inl (omega arith, e)
-at_append (z ∷ xs) ys (suc place) x e =
-    let same : suc place - length (z ∷ xs) ≡ place - length xs = omega arith in
-    elim (at_append xs ys place x e) [
-      | inl found ↦ inl (omega (arith, found.0), found.1)
-      | inr found ↦ inr (omega (arith, found.0), ap (slice_get ys) same ∙ found.1)
-    ]
+at_append xs ys place x e = grind (arith, gets, get_or_append_left, get_or-append_right, length-append)
 
 first_made : (columns place : ℕ) → place < columns
     → entry_maker columns place ≡ record { place = place; end = ends.First }
@@ -392,9 +379,7 @@ none_read choice records (Err c) is =
 
 -- nothing was made, for a cause that says so
 in_replica : {X : Type 0} (x y : X) (n place : ℕ) → slice_get (replicate n x) place ≡ Some y → x ≡ y
-in_replica x y zero place e = absurd (cc)
-in_replica x y (suc n) zero e = cc
-in_replica x y (suc n) (suc place) e = in_replica x y n place e
+in_replica x y n place e = grind (arith, gets, get_or-replicate, length-replicate)
 
 -- as for want of memory, or of names
 pub register_none : {W : Type 0} (o : outputs.Ghosts W) (choice : SheetChoice) (records : List Fields) (g : W)

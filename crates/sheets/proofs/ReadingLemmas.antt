@@ -1,8 +1,8 @@
 -- The records of a sheet that are read, one after the other.
 use Rattle.std.proofs.Common.{◌≡◌, ◌<◌, ◌∙◌, ◌++◌, ◌+◌, ℕ, List, [], ◌∷◌, ap, length, map, set, sym, take, Bor, arith}
-use Rattle.std.proofs.Common.{drop, inl, inr, length-append, length-drop, refl, true, Bool, Err, IsErrAnd, Ok, Result}
+use Rattle.std.proofs.Common.{drop, inl, inr, length-append, length-drop, true, Bool, Err, IsErrAnd, Ok, Result}
 use Rattle.std.proofs.Common.{◌≤◌, ◌⊎◌, ap₂, false, IfErr, OnOk}
-use Rattle.sheets.proofs.Common.{Fields, Dated, SheetChoice, AreRecordsRead, DateRead, RecordRead, date_seen}
+use Rattle.sheets.proofs.Common.{Fields, SheetChoice, AreRecordsRead, DateRead, RecordRead, date_seen}
 use Rattle.sheets.proofs.Common.{dated_seen, fields_read, ColumnDates, IsReading, SheetCause, record_limit, given_of}
 use Rattle.sheets.proofs.Common.{HasReadSheet}
 use Rattle.sheets.specs.private.SheetReaders.{IsFaultBehind, IsGivenOr, records_under}
@@ -11,7 +11,8 @@ use Rattle.sheets.specs.declared.sheet_ends.SheetCause.TheVariants as cause
 use Rattle.sheets.specs.declared.sheet_reader.SheetReader.{SheetReader}
 use Rattle.sheets.specs.declared.sheet_records.SheetRecord.{SheetRecord}
 use Rattle.sheets.proofs.ListLemmas.{one_taken}
-use Rattle.std.proofs.lemmas.List.{take_all, map-append, take-map, take_more_set}
+use Rattle.std.proofs.lemmas.List.{length-map, map-set, map_push, take_all, take_more_set}
+use Rattle.std.proofs.lemmas.Simd.{map-map}
 use Rattle.csv.specs.Reading.{took_first}
 use Rattle.csv.specs.declared.reader.Reader.{Reader}
 use Rattle.sheets.specs.private.Reading.{IsBegun}
@@ -20,8 +21,7 @@ use Rattle.sheets.specs.private.Reading.{IsBegun}
 pub set_more : {X Y : Type 0} (f : X → Y) (xs : List X) (i : ℕ) (x : X) → i < length xs
     → take (i + 1) (map f (set xs i x)) ≡ take i (map f xs) ++ f x ∷ []
 set_more f xs i x lt =
-    take-map f (i + 1) (set xs i x) ∙ ap (map f) (take_more_set xs i x lt) ∙ map-append f (take i xs) (x ∷ [])
-    ∙ ap (λ front. front ++ f x ∷ []) (sym (take-map f i xs))
+    ap (take (i + 1)) (map-set f xs i x) ∙ take_more_set (map f xs) i (f x) (omega (arith, lt, length-map xs f))
 
 -- a reader that has read a record
 pub begun_reads : (records : Reader (Bor (List ℕ))) → IsBegun records → IsReading records
@@ -36,7 +36,7 @@ pub given_more : (all left rest : List Fields) (given new : List RecordRead) (on
     → (fields_read new ≡ take (count + 1) all) × (rest ≡ drop (count + 1) all) × (length new ≡ length given + 1)
 given_more all left rest given new one count is found first more =
     let taken = one_taken all count one.fields rest (sym is ∙ found) in (
-      ap fields_read more ∙ map-append (λ (read : RecordRead). read.fields) given (one ∷ [])
+      ap fields_read more ∙ map_push (λ (read : RecordRead). read.fields) given one
           ∙ ap (λ (xs : List Fields). xs ++ one.fields ∷ []) first ∙ sym taken.0,
       sym taken.1,
       ap length more ∙ length-append given (one ∷ []),
@@ -59,8 +59,7 @@ pub not_given : (choice : SheetChoice) (count : ℕ) (left : List Fields) (reade
 not_given choice count left reader of_sheet records given cause.NoMemory many is found = tt
 not_given choice count left reader of_sheet records given cause.TooManyRecords many is full =
     (many ∙ full.0, omega (arith, full.0, more_than records left count is full.1))
-not_given choice count left reader of_sheet records given cause.NoNames many is found = absurd found
-not_given choice count left reader of_sheet records given cause.SinkFault many is found = absurd found
+not_given choice count left reader of_sheet records given other many is found = absurd found
 
 -- a fault of reading was handed on
 pub not_found : (choice : SheetChoice) (count : ℕ) (left : List Fields) (records : Reader (Bor (List ℕ)))
@@ -96,14 +95,12 @@ module _ (choice : SheetChoice) (records : List Fields) (reader new : SheetReade
   has_stopped cause.TooManyRecords (Err c) is given =
       ended (Err c) tt
       (λ many. (ap length (sym given.0) ∙ given.1.0, omega (arith, given.1.1, ap length (still ∙ under)))) (inr is)
-  has_stopped cause.NoNames (Err c) is given = absurd given.1
-  has_stopped cause.SinkFault (Err c) is given = absurd given.1
+  has_stopped other (Err c) is given = absurd given.1
 
 -- what the columns have
 pub rows_in : (columns : List ColumnDates)
     → map (λ (date : DateRead). date.dated) (map date_seen columns) ≡ map dated_seen columns
-rows_in [] = refl
-rows_in (column ∷ columns) = ap (λ (rows : List Dated). dated_seen column ∷ rows) (rows_in columns)
+rows_in columns = map-map (λ (date : DateRead). date.dated) date_seen columns
 
 -- one more record is read as it is to be
 pub reads_more : (choice : SheetChoice) (k : ℕ) (reads : List RecordRead) (one : RecordRead)

@@ -1,11 +1,11 @@
 -- How far records are written to an output.
-use Rattle.std.proofs.Common.{◌≡◌, ◌≤◌, ◌∙◌, ◌++◌, ℕ, List, [], ◌∷◌, Option, ap, append-nil, append_assoc, arith}
-use Rattle.std.proofs.Common.{length, IsErrAnd, min, refl, subst, suc, sym, take, zero, Err, IfOk, Ok, Result}
+use Rattle.std.proofs.Common.{◌≡◌, ◌∙◌, ◌++◌, ℕ, List, [], ◌∷◌, Option, ap, append-nil, append_assoc, arith}
+use Rattle.std.proofs.Common.{length, IsErrAnd, min, subst, sym, take, Err, IfOk, Ok, Result}
 use Rattle.sheets.proofs.Common.{Fields, line_text, GainsFields, records_text, SheetLines}
 use Rattle.std.specs.Io.KnownBytes.{Appends}
 use Rattle.std.proofs.KnownBytes.{Appends-trans}
 use Rattle.std.proofs.Math.Seq.{take-append_seam}
-use Rattle.std.proofs.lemmas.List.{take-append-le}
+use Rattle.std.proofs.lemmas.List.{flat_map_more, take-append-le, take_min}
 use Rattle.std.proofs.lemmas.List.Concat.{flat_map-append}
 use Rattle.sheets.specs.private.LineViews.{Begins, EndsLine}
 use Rattle.sheets.specs.private.Sending.{HasFront, HasMade, IsSent}
@@ -15,7 +15,7 @@ text_both d xs ys = flat_map-append (line_text d) xs ys
 
 pub text_more : (d : ℕ) (xs : List Fields) (x : Fields)
     → records_text d (xs ++ x ∷ []) ≡ records_text d xs ++ line_text d x
-text_more d xs x = text_both d xs (x ∷ []) ∙ ap (λ t. records_text d xs ++ t) (append-nil (line_text d x))
+text_more d xs x = sym (flat_map_more (line_text d) [] xs x)
 
 -- the line gains fields, and is ended
 pub fields_made : (d : ℕ) (begun now : Option (List ℕ)) (old new : SheetLines) (made : List Fields) (fields more :
@@ -66,25 +66,13 @@ front_made d begun now lines made fields h = (
       (ap (records_text d) (sym (ap (take (length h.sent)) h.parted ∙ take-append_seam h.sent h.waiting))) h.gained,
 )
 
-pub shorter : (n m : ℕ) (xs : List Fields) → m ≡ min n (length xs) → take m xs ≡ take n xs
-shorter zero m xs e = let none : m ≡ 0 = omega arith in rw none refl
-shorter (suc n) m [] e = let none : m ≡ 0 = omega arith in rw none refl
-shorter (suc n) zero (x ∷ xs) e = absurd (omega arith)
-shorter (suc n) (suc m) (x ∷ xs) e = ap (λ ys. x ∷ ys) (shorter n m xs (omega arith))
-
 pub front_more : (d : ℕ) (begun now : Option (List ℕ)) (xs ys : List Fields) → HasFront d begun now xs
     → HasFront d begun now (xs ++ ys)
 front_more d begun now xs ys (n, appends) = (
   min n (length xs),
   subst (Appends begun now) (ap (records_text d) (sym (take-append-le (min n (length xs)) xs ys (omega arith)
-      ∙ shorter n (min n (length xs)) xs refl))) appends,
+      ∙ take_min n xs))) appends,
 )
-
-pub taken_twice : (k n : ℕ) (xs : List Fields) → k ≤ n → take k (take n xs) ≡ take k xs
-taken_twice zero n xs low = refl
-taken_twice (suc k) zero xs low = absurd (omega arith)
-taken_twice (suc k) (suc n) [] low = refl
-taken_twice (suc k) (suc n) (x ∷ xs) low = ap (λ ys. x ∷ ys) (taken_twice k n xs (omega arith))
 
 -- where it is a fault, nothing is said of a value
 pub no_value : {T E : Type 0} (r : Result T E) (e : E) (P : T → Type 0) → IsErrAnd r (λ x. x ≡ e) → IfOk r P

@@ -1,6 +1,7 @@
 -- Records of a sheet, one after the other.
-use Rattle.std.proofs.Common.{◌≡◌, suc, ℕ, List, [], ◌∷◌, ◌++◌, get_or, length, arith, max, Option, None, IsSome}
+use Rattle.std.proofs.Common.{◌≡◌, suc, ℕ, List, [], ◌∷◌, ◌++◌, get_or, length, arith, max, refl, Option, None, IsSome}
 use Rattle.std.proofs.Common.{IfSome}
+use Rattle.std.proofs.lemmas.List.Recursion.{max_push}
 use Rattle.sheets.proofs.Common.{Fields, widest}
 use Rattle.csv.specs.Records.{field_at}
 use Rattle.register_records.specs.private.ReadingState.{TakesFirst}
@@ -14,8 +15,8 @@ absent fields place e = cc
 
 pub widest_more : (records : List Fields) (fields : Fields)
     → widest (records ++ fields ∷ []) ≡ max (widest records) (length fields)
-widest_more [] fields = omega arith
-widest_more (first ∷ records) fields = rw (widest_more records fields) (omega arith)
+widest_more records fields =
+    max_push widest length refl (λ (first : Fields) (rest : List Fields). refl) records fields
 
 -- the first of what is left, and the end
 pub first_left : (old new : Option (List Fields)) (fields : Fields) → IsSome old → TakesFirst old new fields

@@ -1,7 +1,7 @@
 -- Stops that are alike, and the first of them.
 use Rattle.std.proofs.Common.{◌≡◌, ◌≤◌, ◌<◌, ◌+◌, ◌∙◌, ◌++◌, ◌||◌, ℕ, zero, suc, Bool, true, false, not, cond, List, []}
-use Rattle.std.proofs.Common.{◌∷◌, ap, append-nil, arith, count_by, filter, get_or, inl, inr, length, map, refl, set}
-use Rattle.std.proofs.Common.{sym, take, Some, option_map, slice_get}
+use Rattle.std.proofs.Common.{◌∷◌, ap, append-nil, arith, count_by, drop, filter, get_or, inl, inr, length, map, refl, set}
+use Rattle.std.proofs.Common.{sym, take, Some, slice_get}
 use Rattle.sheets.proofs.Common.{list_any, NameStop, NameCount, is_alike, name_seen, UnknownName}
 use Rattle.std.specs.Prelude.{⊤}
 use Rattle.std.specs.Cmp.{IsEquivalence}
@@ -10,15 +10,16 @@ use Rattle.std.proofs.lemmas.Bool.{cases_Bool, or_parts}
 use Rattle.std.proofs.lemmas.Cmp.{and_equiv, nat_eq_equiv, on_equiv}
 use Rattle.std.specs.Cmp.Lexicographic.{options_equiv}
 use Rattle.std.proofs.lemmas.List.{get_or-map, length-append, length-map, length-take, map-append, take-append-le}
-use Rattle.std.proofs.lemmas.List.{take_all}
+use Rattle.std.proofs.lemmas.List.{take-append-drop, take_all}
 use Rattle.std.proofs.lemmas.List.Elements.{filter-append}
-use Rattle.std.proofs.lemmas.Option.{get_or_from_slice_get, slice_get-map, slice_get_read, slice_get_within}
+use Rattle.std.proofs.lemmas.Option.{get_or_from_slice_get, slice_get_within}
 use Rattle.std.proofs.lemmas.List.Folds.{list_any-append, list_any_at, list_any_more}
 use Rattle.std.proofs.lemmas.List.Sums.{sum_by-cons, sum_by_push}
 use Rattle.written_dates.specs.Calendars.{place}
 use Rattle.written_dates.proofs.WordLemmas.{same_word_equiv}
 use Rattle.sheets.specs.UnknownNames.{AreNames, counted, firsts, is_other}
 use Rattle.sheets.specs.private.UnknownViews.{named}
+use Rattle.sheets.proofs.RowLemmas.{seen_at}
 
 pub alike_equiv : IsEquivalence is_alike
 alike_equiv =
@@ -67,10 +68,7 @@ firsts_apart [] = tt
 firsts_apart (x ∷ xs) = (none_alike x (firsts xs), apart_filtered _ (firsts xs) (firsts_apart xs))
 
 none_taken : (q : NameStop → Bool) (k : ℕ) (xs : List NameStop) → list_any q xs ≡ false → list_any q (take k xs) ≡ false
-none_taken q zero xs e = refl
-none_taken q (suc k) [] e = refl
-none_taken q (suc k) (x ∷ xs) e =
-    let (differs, none) = or_parts (q x) (list_any q xs) e in rw differs (none_taken q k xs none)
+none_taken q k xs e = grind (arith, list_any-append q (take k xs) (drop k xs), take-append-drop k xs)
 
 pub taken_apart : (k : ℕ) (xs : List NameStop) → AreApart xs → AreApart (take k xs)
 taken_apart zero xs h = tt
@@ -289,14 +287,13 @@ names_full most stops stop names more are full none =
 pub named_are : (stops : List NameStop) (items : List UnknownName) (names : List NameStop)
     → map name_seen items ≡ map (counted stops) names → map named items ≡ names
 named_are stops [] [] e = refl
-named_are stops [] (n ∷ names) e = absurd (cc)
-named_are stops (x ∷ items) [] e = absurd (cc)
 named_are stops (x ∷ items) (n ∷ names) e =
     let first : name_seen x ≡ counted stops n = cc in
     let rest : map name_seen items ≡ map (counted stops) names = cc in
     let same : named x ≡ n = ap (λ (c : NameCount). (c.0, c.1)) first in
     let more = named_are stops items names rest in
     cc
+named_are stops items names e = absurd (cc)
 
 -- the name at this place is that of the stop
 pub name_counted : (most : ℕ) (stops : List NameStop) (stop : NameStop) (items new : List UnknownName) (more k : ℕ)
@@ -319,8 +316,7 @@ name_counted most stops stop items new more k name e are found is made =
 -- the name at a place, and those before it
 pub named_at : (items : List UnknownName) (k : ℕ) (x : UnknownName) → k < length items → x ≡ get_or items k x
     → slice_get (map named items) k ≡ Some (named x)
-named_at items k x lt is =
-    slice_get-map named items k ∙ ap (option_map named) (slice_get_read items (length items) k x refl lt is)
+named_at items k x lt is = seen_at named items k x lt is
 
 pub none_more : (stop : NameStop) (items : List UnknownName) (k : ℕ) (x : UnknownName) → k < length items
     → x ≡ get_or items k x → is_alike (named x) stop ≡ false → has (take k (map named items)) stop ≡ false

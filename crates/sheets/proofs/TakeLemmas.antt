@@ -1,6 +1,8 @@
 -- Records that are noted, and whose lines are made, one after the other.
-use Rattle.std.proofs.Common.{◌≡◌, ◌∙◌, ◌++◌, ◌+◌, ℕ, zero, suc, List, [], ◌∷◌, Some, ap, append-nil, append_assoc}
+use Rattle.std.proofs.Common.{◌≡◌, ◌∙◌, ◌++◌, ◌+◌, ℕ, List, [], ◌∷◌, Some, ap, append-nil, append_assoc}
 use Rattle.std.proofs.Common.{arith, inl, inr, length, length-append, refl, subst, sym, ◌⊎◌, slice_get}
+use Rattle.std.proofs.lemmas.List.{get_or_append_left, get_or_push, length_push}
+use Rattle.std.proofs.lemmas.Option.{gets}
 use Rattle.sheets.proofs.Common.{Fields, Waits, HasNotes, AreRegisterWriters, Takes, line_of_entry, RecordRead}
 use Rattle.sheets.proofs.Common.{SheetChoice, LineWriter, EntryLine}
 use Rattle.register_records.specs.declared.outputs.Output as outputs
@@ -38,13 +40,9 @@ module _ {M W : Type 0} (o : outputs.Ghosts W) (line : M → SheetChoice → Rec
         }
 
 -- one writer of a register more
-appended : {X : Type 0} (xs : List X) (x y : X) (place : ℕ) → slice_get (xs ++ x ∷ []) place ≡ Some y
+pub appended : {X : Type 0} (xs : List X) (x y : X) (place : ℕ) → slice_get (xs ++ x ∷ []) place ≡ Some y
     → (slice_get xs place ≡ Some y) ⊎ ((place ≡ length xs) × (x ≡ y))
-appended [] x y zero e = inr (refl, cc)
-appended [] x y (suc place) e = absurd (cc)
-appended (z ∷ xs) x y zero e = inl e
-appended (z ∷ xs) x y (suc place) e =
-    elim (appended xs x y place e) [ inl found ↦ inl found | inr last ↦ inr (ap suc last.0, last.1) ]
+appended xs x y place e = grind (arith, gets, get_or_append_left, get_or_push, length_push)
 
 pub no_writers : (d columns : ℕ) (writers : List (LineWriter EntryLine)) → writers ≡ []
     → AreRegisterWriters d columns 0 writers

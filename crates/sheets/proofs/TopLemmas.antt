@@ -1,12 +1,16 @@
 -- What stands in a sheet down to its names.
-use Rattle.std.proofs.Common.{◌≡◌, ◌≤◌, ◌<◌, ◌∙◌, ◌++◌, ◌+◌, ℕ, List, [], ◌∷◌, ap, append-nil, append_assoc, drop}
+use Rattle.std.proofs.Common.{◌≡◌, ◌≤◌, ◌<◌, ◌∙◌, ◌++◌, ◌+◌, ◌-◌, ℕ, List, [], ◌∷◌, ap, append-nil, append_assoc, arith, drop}
 use Rattle.std.proofs.Common.{get_or, length, map, refl, sym, take}
 use Rattle.sheets.proofs.Common.{Fields, top_records, SheetChoice}
-use Rattle.std.proofs.lemmas.List.{take-append-drop, take_more}
+use Rattle.std.proofs.lemmas.List.{take-append-drop, take-take, take_more}
 use Rattle.sheets.specs.Sheets.{filled}
 use Rattle.sheets.proofs.RowLemmas.{same_head}
-use Rattle.sheets.proofs.SendingLemmas.{taken_twice}
-use Rattle.sheets.proofs.WidthLemmas.{none_filled}
+
+-- no field is added up to none
+none_filled : (fields : Fields) → filled 0 fields ≡ fields
+none_filled fields =
+    let none : 0 - length fields ≡ 0 = omega arith in
+    rw none (append-nil fields)
 
 -- one record more
 pub top_line : (all left : List Fields) (k : ℕ) (lines : Fields) → lines ≡ [] → k < length all → left ≡ drop k all
@@ -33,6 +37,6 @@ pub top_cut : (choice : SheetChoice) (width k : ℕ) (all : List Fields) → k �
 top_cut choice width k all low =
     let head = filled width (get_or (drop choice.above all) 0 []) ++ map (λ name. name.now) choice.headings.now in
     ap (λ (xs : List Fields). xs ++ head ∷ [])
-    (sym (ap (λ (xs : List Fields). xs ++ drop k (take choice.above all)) (sym (taken_twice k choice.above all low))
+    (sym (ap (λ (xs : List Fields). xs ++ drop k (take choice.above all)) (sym (take-take k choice.above all low))
     ∙ take-append-drop k (take choice.above all)))
     ∙ append_assoc (take k all) (drop k (take choice.above all)) (head ∷ [])

@@ -22,7 +22,7 @@ use Rattle.written_dates.specs.declared.calendars.Form.{Form}
 use Rattle.written_dates.specs.declared.calendars.Form.TheVariants as forms
 use Rattle.written_dates.specs.declared.fields.CalendarMeaning.TheVariants.{Both, Changed, One}
 use Rattle.written_dates.specs.declared.written.Choice.{Choice}
-use Rattle.sheets.specs.CalendarChanges.{EndText, IsAtChange, before, behind, left_out}
+use Rattle.sheets.specs.CalendarChanges.{EndText, IsAtChange, before}
 use Rattle.sheets.specs.Choices.{date_text}
 use Rattle.sheets.specs.DateEnds.{AreEndsBy, marks_at_change}
 use Rattle.sheets.specs.DateStops.{IsStopIn}
@@ -44,14 +44,8 @@ no_unread e = cc
 -- ---- what is said
 of_saying : (choice : Choice) (calendar : Calendar) (text : List ℕ) (saying : Said) (first last : List ℕ)
     (turned : Bool) → AreEndsSaid choice calendar text saying first last turned → kind_of saying ≡ kinds.Undated → first ≡ []
-of_saying choice calendar text (sayings.One e) first last turned h kind = absurd (cc)
-of_saying choice calendar text (sayings.Range a b) first last turned h kind = absurd (cc)
-of_saying choice calendar text (sayings.Between a b) first last turned h kind = absurd (cc)
-of_saying choice calendar text (sayings.Before e) first last turned h kind = absurd (cc)
-of_saying choice calendar text (sayings.After e) first last turned h kind = absurd (cc)
-of_saying choice calendar text (sayings.From e) first last turned h kind = absurd (cc)
-of_saying choice calendar text (sayings.Until e) first last turned h kind = absurd (cc)
 of_saying choice calendar text sayings.Undated first last turned h kind = h.0
+of_saying choice calendar text saying first last turned h kind = absurd (cc)
 
 of_turned : (choice : Choice) (calendar : Calendar) (text : List ℕ) (saying : Said) (first last : List ℕ)
     (turned about uncertain : Bool) → AreEndsSaid choice calendar text saying first last turned
@@ -108,24 +102,20 @@ by_form : (f : Form) (choice : Choice) (calendar : Calendar) (names : List Name)
     → first ≡ []
 by_form forms.Civil choice calendar names text first last found h kind =
     of_civil choice calendar names text (without_brackets text) first last found h kind
-by_form forms.Roman choice calendar names text first last found h kind = absurd (no_one (kind_as _ _ h.2 kind))
-by_form forms.Other choice calendar names text first last found h kind = absurd (no_one (kind_as _ _ h.2 kind))
+by_form other choice calendar names text first last found h kind = absurd (no_one (kind_as _ _ h.2 kind))
 
 -- ---- the ends of a date of a sheet: they are in a calendar
 of_ends : (kind : Spans) (reading : Choice) (calendar : Calendar) (names : List Name) (field first last : List ℕ)
     (found : Marks) → AreEndsBy kind reading (Some calendar) names field first last found
     → found.kind ≡ kinds.Undated → first ≡ []
 of_ends spans.Unread reading calendar names field first last found h is = absurd (no_one (kind_as _ _ h.2 is))
-of_ends spans.Ends reading calendar names field first last found h is =
-    by_form (form calendar) reading calendar names field first last found h is
-of_ends spans.EndsAndEdtf reading calendar names field first last found h is =
+of_ends kind reading calendar names field first last found h is =
     by_form (form calendar) reading calendar names field first last found h is
 
 in_none : (kind : Spans) (reading : Choice) (names : List Name) (field first last : List ℕ) (found : Marks)
     → AreEndsBy kind reading None names field first last found → found.kind ≡ kinds.Undated → ⊥
 in_none spans.Unread reading names field first last found h is = no_one (kind_as _ _ h.2 is)
-in_none spans.Ends reading names field first last found h is = no_unread (kind_as _ _ h.2 is)
-in_none spans.EndsAndEdtf reading names field first last found h is = no_unread (kind_as _ _ h.2 is)
+in_none kind reading names field first last found h is = no_unread (kind_as _ _ h.2 is)
 
 at_change : (from : ℤ) (julian gregorian : List ℕ) (first : EndText) (old new found : Marks)
     → IsAtChange from julian gregorian first → found ≡ marks_at_change first.calendar old new
@@ -133,9 +123,7 @@ at_change : (from : ℤ) (julian gregorian : List ℕ) (first : EndText) (old ne
     → (new.kind ≡ kinds.Undated → gregorian ≡ []) → first.text ≡ []
 at_change from julian gregorian first old new found (before is) marks kind in_old in_new =
     in_old (kind_as _ _ marks kind)
-at_change from julian gregorian first old new found (left_out none is) marks kind in_old in_new =
-    in_new (kind_as _ _ marks kind)
-at_change from julian gregorian first old new found (behind none other) marks kind in_old in_new =
+at_change from julian gregorian first old new found other marks kind in_old in_new =
     in_new (kind_as _ _ marks kind)
 
 first_of : (meant : CalendarMeaning) (kind : Spans) (reading : Choice) (names : List Name) (field : List ℕ)
@@ -177,8 +165,7 @@ no_stop (Some meant) choice column fields first last found stop ends kind h =
 -- no short year either
 no_short : (a b : Bool) (kind : Kind) → kind ≡ kinds.Undated → (a && b && not (says_open kind)) ≡ false
 no_short true true kind is = ap (λ (k : Kind). not (says_open k)) is
-no_short true false kind is = refl
-no_short false b kind is = refl
+no_short a b kind is = refl
 
 pub undated_is_not_unread : UndatedIsNotUnread
 undated_is_not_unread choice date first last found stop ends kind stopped =

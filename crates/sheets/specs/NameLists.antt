@@ -1,7 +1,7 @@
 -- Lists of names: a CSV text with the columns `name`, `means` and `in`, by a form of this project.
 use Rattle.std.specs.Prelude.{◌≡◌, ◌≢◌, ◌+◌, ◌==◌, ◌++◌, ℕ, Bool, true, false, List, [], ◌∷◌, ⊤, All, Any, codes}
 use Rattle.std.specs.Prelude.{get_or, length, map, Option, None, Some, IsUtf8}
-use Rattle.std.specs.List.{flat_map, list_any, slice_split}
+use Rattle.std.specs.List.{AllZip, flat_map, list_any, slice_split}
 use Rattle.std.specs.Str.{bytes_eq, str_to_ascii_lowercase}
 use Rattle.date_texts.specs.Calendars.{all_calendars, calendar_name}
 use Rattle.date_texts.specs.Names.{IsNamed}
@@ -62,10 +62,7 @@ pub record IsLine (fields : Fields) (line : NameLine) : Type 0 where
 
 -- these records say this of names, one for one
 abbrev pub AreLines : List Fields → List NameLine → Type 0
-AreLines [] [] = ⊤
-AreLines [] (line ∷ lines) = ⊥
-AreLines (fields ∷ records) [] = ⊥
-AreLines (fields ∷ records) (line ∷ lines) = IsLine fields line × AreLines records lines
+AreLines records lines = AllZip IsLine records lines
 
 -- the names of the first columns
 abbrev pub columns : List (List ℕ)

@@ -10,7 +10,7 @@ ghost use Rattle.sheets.specs.Sheets.{widest};
 
 use crate::choices::{SheetChoice, SheetSetup};
 use crate::line_writers::{LineWriter, finish_each};
-use crate::reading::{read_next, records_of};
+use crate::reading::{pass_names, read_next, records_of};
 use crate::record_lines::BodyLine;
 use crate::sheet_ends::{SheetCause, SheetEnd};
 use crate::sheet_notes::SheetNotes;
@@ -43,17 +43,15 @@ fn width_of(
 {
     let mut records = records_of(alloc, sheet, delimiter);
     let mut record = ByteRecord::new(alloc);
-    let mut width = None;
-    let mut count: u32 = 0;
+    if !pass_names(&mut records, &mut record, above)? {
+        return Ok(None);
+    }
+    let mut width = record.len();
     'records: loop {
         if !read_next(&mut records, &mut record)? {
-            return Ok(width);
+            return Ok(Some(width));
         }
-        if count < above {
-            count += 1;
-        } else {
-            width = Some(usize::max(record.len(), width.unwrap_or(0)));
-        }
+        width = usize::max(record.len(), width);
     }
 }
 

@@ -5,7 +5,8 @@ use Rattle.sheet_app.proofs.Common.{ending_of, names_ending, sheet_name, source_
 use Rattle.std.proofs.lemmas.List.{nil_from_length}
 use Rattle.sheet_app.specs.declared.file_sheets.FileSheet.{FileSheet}
 use Rattle.sheet_app.proofs.FaultLemmas.{handed, of_left, of_more}
-use Rattle.sheet_app.proofs.ListLemmas.{each_more, first_of_left, made_more, others_left}
+use Rattle.std.proofs.lemmas.List.Elements.{All-rest}
+use Rattle.sheet_app.proofs.ListLemmas.{each_more, first_of_left, made_more}
 use Rattle.sheet_app.proofs.NameLemmas.{listed_more}
 use Rattle.sheet_app.proofs.file_sheets.make_sheets.Goals as goal
 
@@ -25,7 +26,7 @@ sources-preserved g c =
       named = made_more sheet_name source_name _ c.sources.sheets.items c.push.new.self.items c.in_ok-sheet.sheet
           (into_iter_items before) (into_iter_items c.next.new.self) opened pushed c.in_ok-sheet.ensures.named left
           c.sources.invariant.named;
-      opened = others_left IsOpened (into_iter_items before) (into_iter_items c.next.new.self) opened left
+      opened = All-rest IsOpened opened (into_iter_items c.next.new.self) (into_iter_items before) left
           c.sources.invariant.opened;
       made = each_more IsMade c.sources.sheets.items c.push.new.self.items c.in_ok-sheet.sheet pushed
           c.sources.invariant.made (c.in_ok-sheet.ensures.made first);

@@ -4,7 +4,8 @@ use Rattle.sheet_app.proofs.Common.{Bor, string_bytes, Task, task_of, AreTwoOutp
 use Rattle.sheet_app.proofs.Common.{names_ending, source_name, IsOfOutputs, OpenedFile}
 use Rattle.sheet_app.specs.FileSheets.{outputs_of, register_endings}
 use Rattle.sheet_app.specs.ProgramFaults.{IsFaultOfFiles}
-use Rattle.sheet_app.proofs.FaultLemmas.{handed, of_inputs, of_outputs, on_err}
+use Rattle.std.proofs.lemmas.Result.{IfErr-weaker}
+use Rattle.sheet_app.proofs.FaultLemmas.{handed, of_inputs, of_outputs}
 use Rattle.sheet_app.proofs.NameLemmas.{on_ok, same_names}
 use Rattle.sheet_app.proofs.file_sheets.open_sheets.Goals as goal
 
@@ -72,7 +73,7 @@ returns-clause-fault g c =
     let opened = c.in_ok-sources.sources.items in
     let named : map source_name opened ≡ task.files = rw c.as_slice.ensures.value at c.in_ok-sources.ensures.named in
     let names = λ (file : OpenedFile g.row.R.Denot). names_ending (ending_of task) string_bytes endings (source_name file) in
-    on_err (IsOfOutputs (flat_map names opened)) (IsFaultOfFiles task) c.make_sheets.result
+    IfErr-weaker c.make_sheets.result (IsOfOutputs (flat_map names opened)) (IsFaultOfFiles task)
     (λ fault. of_outputs task (flat_map names opened) fault
     (names_by task (source_name {R = g.row.R.Denot}) endings opened c.in_ok-endings.ensures named))
     (rw c.as_slice-4.ensures.value at c.make_sheets.ensures.missing)

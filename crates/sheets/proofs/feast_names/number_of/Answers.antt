@@ -1,4 +1,4 @@
-use Rattle.std.proofs.Common.{◌≡◌, ◌∙◌, FitsSigned, to_z-of_z, ℤ, List, ℕ, w16, rules, Err, Ok, Result, ap, sym}
+use Rattle.std.proofs.Common.{◌≡◌, ◌∙◌, FitsSigned, to_z-of_z, ℤ, List, ℕ, w16, rules, Ok, Result, ap, sym}
 use Rattle.std.proofs.lemmas.Bool.{true≢false}
 use Rattle.std.specs.Fmt.{signed_decimal}
 use Rattle.std.specs.Str.Parse.{ParsesSigned}
@@ -14,20 +14,14 @@ parsed : {E : Type 0} (number : ℤ) (field : List ℕ) (read : Result ℤ E) �
 parsed number field read few is parses =
     parse-signed_decimal w16 number field read (search (rules, ints)) (few_mag number few) is parses
 
-same_read : {E : Type 0} (read : Result ℤ E) (a b : ℤ) → read ≡ Ok a → read ≡ Ok b → a ≡ b
-same_read read a b one other = cc
-
-not_read : {E : Type 0} (read : Result ℤ E) (a : ℤ) (e : E) → read ≡ Err e → read ≡ Ok a → ⊥
-not_read read a e one other = cc
-
 pub returns-in_default-clause-none : goal.returns-in_default-clause-none
 returns-in_default-clause-none c none number fits is =
     let read = parsed number _ _ fits is c.parse.ensures.value.0 in
-    let same = same_read _ c.in-Ok.number number c.in-Ok.is read in
+    let same : c.in-Ok.number ≡ number = cc (c.in-Ok.is, read) in
     let fits : FitsSigned w16 c.in-Ok.number = search rules in
     true≢false (sym (c.is_decimal.ensures.1 (is ∙ ap signed_decimal (sym same ∙ sym (to_z-of_z fits))))
     ∙ c.if-is_decimal.false)
 
 pub returns-in_default-2-clause-none : goal.returns-in_default-2-clause-none
 returns-in_default-2-clause-none c none number fits is =
-    not_read _ number _ c.in_default.is (parsed number _ _ fits is c.parse.ensures.value.0)
+    absurd (cc (c.in_default.is, parsed number _ _ fits is c.parse.ensures.value.0))

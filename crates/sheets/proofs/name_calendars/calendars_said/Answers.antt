@@ -1,5 +1,5 @@
 use Rattle.std.proofs.Common.{rules, ◌∙◌, sym, ap, arith, map, slice_set, true, Bor, List, ℕ, [], ◌∷◌, ◌≡◌, ◌==◌, Bool}
-use Rattle.std.proofs.Common.{None, Some, length, refl}
+use Rattle.std.proofs.Common.{length, refl}
 use Rattle.sheets.proofs.Common.{named_by}
 use Rattle.std.proofs.lemmas.List.{map-append}
 use Rattle.std.proofs.lemmas.List.Elements.{All-append}
@@ -7,6 +7,7 @@ use Rattle.std.proofs.lemmas.Iterator.Consumers.{YieldsList-end, YieldsList-turn
 use Rattle.written_dates.specs.Calendars.{place}
 use Rattle.sheets.specs.NameLists.{IsCalendar}
 use Rattle.std.proofs.lemmas.Bool.Decides.{nat_tests}
+use Rattle.std.proofs.lemmas.Option.{none-some}
 use Rattle.sheets.proofs.NameListLemmas.{named_more, names_of_split}
 use Rattle.sheets.proofs.name_calendars.calendars_said.Goals as goal
 
@@ -47,15 +48,12 @@ no_byte : (field : List ℕ) (none : Bool) → none ≡ (length field == 0) → 
 no_byte [] none is h = refl
 no_byte (b ∷ field) none is h = grind (arith, nat_tests)
 
-some_none : {A : Type 0} (x : A) → Some x ≡ None → ⊥
-some_none x e = cc
-
 pub returns-then-is_empty : goal.returns-then-is_empty
 returns-then-is_empty c =
     let none = no_byte c.args.field.now _ c.is_empty.ensures c.if-is_empty.true in
     record {
       some = record { everywhere = λ _. refl; named = λ some. absurd (some none); known = λ some. absurd (some none) };
-      none = λ e. absurd (some_none _ e);
+      none = λ e. absurd (none-some _ (sym e));
     }
 
 pub names-init : goal.names-init
@@ -65,4 +63,4 @@ pub returns-in_err-calendar_named-clause-some : goal.returns-in_err-calendar_nam
 returns-in_err-calendar_named-clause-some c = rw c.from_residual.ensures tt
 
 pub returns-clause-none : goal.returns-clause-none
-returns-clause-none c = λ e. absurd (some_none _ e)
+returns-clause-none c = λ e. absurd (none-some _ (sym e))

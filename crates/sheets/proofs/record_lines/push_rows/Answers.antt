@@ -4,7 +4,7 @@ use Rattle.std.proofs.lemmas.List.{length-map}
 use Rattle.sheets.specs.Converted.{dated_fields}
 use Rattle.sheets.proofs.LineLemmas.{both_gained, gained_as, none_gained}
 use Rattle.sheets.proofs.ReadingLemmas.{rows_in}
-use Rattle.sheets.proofs.RowLemmas.{flat_more, map_more}
+use Rattle.sheets.proofs.RowLemmas.{flat_more, seen_more}
 use Rattle.sheets.proofs.record_lines.push_rows.Goals as goal
 
 pub columns-preserved : goal.columns-preserved
@@ -14,7 +14,7 @@ columns-preserved c =
     let column = c.dates-item.result in
     subst (λ (more : List (List ℕ)). GainsFields more c.args.lines.now c.push_dated.new.lines)
     (sym (flat_more (dated_fields c.args.setup.now.choice) (take (i + 1) (map dated_seen columns))
-    (take i (map dated_seen columns)) (dated_seen column) (map_more dated_seen columns i column c.columns-test.true
+    (take i (map dated_seen columns)) (dated_seen column) (seen_more dated_seen columns i column c.columns-test.true
     c.dates-item.is))) (both_gained _ _ c.args.lines.now c.columns.lines c.push_dated.new.lines c.columns.invariant
     c.in_ok-push_dated.ensures)
 

@@ -1,11 +1,11 @@
-use Rattle.std.proofs.Common.{◌∙◌, ◌++◌, [], List, ap, append-nil, drop, map, refl, subst, sym}
+use Rattle.std.proofs.Common.{◌∙◌, ◌++◌, [], List, ap, append-nil, map, refl, subst, sym}
 use Rattle.sheets.proofs.Common.{Fields, below, Makes, body_line, top_records, HasReadSheet, line_of_entry}
+use Rattle.std.proofs.lemmas.List.{drop-drop}
 use Rattle.sheets.specs.Converted.{records_by}
 use Rattle.sheets.specs.declared.record_lines.BodyLine.{BodyLine}
 use Rattle.sheets.proofs.EachLemmas.{each_none}
 use Rattle.sheets.proofs.LineWriterLemmas.{makes_both}
 use Rattle.sheets.proofs.OutputLemmas.{none_read}
-use Rattle.sheets.proofs.RowLemmas.{below_names}
 use Rattle.sheets.proofs.sheet_readings.read_sheet.Goals as goal
 
 pub read_below-requires-clause-ready : goal.read_below-requires-clause-ready
@@ -34,10 +34,9 @@ returns g c =
     let old = c.args.writers.now in
     let width = old.sheet.maker.width in
     let top = rw c.records_of-records.ensures.left at c.copy_top.ensures.made in
-    let left = drop choice.above records in
     let all = c.read_below.ensures in
     let under = (rw c.records_of-records.ensures.left at c.in_ok-copy_top.ensures.left)
-    ∙ below_names choice records left (drop 1 left) refl refl in
+    ∙ drop-drop 1 choice.above records in
     record {
       reads = all.reads;
       read = subst (λ (xs : List Fields). HasReadSheet choice xs all.reads c.read_below.result) under all.read;

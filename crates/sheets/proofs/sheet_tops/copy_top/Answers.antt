@@ -1,8 +1,8 @@
 use Rattle.std.proofs.Common.{◌≡◌, ◌∙◌, ◌+◌, ap, arith, drop, refl, take}
 use Rattle.sheets.proofs.Common.{left_of, top_records}
+use Rattle.std.proofs.lemmas.List.{drop-drop}
 use Rattle.sheets.proofs.LineWriterLemmas.{makes_both}
 use Rattle.sheets.proofs.ReadingLemmas.{begun_reads}
-use Rattle.sheets.proofs.RowLemmas.{drop_both}
 use Rattle.sheets.proofs.TopLemmas.{rest_of_top, top_cut, top_head, top_line}
 use Rattle.sheets.proofs.sheet_tops.copy_top.Goals as goal
 
@@ -13,7 +13,7 @@ above-preserved g c =
     let k = c.above.counter in
     record {
       reading = begun_reads c.copy_next.new.records c.in_default.ensures.reading;
-      left = c.in_default.ensures.left ∙ ap (drop 1) inv.left ∙ drop_both k 1 (k + 1) all refl;
+      left = c.in_default.ensures.left ∙ ap (drop 1) inv.left ∙ drop-drop 1 k all;
       made = makes_both g.W.Output (take k all) _ (take (k + 1) all) c.args.writer.now c.above.writer
           c.copy_next.new.writer c.args.output.now c.above.output c.copy_next.new.output
           (top_line all (left_of c.above.records) k _ refl (omega (arith, c.above-test.true, c.requires.named))

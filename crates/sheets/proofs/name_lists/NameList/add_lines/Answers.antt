@@ -3,8 +3,9 @@ use Rattle.std.proofs.Common.{append-nil, false, subst}
 use Rattle.sheets.proofs.Common.{Fields, fields_of, left_of}
 use Rattle.register_records.proofs.StepLemmas.{passed_on}
 use Rattle.sheets.proofs.SendingLemmas.{no_value}
-use Rattle.sheets.specs.NameLists.{IsFaultOf, IsListOf}
-use Rattle.sheets.proofs.NameListLemmas.{first_fault, lines_more}
+use Rattle.std.proofs.lemmas.Slice.Zip.{all_zipped_more}
+use Rattle.sheets.specs.NameLists.{IsFaultOf, IsLine, IsListOf}
+use Rattle.sheets.proofs.NameListLemmas.{first_fault}
 use Rattle.sheets.proofs.name_lists.NameList.add_lines.Goals as goal
 
 pub returns-in_err-line-clause-fault : goal.returns-in_err-line-clause-fault
@@ -32,7 +33,7 @@ records-preserved c =
         header,
         before ++ fields_of c.read_next-in-records.new.record ∷ [],
         is,
-        rw items (lines_more before _ _ _ are line),
+        rw items (all_zipped_more IsLine before _ _ _ are line),
         text ∙ ap (λ rest. header ∷ before ++ rest) found ∙ ap (λ rest. header ∷ rest) (sym (append_assoc before _ _)),
       );
     }

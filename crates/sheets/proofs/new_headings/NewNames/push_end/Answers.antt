@@ -1,7 +1,8 @@
 use Rattle.std.proofs.Common.{◌≡◌, ◌∙◌, ◌∷◌, [], ap, get_or, map, subst, take, take_all}
 use Rattle.sheets.proofs.Common.{fields_of, Fields, NamesMore, wanted_all, asked_behind, DayNumber}
 use Rattle.sheets.specs.Headings.{behind}
-use Rattle.sheets.proofs.HeadingLemmas.{name_more, then_all}
+use Rattle.std.proofs.lemmas.List.{map_more}
+use Rattle.sheets.proofs.HeadingLemmas.{then_all}
 use Rattle.sheets.proofs.new_headings.NewNames.push_end.Goals as goal
 
 pub columns-preserved : goal.columns-preserved
@@ -12,7 +13,7 @@ columns-preserved c =
     let name : c.as_slice.result.now ≡ f (get_or columns i DayNumber)
     = c.as_slice.ensures.value ∙ c.in_ok-join.ensures ∙ ap (behind c.args.end.now) c.asked_name.ensures in
     then_all c.args.several c.args.date.now (map f (take i columns)) (f (get_or columns i DayNumber) ∷ []) _
-    c.args.self.now c.columns.self c.push_for.new.self (name_more f columns i DayNumber c.columns-test.true)
+    c.args.self.now c.columns.self c.push_for.new.self (map_more f columns i DayNumber c.columns-test.true)
     c.columns.invariant (rw name at c.in_ok-push_for.ensures)
 
 pub returns : goal.returns

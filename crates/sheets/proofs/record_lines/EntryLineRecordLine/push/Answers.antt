@@ -1,9 +1,10 @@
-use Rattle.std.proofs.Common.{◌≡◌, ◌≤◌, ◌∙◌, None, Some, ap, length, rules, subst, sym, OnOk, slice_get}
-use Rattle.sheets.proofs.Common.{Fields, GainsFields, date_seen, record_read, ColumnDates}
-use Rattle.std.proofs.lemmas.Option.{slice_get-get_or}
+use Rattle.std.proofs.Common.{◌≤◌, ap, arith, length, map, rules, subst, sym, OnOk}
+use Rattle.sheets.proofs.Common.{Fields, GainsFields, date_seen, record_read}
+use Rattle.std.proofs.lemmas.List.{length-map}
+use Rattle.std.proofs.lemmas.Option.{slice_get_past}
 use Rattle.sheets.specs.private.RecordLines.{if_dated}
 use Rattle.sheets.proofs.LineLemmas.{none_gained}
-use Rattle.sheets.proofs.RowLemmas.{none_behind, none_seen, seen_at}
+use Rattle.sheets.proofs.RowLemmas.{seen_at}
 use Rattle.sheets.proofs.record_lines.EntryLineRecordLine.push.Goals as goal
 
 pub returns-in-Some : goal.returns-in-Some
@@ -15,10 +16,8 @@ returns-in-Some c =
     let columns = c.args.of_sheet.now.columns.items in
     let dates = c.in-Some.dates.now in
     let found = rw c.deref.ensures.value at c.in-Some.ensures.lookup in
-    let there : slice_get columns place ≡ Some dates
-    = slice_get-get_or columns place dates found.3.0 ∙ ap (λ (d : ColumnDates). Some d) (sym found.1) in
     subst (λ (fields : Fields). OnOk c.push_entry.result (GainsFields fields c.args.lines.now c.push_entry.new.lines))
-    (sym (ap (if_dated choice read end) (seen_at date_seen columns place c.in-Some.dates.now there))) c.push_entry.ensures
+    (sym (ap (if_dated choice read end) (seen_at date_seen columns place dates found.3.0 found.1))) c.push_entry.ensures
 
 pub returns-in-None : goal.returns-in-None
 returns-in-None c =
@@ -28,6 +27,6 @@ returns-in-None c =
     let end = c.args.self.now.end in
     let columns = c.args.of_sheet.now.columns.items in
     let past : length columns ≤ place = search rules in
-    let none : slice_get columns place ≡ None = none_behind columns place past in
     subst (λ (fields : Fields). GainsFields fields c.args.lines.now c.args.lines.now)
-    (sym (ap (if_dated choice read end) (none_seen date_seen columns place none))) (none_gained c.args.lines.now)
+    (sym (ap (if_dated choice read end) (slice_get_past (map date_seen columns) place
+    (omega (arith, past, length-map columns date_seen))))) (none_gained c.args.lines.now)

@@ -1,14 +1,11 @@
-use Rattle.std.proofs.Common.{None, ◌≡◌, ◌++◌, append-nil, arith, length-append, length-take, List, map, subst, sym}
+use Rattle.std.proofs.Common.{◌≡◌, ◌++◌, append-nil, arith, length-append, length-take, List, map, subst, sym}
 use Rattle.std.proofs.Common.{take, take_all}
 use Rattle.sheets.proofs.Common.{fields_of, HasFound, SheetDate, DateColumn}
 use Rattle.std.proofs.lemmas.List.{length-map}
-use Rattle.sheets.specs.declared.choices.CalendarField.TheVariants as calendar
 use Rattle.sheets.proofs.FoundLemmas.{dates_taken}
 use Rattle.sheets.proofs.NoteLemmas.{columns_count, date_at_place}
+use Rattle.sheets.proofs.RowLemmas.{no_column}
 use Rattle.sheets.proofs.sheet_notes.Found.add_record.Goals as goal
-
-abbrev none : DateColumn
-none = record { date = 0; calendar = calendar.Column (record { place = 0; otherwise = None }) }
 
 pub dates-init : goal.dates-init
 dates-init c dates most found =
@@ -20,7 +17,7 @@ dates-preserved c dates most found =
     let fields = fields_of c.args.of_sheet.now.fields in
     let f : DateColumn → SheetDate = λ column. (column, fields) in
     subst (λ (all : List SheetDate). HasFound c.args.choice.now all most c.add_date.new.self)
-    (dates_taken dates columns fields c.dates.place none c.dates-test.true)
+    (dates_taken dates columns fields c.dates.place no_column c.dates-test.true)
     (c.add_date.ensures (dates ++ map f (take c.dates.place columns)) most (c.dates.invariant dates most found))
 
 pub returns : goal.returns
@@ -53,7 +50,7 @@ add_date-requires c =
     let f : DateColumn → SheetDate = λ column. (column, fields) in
     let done = map f (take c.dates.place columns) in
     let same = columns_count choice of_sheet.number fields columns of_sheet.columns.items c.requires.read in
-    let is = date_at_place choice of_sheet.number fields columns of_sheet.columns.items c.dates.place none
+    let is = date_at_place choice of_sheet.number fields columns of_sheet.columns.items c.dates.place no_column
     c.index.result.now c.requires.read c.dates-test.true (omega (arith, same, c.dates-test.true)) c.index.ensures in
     record {
       space = record {

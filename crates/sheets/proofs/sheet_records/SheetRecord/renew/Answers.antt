@@ -1,12 +1,8 @@
-use Rattle.std.proofs.Common.{None, ◌<◌, ◌∙◌, ◌+◌, List, arith, length, length-set, subst, sym, take}
+use Rattle.std.proofs.Common.{◌<◌, ◌∙◌, ◌+◌, List, arith, length, length-set, subst, sym, take}
 use Rattle.sheets.proofs.Common.{AllZip, fields_of, DateRead, IsDateRead, date_seen, DateColumn, ColumnDates}
-use Rattle.sheets.specs.declared.choices.CalendarField.TheVariants.{Column}
 use Rattle.sheets.proofs.ReadingLemmas.{set_more}
-use Rattle.sheets.proofs.RowLemmas.{zip_at}
+use Rattle.sheets.proofs.RowLemmas.{no_column, zip_at}
 use Rattle.sheets.proofs.sheet_records.SheetRecord.renew.Goals as goal
-
-abbrev none : DateColumn
-none = record { date = 0; calendar = Column (record { place = 0; otherwise = None }) }
 
 pub dates-preserved : goal.dates-preserved
 dates-preserved c =
@@ -30,6 +26,6 @@ dates-preserved c =
       names = c.renew.ensures.names ∙ inv.names;
       dates = subst (λ (ys : List DateRead). AllZip R (take (place + 1) dates) ys)
           (sym (set_more date_seen c.dates.self.columns.items place column low))
-          (zip_at R dates _ place none (date_seen column) c.dates-test.true inv.dates (rw inv.fields at
+          (zip_at R dates _ place no_column (date_seen column) c.dates-test.true inv.dates (rw inv.fields at
           c.in_ok-renew.ensures.read));
     }

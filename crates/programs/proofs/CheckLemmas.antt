@@ -2,9 +2,9 @@
 use Rattle.std.proofs.Common.{◌≡◌, ◌++◌, ℕ, zero, suc, List, [], ◌∷◌, take, inl, inr, Err, IfErr, IfSome, IsErrAnd}
 use Rattle.std.proofs.Common.{IsSomeAnd, Ok, Result}
 use Rattle.clap.proofs.TakesLemmas.{passed_up}
-use Rattle.programs.proofs.MeaningLemmas.{AllPass, found_first, if_some}
+use Rattle.programs.proofs.MeaningLemmas.{found_first, if_some}
 use Rattle.programs.specs.Faults.{Fault, fault_of_error}
-use Rattle.programs.specs.Meanings.{Check, FailFirst}
+use Rattle.programs.specs.Meanings.{AllPass, Check, FailFirst}
 use Rattle.programs.specs.declared.request_faults.RequestFault.{RequestFault}
 
 -- where a check finds a fault, which is that of the first check that fails, the error that is passed up is that
@@ -15,6 +15,15 @@ pub found_up : {T : Type 0} (result : Result T RequestFault) (error : RequestFau
 found_up result error checks fails up found first =
     passed_up result error (λ (r : RequestFault). IfSome (fault_of_error r) (FailFirst checks)) up
     (found_first (fault_of_error error) fails checks found first)
+
+-- checks and later ones pass together
+pub both_pass : (checks later : List Check) → AllPass checks → AllPass later → AllPass (checks ++ later)
+both_pass [] later pass rest = rest
+both_pass (check ∷ checks) later pass rest = (pass.0, both_pass checks later pass.1 rest)
+
+pub first_pass : (checks later : List Check) → AllPass (checks ++ later) → AllPass checks
+first_pass [] later pass = tt
+first_pass (check ∷ checks) later pass = (pass.0, first_pass checks later pass.1)
 
 -- the first of some checks that fails is the first of these and later ones
 pub among_first : (checks later : List Check) (fault : Fault) → FailFirst checks fault

@@ -1,6 +1,6 @@
 -- The command line: its options and its page of help, the values that arguments give to it, what these ask for, and what is
 -- wrong with them.
-use Rattle.std.specs.Prelude.{List, [], ◌∷◌, Bool, codes, Option, unwrap_or, ◌≡◌, ℕ, map, if◌then◌else◌, Some, None}
+use Rattle.std.specs.Prelude.{List, [], ◌∷◌, ◌++◌, Bool, codes, Option, unwrap_or, ◌≡◌, ℕ, map, if◌then◌else◌, Some, None}
 use Rattle.std.specs.Prelude.{option_and_then, length}
 use Rattle.clap.specs.Words.{App, Row, Text, all_of, first_of, one_of}
 use Rattle.date_texts.specs.Calendars.{default_targets}
@@ -129,15 +129,15 @@ target_check value = record {
   passes = (targets : List Target) × AreTargetsOf value targets;
 }
 
--- the checks of values, in order
-abbrev pub value_checks : Values → List Check
-value_checks values =
-    target_check values.to
-    ∷ option_check (number_of largest_ring) (codes "bad ring size: ") values.ring
+-- the checks of words, in order, and of all values
+abbrev pub word_checks : Values → List Check
+word_checks values =
+    option_check (number_of largest_ring) (codes "bad ring size: ") values.ring
     ∷ option_check delimiter_of (codes "unknown delimiter: ") values.delimiter
-    ∷ option_check (number_of most_stripes) (codes "bad stripes: ") values.stripes
-    ∷ file_check values.files
-    ∷ []
+    ∷ option_check (number_of most_stripes) (codes "bad stripes: ") values.stripes ∷ []
+
+abbrev pub value_checks : Values → List Check
+value_checks values = target_check values.to ∷ (word_checks values ++ file_check values.files ∷ [])
 
 -- the command line, and what is asked by it
 abbrev pub register_line : CommandLine Task

@@ -5,8 +5,7 @@ use Rattle.std.specs.Option.{option_map_or}
 use Rattle.std.specs.Prelude.{List, [], ◌∷◌, Bool, codes, Option, unwrap_or, ◌||◌, ◌&&◌, ◌==◌, ◌++◌, false}
 use Rattle.std.specs.Prelude.{if◌then◌else◌, length, not, true, option_to_list, ◌≡◌, ℕ, map, nat_lt}
 use Rattle.std.specs.Prelude.{is_some, option_and_then, option_map, Result, Ok, Err}
-use Rattle.clap.specs.Words.{App, Row, Text, all_of, first_of, found_of, one_of, rows_of}
-use Rattle.clap.specs.declared.parser.matches.ArgMatches.{ArgMatches}
+use Rattle.clap.specs.Words.{App, Row, Text, all_of, first_of, one_of}
 use Rattle.programs.specs.Faults.{Fault, refused}
 use Rattle.programs.specs.Meanings as lines
 use Rattle.programs.specs.Meanings.{Check, CommandLine, Meaning, file_check, option_check}
@@ -132,10 +131,6 @@ values_of found = record {
   summary = is_set (one_of (codes "summary") found);
   files = unwrap_or (all_of (codes "file") found) [];
 }
-
--- the values that clap has found
-abbrev pub values_in : ArgMatches → Values
-values_in matches = values_of (rows_of (found_of matches))
 
 abbrev pub is_given : Option Text → Bool
 is_given word = option_map_or (λ given. true) word false

@@ -1,2 +1,3 @@
 -- What serves private clauses and proofs alone: no public clause reaches it.
 pub mod ThreeColumns
+pub mod Requests

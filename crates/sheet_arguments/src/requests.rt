@@ -5,13 +5,14 @@ ghost use Rattle.std.specs.String.{string_bytes};
 ghost use Rattle.clap.specs.Words.{app_of};
 ghost use Rattle.programs.specs.Faults.{fault_of_error};
 ghost use Rattle.programs.specs.Meanings.{AllPass, FailFirst, wrong};
-ghost use Rattle.sheet_arguments.specs.Requests.{command_line, values_in, Ask, MeanJust};
+ghost use Rattle.sheet_arguments.specs.Requests.{command_line, Ask, MeanJust};
 ghost use Rattle.sheet_arguments.specs.Requests.{are_misfits as misfits_spec, calendars_wanted};
 ghost use Rattle.sheet_arguments.specs.Requests.{calendars_meant as calendars_spec, column_checks, date_checks};
 ghost use Rattle.sheet_arguments.specs.Requests.{dates_meant as dates_spec, file_checks, reading_asked};
 ghost use Rattle.sheet_arguments.specs.Requests.{is_misfit as misfit_spec, meaning_of};
 ghost use Rattle.sheet_arguments.specs.Requests.{spans_asked as spans_spec, task_of, tree_check, value_checks, wanted_by};
 ghost use Rattle.sheet_arguments.specs.Requests.{word_checks, is_at_odds as odds_spec};
+ghost use Rattle.sheet_arguments.specs.private.Requests.{values_in};
 
 use crate::column_lists::chosen_columns;
 use crate::help::ARGUMENTS;

@@ -4,7 +4,8 @@ use Rattle.programs.proofs.CheckLemmas.{among_first, behind, both_pass, found_up
 use Rattle.programs.specs.Faults.{Fault}
 use Rattle.programs.specs.Meanings.{AllPass, FailFirst}
 use Rattle.sheet_arguments.specs.Requests.{Values, date_checks, file_checks, output_checks, tree_check, value_checks}
-use Rattle.sheet_arguments.specs.Requests.{values_in, word_checks}
+use Rattle.sheet_arguments.specs.Requests.{word_checks}
+use Rattle.sheet_arguments.specs.private.Requests.{values_in}
 use Rattle.sheet_arguments.proofs.requests.job_found.Goals as goal
 
 at_words : (values : Values) (fault : Fault) → (tree_check values).passes → AllPass (date_checks values)

@@ -1,10 +1,9 @@
 -- Checks in order, one list of them behind another.
-use Rattle.std.proofs.Common.{◌≡◌, ◌++◌, ℕ, zero, suc, List, [], ◌∷◌, take, inl, inr, Err, IfErr, IfSome, IsErrAnd}
-use Rattle.std.proofs.Common.{IsSomeAnd, Ok, Result}
+use Rattle.std.proofs.Common.{◌≡◌, ◌++◌, List, [], ◌∷◌, inl, inr, IfErr, IfSome, IsErrAnd, Result}
 use Rattle.clap.proofs.TakesLemmas.{passed_up}
-use Rattle.programs.proofs.MeaningLemmas.{AllPass, found_first, if_some}
+use Rattle.programs.proofs.MeaningLemmas.{found_first}
 use Rattle.programs.specs.Faults.{Fault, fault_of_error}
-use Rattle.programs.specs.Meanings.{Check, FailFirst}
+use Rattle.programs.specs.Meanings.{AllPass, Check, FailFirst}
 use Rattle.programs.specs.declared.request_faults.RequestFault.{RequestFault}
 
 -- where a check finds a fault, which is that of the first check that fails, the error that is passed up is that
@@ -15,6 +14,19 @@ pub found_up : {T : Type 0} (result : Result T RequestFault) (error : RequestFau
 found_up result error checks fails up found first =
     passed_up result error (λ (r : RequestFault). IfSome (fault_of_error r) (FailFirst checks)) up
     (found_first (fault_of_error error) fails checks found first)
+
+-- checks and later ones pass together
+pub both_pass : (checks later : List Check) → AllPass checks → AllPass later → AllPass (checks ++ later)
+both_pass [] later pass rest = rest
+both_pass (check ∷ checks) later pass rest = (pass.0, both_pass checks later pass.1 rest)
+
+pub first_pass : (checks later : List Check) → AllPass (checks ++ later) → AllPass checks
+first_pass [] later pass = tt
+first_pass (check ∷ checks) later pass = (pass.0, first_pass checks later pass.1)
+
+pub later_pass : (checks later : List Check) → AllPass (checks ++ later) → AllPass later
+later_pass [] later pass = pass
+later_pass (check ∷ checks) later pass = later_pass checks later pass.1
 
 -- the first of some checks that fails is the first of these and later ones
 pub among_first : (checks later : List Check) (fault : Fault) → FailFirst checks fault
@@ -28,36 +40,3 @@ pub behind : (checks later : List Check) (fault : Fault) → AllPass checks → 
     → FailFirst (checks ++ later) fault
 behind [] later fault pass is = is
 behind (check ∷ checks) later fault pass is = inr (pass.0, behind checks later fault pass.1 is)
-
--- where a check passes, the first of those behind it that fails is the first
-pub later_fails : {T : Type 0} (result : Result T RequestFault) (check : Check) (later : List Check)
-    → check.passes → IfErr result (λ error. IfSome (fault_of_error error) (FailFirst later))
-    → IfErr result (λ error. IfSome (fault_of_error error) (FailFirst (check ∷ later)))
-later_fails (Ok value) check later passes is = tt
-later_fails (Err error) check later passes is =
-    found_first (fault_of_error error) (FailFirst later) (check ∷ later) is (λ fault at. inr (passes, at))
-
--- the check at this place finds the fault
-abbrev pub FailsAt : ℕ → List Check → Fault → Type 0
-FailsAt n [] fault = ⊥
-FailsAt zero (check ∷ later) fault = check.fails fault
-FailsAt (suc n) (check ∷ later) fault = FailsAt n later fault
-
-at_place : (n : ℕ) (checks : List Check) (fault : Fault) → AllPass (take n checks) → FailsAt n checks fault
-    → FailFirst checks fault
-at_place n [] fault pass is = absurd is
-at_place zero (check ∷ later) fault pass is = inl is
-at_place (suc n) (check ∷ later) fault pass is = inr (pass.0, at_place n later fault pass.1 is)
-
--- where those before it pass, the error that is passed up is that
-pub found_at : {T : Type 0} (n : ℕ) (checks : List Check) (result : Result T RequestFault) (error : RequestFault)
-    → AllPass (take n checks) → IsErrAnd result (λ up. up ≡ error) → IfSome (fault_of_error error) (FailsAt n checks)
-    → IfErr result (λ first. IfSome (fault_of_error first) (FailFirst checks))
-found_at n checks result error pass up found =
-    found_up result error checks (FailsAt n checks) up found (λ fault is. at_place n checks fault pass is)
-
-pub one_at : {T : Type 0} (n : ℕ) (checks : List Check) (result : Result T RequestFault) (error : RequestFault)
-    → AllPass (take n checks) → IsErrAnd result (λ up. up ≡ error) → IsSomeAnd (fault_of_error error) (FailsAt n checks)
-    → IfErr result (λ first. IfSome (fault_of_error first) (FailFirst checks))
-one_at n checks result error pass up found =
-    found_at n checks result error pass up (if_some (fault_of_error error) (FailsAt n checks) found)

@@ -1,6 +1,6 @@
 -- Arguments mean one thing at most.
-use Rattle.std.proofs.Common.{◌≡◌, ◌∙◌, List, [], ◌∷◌, sym, ap, refl, subst, arith, rules, inl, inr, Option, Some, None, ℕ}
-use Rattle.std.specs.Prelude.{◌≢◌, ⊤, IfSome, IsSomeAnd}
+use Rattle.std.proofs.Common.{◌≡◌, ◌∙◌, List, [], ◌∷◌, sym, ap, refl, subst, arith, rules, inl, inr, Option, Some, None}
+use Rattle.std.specs.Prelude.{⊤, IfSome, IsSomeAnd}
 use Rattle.clap.specs.Values.{kind_of}
 use Rattle.clap.specs.Words.{App, IsAmong, Row, Text, fault_of, found_of, matches_of, rows_of}
 use Rattle.clap.specs.declared.error.Error.{Error}
@@ -8,32 +8,14 @@ use Rattle.clap.specs.declared.error.kind.ErrorKind.{ErrorKind}
 use Rattle.clap.specs.declared.parser.matches.ArgMatches.{ArgMatches}
 use Rattle.clap.specs.declared.error.kind.ErrorKind.TheVariants.{DisplayHelp, DisplayVersion}
 use Rattle.programs.specs.Faults.{Fault, fault_of_error, usage}
-use Rattle.programs.specs.Meanings.{AreTaken, Check, CommandLine, FailFirst, IsFaultOf, Mean, MeanJust, Meaning}
+use Rattle.programs.specs.Meanings.{AllPass, AreTaken, Check, CommandLine, FailFirst, IsFaultOf, Mean, MeanJust, Meaning}
 use Rattle.programs.specs.Meanings.{file_check, help, option_check, usage_check, version, work, wrong}
 use Rattle.programs.specs.Requests.{AreRead, AreUnread}
 use Rattle.programs.specs.declared.requests.Request.{Request}
 use Rattle.programs.specs.declared.requests.Request.TheVariants.{Convert, Help, Version}
 use Rattle.programs.specs.declared.request_faults.RequestFault.{RequestFault}
 use Rattle.programs.specs.declared.request_faults.RequestFault.TheVariants.{OutOfMemory, Refused, Usage}
-use Rattle.programs.specs.Values.{IsDelimiterWord, IsNumberWord, IsValueOf, ValueOption}
 use Rattle.programs.proofs.FileLemmas.{fit_no_fault, one_file_fault}
-
--- a word names one delimiter at most
-pub one_byte : (word : Text) (byte other : ℕ) → IsDelimiterWord word byte → IsDelimiterWord word other → byte ≡ other
-one_byte word byte other is same = grind arith
-
--- and one number
-pub one_number : (most : ℕ) (word : Text) (n other : ℕ) → IsNumberWord most word n → IsNumberWord most word other
-    → n ≡ other
-one_number most word n other is same = is.value ∙ sym same.value
-
--- a word of the option names one number at most
-abbrev pub NamesOne : ValueOption → Type 0
-NamesOne option = (word : Text) (n other : ℕ) → option.names word n → option.names word other → n ≡ other
-
-pub one_asked : (option : ValueOption) → NamesOne option → (value : Option Text) (n other : ℕ) → IsValueOf option value n
-    → IsValueOf option value other → n ≡ other
-one_asked option one value n other is same = grind arith
 
 -- a check finds one fault at most, and none where it passes
 pub record IsSound (check : Check) : Type 0 where
@@ -43,10 +25,6 @@ pub record IsSound (check : Check) : Type 0 where
 abbrev pub AreSound : List Check → Type 0
 AreSound [] = ⊤
 AreSound (check ∷ checks) = IsSound check × AreSound checks
-
-abbrev pub AllPass : List Check → Type 0
-AllPass [] = ⊤
-AllPass (check ∷ checks) = check.passes × AllPass checks
 
 -- and so do checks in order
 first_fault : (checks : List Check) → AreSound checks → (fault other : Fault) → FailFirst checks fault
@@ -62,8 +40,9 @@ no_fault [] sound pass fault x = x
 no_fault (check ∷ later) sound pass fault (inl x) = sound.0.none fault pass.0 x
 no_fault (check ∷ later) sound pass fault (inr x) = no_fault later sound.1 pass.1 fault x.1
 
-pub sound_option : (option : ValueOption) (what : Text) (value : Option Text) → IsSound (option_check option what value)
-sound_option option what value = search rules
+pub sound_option : {A : Type 0} (value_of : Text → Option A) (what : Text) (value : Option Text)
+    → IsSound (option_check value_of what value)
+sound_option value_of what value = search rules
 
 pub sound_files : (files : List Text) → IsSound (file_check files)
 sound_files files = search (rules, one_file_fault, fit_no_fault)
@@ -77,12 +56,11 @@ pub if_some : (found : Option Fault) (fails : Fault → Type 0) → IsSomeAnd fo
 if_some found fails is = grind arith
 
 -- what a command line has to show: arguments have one kind of fault at most, the checks are sound, and what is asked for
--- passes them and is one thing
+-- is one thing
 pub record IsClear {T : Type 0} (line : CommandLine T) : Type 0 where
   pub kinds : (arguments : List Text) (k l : ErrorKind) → IsAmong k (fault_of line.command arguments)
       → IsAmong l (fault_of line.command arguments) → k ≡ l
   pub sound : (found : List Row) → AreSound (line.checks found)
-  pub passes : (found : List Row) (task : T) → line.asks found task → AllPass (line.checks found)
   pub one : (found : List Row) (task other : T) → line.asks found task → line.asks found other → task ≡ other
 
 module _ {T : Type 0} (line : CommandLine T) (arguments : List Text) where
@@ -167,8 +145,9 @@ module _ {T : Type 0} (line : CommandLine T) (arguments : List Text) where
               mean_just (wrong fault)
               (inr (taken.0, subst (λ (rows : List Row). FailFirst (line.checks rows) fault) taken.1 fails))
 
-          pub work_just : (task : T) → line.asks (rows_of (found_of matches)) task
-              → MeanJust line arguments (work task)
-          work_just task asks =
+          pub work_just : (task : T) → AllPass (line.checks (rows_of (found_of matches)))
+              → line.asks (rows_of (found_of matches)) task → MeanJust line arguments (work task)
+          work_just task pass asks =
               let taken = read_as (Convert matches) is in
-              mean_just (work task) (taken.0, subst (λ (rows : List Row). line.asks rows task) taken.1 asks)
+              let all = subst (λ (rows : List Row). AllPass (line.checks rows) × line.asks rows task) taken.1 (pass, asks) in
+              mean_just (work task) (taken.0, all.0, all.1)

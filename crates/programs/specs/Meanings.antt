@@ -1,11 +1,10 @@
 -- What arguments mean.
-use Rattle.std.specs.Prelude.{◌≡◌, ◌≢◌, ◌↔◌, ◌⊎◌, ◌++◌, ℕ, List, [], ◌∷◌, Option}
+use Rattle.std.specs.Prelude.{◌≡◌, ◌≢◌, ◌↔◌, ◌⊎◌, ◌++◌, ⊤, List, [], ◌∷◌, Option, Some, None, IfSome, IsSome}
 use Rattle.clap.specs.Words.{App, IsAmong, Row, Text, fault_of, matches_of}
 use Rattle.clap.specs.declared.error.kind.ErrorKind.{ErrorKind}
 use Rattle.clap.specs.declared.error.kind.ErrorKind.TheVariants.{DisplayHelp, DisplayVersion}
 use Rattle.programs.specs.Faults.{Fault, refused, usage}
 use Rattle.programs.specs.FileLists.{AreFilesToConvert, IsFilesFault}
-use Rattle.programs.specs.Values.{IsValueOf, NamesNothing, ValueOption}
 
 -- a check: what is wrong where it fails, and that it passes
 pub record Check : Type 1 where
@@ -17,23 +16,28 @@ abbrev pub FailFirst : List Check → Fault → Type 0
 FailFirst [] fault = ⊥
 FailFirst (check ∷ later) fault = check.fails fault ⊎ (check.passes × FailFirst later fault)
 
+-- each of these checks passes
+abbrev pub AllPass : List Check → Type 0
+AllPass [] = ⊤
+AllPass (check ∷ later) = check.passes × AllPass later
+
 -- the check of an option's word: where it names nothing, this is said, and the word
-abbrev pub option_check : ValueOption → Text → Option Text → Check
-option_check option what value = record {
-  fails = λ fault. (word : Text) × (fault ≡ refused (what ++ word)) × NamesNothing option value word;
-  passes = (n : ℕ) × IsValueOf option value n;
+abbrev pub option_check : {A : Type 0} → (Text → Option A) → Text → Option Text → Check
+option_check value_of what value = record {
+  fails = λ fault. (word : Text) × (fault ≡ refused (what ++ word)) × (value ≡ Some word) × (value_of word ≡ None);
+  passes = IfSome value (λ word. IsSome (value_of word));
 }
 
 -- the check of the files
 abbrev pub file_check : List Text → Check
 file_check files = record { fails = IsFilesFault files; passes = AreFilesToConvert files }
 
--- a command line of which something is asked: the command as clap takes it, what the values that clap finds ask for, and
--- the checks of these values in order
+-- a command line of which something is asked: the command as clap takes it, the checks of the values that clap finds, in
+-- order, and what values that pass them ask for
 pub record CommandLine (T : Type 0) : Type 1 where
   pub command : App
-  pub asks : List Row → T → Type 0
   pub checks : List Row → List Check
+  pub asks : List Row → T → Type 0
 
 -- what arguments can mean: they ask for help, for the version, or for something to be done, or something is wrong
 pub data Meaning (T : Type 0) : Type 0 where
@@ -67,7 +71,9 @@ module _ {T : Type 0} (line : CommandLine T) where
   abbrev pub Mean : List Text → Meaning T → Type 0
   Mean arguments help = IsAmong DisplayHelp (fault_of line.command arguments)
   Mean arguments version = IsAmong DisplayVersion (fault_of line.command arguments)
-  Mean arguments (work task) = AreTaken arguments × line.asks (matches_of line.command arguments) task
+  Mean arguments (work task) =
+      AreTaken arguments × AllPass (line.checks (matches_of line.command arguments))
+      × line.asks (matches_of line.command arguments) task
   Mean arguments (wrong fault) = IsFaultOf arguments fault
 
   -- the arguments mean this, and nothing else

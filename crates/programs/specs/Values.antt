@@ -1,44 +1,37 @@
 -- What the words of options mean.
-use Rattle.std.specs.Prelude.{◌≡◌, ◌⊎◌, ◌≤◌, ℕ, List, codes, length, Option, Some, None}
-use Rattle.std.specs.Str.Parse.{IsNumeral, digits_value}
+use Rattle.std.specs.Prelude.{◌&&◌, ℕ, Bool, List, [], ◌∷◌, codes, if◌then◌else◌, length, nat_le, Option, Some, None}
+use Rattle.std.specs.Str.{all_ascii_digits, bytes_eq}
+use Rattle.std.specs.Str.Parse.{digits_value}
 use Rattle.programs.specs.declared.values.Delimiter.{Delimiter as DelimiterWord}
 use Rattle.programs.specs.declared.values.Delimiter.TheVariants as delimiter
 
--- the word is one to five decimal digits, which write the number n, and n is from 1 to `most`
-pub record IsNumberWord (most : ℕ) (word : List ℕ) (n : ℕ) : Type 0 where
-  pub few : length word ≤ 5
-  pub digits : IsNumeral 10 word
-  pub value : n ≡ digits_value 10 word
-  pub some : 1 ≤ n
-  pub no_more : n ≤ most
+-- the word is one to five decimal digits, which write a number from 1 to `most`
+abbrev pub is_number_word : ℕ → List ℕ → Bool
+is_number_word most word =
+    nat_le (length word) 5 && (all_ascii_digits word
+    && (nat_le 1 (digits_value 10 word) && nat_le (digits_value 10 word) most))
 
--- the words for a comma (44), a semicolon (59) and a tab (9)
-abbrev pub IsDelimiterWord : List ℕ → ℕ → Type 0
-IsDelimiterWord word byte =
-    ((word ≡ codes "comma") × (byte ≡ 44))
-    ⊎ ((word ≡ codes "semicolon") × (byte ≡ 59))
-    ⊎ ((word ≡ codes "tab") × (byte ≡ 9))
+-- the number that such a word names
+abbrev pub number_of : ℕ → List ℕ → Option ℕ
+number_of most word = if is_number_word most word then Some (digits_value 10 word) else None
 
--- the byte that a delimiter is
+-- what a word names by a list of words and what each names, or else otherwise
+abbrev pub value_or : {A : Type 0} → List (List ℕ × A) → (List ℕ → Option A) → List ℕ → Option A
+value_or [] otherwise word = otherwise word
+value_or ((name, value) ∷ rows) otherwise word =
+    if bytes_eq word name then Some value else value_or rows otherwise word
+
+-- by the list alone
+abbrev pub value_in : {A : Type 0} → List (List ℕ × A) → List ℕ → Option A
+value_in rows = value_or rows (λ word. None)
+
+-- the words for a delimiter, and its byte: a comma, a semicolon and a tab
+abbrev pub delimiter_of : List ℕ → Option DelimiterWord
+delimiter_of =
+    value_in ((codes "comma", delimiter.Comma) ∷ (codes "semicolon", delimiter.Semicolon)
+    ∷ (codes "tab", delimiter.Tab) ∷ [])
+
 abbrev pub byte_of : DelimiterWord → ℕ
 byte_of delimiter.Comma = 44
 byte_of delimiter.Semicolon = 59
 byte_of delimiter.Tab = 9
-
--- an option that asks for a number: which number a word names, and the number without a word
-pub record ValueOption : Type 1 where
-  pub names : List ℕ → ℕ → Type 0
-  pub default : ℕ
-
--- the byte of a delimiter, a comma (44) without a word
-abbrev pub delimiter_option : ValueOption
-delimiter_option = record { names = IsDelimiterWord; default = 44 }
-
--- this is the number that the option asks for
-abbrev pub IsValueOf : ValueOption → Option (List ℕ) → ℕ → Type 0
-IsValueOf option None n = n ≡ option.default
-IsValueOf option (Some word) n = option.names word n
-
--- the option is given by this word, which names no number
-abbrev pub NamesNothing : ValueOption → Option (List ℕ) → List ℕ → Type 0
-NamesNothing option value word = (value ≡ Some word) × ((n : ℕ) → ¬ option.names word n)

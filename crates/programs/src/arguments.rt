@@ -1,6 +1,6 @@
 //! The arguments of a command line, as clap takes them, and what it finds of them.
 
-ghost use Rattle.std.specs.Prelude.{◌≡◌, IfOk, fold, map, option_map, unwrap_or, [], false};
+ghost use Rattle.std.specs.Prelude.{◌≡◌, ◌==◌, IfOk, length, map, not, option_map, unwrap_or, [], false};
 ghost use Rattle.clap.specs.Words.{all_of, app_of, first_of, found_of, one_of, rows_of, rule_of};
 ghost use Rattle.programs.specs.Rules.{bare_command, files_rule, flag_rule, is_set, option_rule, repeated_rule};
 ghost use Rattle.programs.specs.ArgumentRules.{app_with, rule_by, value_name};
@@ -185,6 +185,16 @@ pub fn values_given<'a>(
     match matches.get_strs(name) {
         Some(values) => values.to_vec(alloc),
         None => Ok(Vec::new(alloc)),
+    }
+}
+
+/// Whether the arguments give values of a repeated option, or files.
+pub fn are_given(matches: &ArgMatches<'_>, name: &str) -> bool
+    ensures { result ≡ not (length (unwrap_or (all_of name.now (rows_of (found_of matches.now))) []) == 0) }
+{
+    match matches.get_strs(name) {
+        Some(values) => !values.is_empty(),
+        None => false,
     }
 }
 

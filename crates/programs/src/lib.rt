@@ -20,7 +20,9 @@ mod statuses;
 mod terminal;
 mod values;
 
-pub use arguments::{Argument, Kind, Value, command_with, is_given, value_given, values_given};
+pub use arguments::{
+    Argument, Kind, Value, are_given, command_with, is_given, value_given, values_given,
+};
 pub use disk::{Destination, Disk, Exclusive, Source};
 pub use file_store::{FileStore, is_of_output, share_file};
 pub use files::{MAX_FILES, check_files};
@@ -35,4 +37,4 @@ pub use requests::{Request, read_arguments};
 pub use starting::{arguments_of, end_without_memory, open_nothing, unread_arguments};
 pub use statuses::{COMPLETE, INCOMPLETE, NOT_BEGUN, REFUSED};
 pub use terminal::{Lines, lines_to};
-pub use values::{Delimiter, OptionValue, chosen, number_named};
+pub use values::{Delimiter, NumberTo, OptionWords, chosen, chosen_word, number_named};

@@ -19,6 +19,17 @@ pub enum RequestFault<'a> {
     Refused(&'static str, &'a str),
 }
 
+impl From<AllocError> for RequestFault<'_> {
+    ghost use Rattle.std.specs.Prelude.{◌≡◌};
+    ghost use Rattle.programs.specs.declared.request_faults.RequestFault.TheVariants.{OutOfMemory};
+
+    ghost from_gives = { λ _ fault. fault ≡ OutOfMemory };
+
+    fn from(_: AllocError) -> Self {
+        RequestFault::OutOfMemory
+    }
+}
+
 impl RequestFault<'_> {
     ghost use Rattle.programs.specs.Faults.{error_line, status_of_fault};
 

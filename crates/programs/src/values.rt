@@ -1,43 +1,60 @@
 //! What the words of options mean.
 
-ghost use Rattle.std.specs.Prelude.{◌≡◌, ◌↔◌, ℕ, Some, IfOk, IfErr, IsSomeAnd, option_map};
+ghost use Rattle.std.specs.Prelude.{◌≡◌, ◌≤◌, ℕ, List, Option, IfOk, IfErr, IfSome, IsSomeAnd, OnOk, option_and_then, option_map};
+ghost use Rattle.clap.specs.Words.{first_of, found_of, rows_of};
 ghost use Rattle.programs.specs.Faults.{fault_of_error};
 ghost use Rattle.programs.specs.Meanings.{option_check};
-ghost use Rattle.programs.specs.Values.{IsNumberWord, IsValueOf, ValueOption, byte_of, delimiter_option};
+ghost use Rattle.programs.specs.Values.{byte_of, delimiter_of, number_of};
 
+use crate::arguments::value_given;
 use crate::request_faults::RequestFault;
+use clap::ArgMatches;
 
 /// The most digits of a number.
 const MAX_DIGITS: usize = 5;
 
 /// The number from 1 to `most` that a word of one to five decimal digits names, or `None` where it names none.
 pub fn number_named(word: &str, most: usize) -> Option<usize>
-    ensures { (n : ℕ) → (result ≡ Some n) ↔ IsNumberWord most word.now n }
+    ensures named { result ≡ number_of most word.now }
+    ensures within { IfSome result (λ number. (1 ≤ number) × (number ≤ most)) }
 {
     if word.len() > MAX_DIGITS || word.starts_with('+') {
         return None;
     }
-    match word.parse::<usize>() {
-        Ok(number) if 1 <= number && number <= most => Some(number),
-        _ => None,
+    let Ok(number) = word.parse::<usize>() else {
+        return None;
+    };
+    if 1 <= number && number <= most {
+        Some(number)
+    } else {
+        None
     }
 }
 
-/// What an option asks for by one word.
-pub trait OptionValue {
-    // The option.
-    ghost option: { ValueOption };
+/// The words of an option.
+pub trait OptionWords {
+    /// What they name.
+    type Value;
 
-    // The number that this is.
-    ghost number: { Self → ℕ };
+    // What a word names, if it names something.
+    ghost value_of: { List ℕ → Option Self.Value };
 
-    /// What holds where the option is not given.
-    fn default() -> Self
-        ensures { number result ≡ option.default };
+    /// What a word names, or `None` where it names nothing.
+    fn named(word: &str) -> Option<Self::Value>
+        ensures { result ≡ value_of word.now };
+}
 
-    /// What a word names, or `None` exactly where it names nothing.
-    fn named(word: &str) -> Option<Self>
-        ensures { (n : ℕ) → (option_map number result ≡ Some n) ↔ option.names word.now n };
+/// The numbers from 1 to `MOST`, of one to five decimal digits.
+pub enum NumberTo<const MOST: usize> {}
+
+impl<const MOST: usize> OptionWords for NumberTo<MOST> {
+    type Value = usize;
+
+    ghost value_of = { number_of MOST };
+
+    fn named(word: &str) -> Option<usize> {
+        number_named(word, MOST)
+    }
 }
 
 /// What stands between two fields, by `--delimiter`.
@@ -61,14 +78,10 @@ impl Delimiter {
     }
 }
 
-impl OptionValue for Delimiter {
-    ghost option = { delimiter_option };
+impl OptionWords for Delimiter {
+    type Value = Delimiter;
 
-    ghost number = { byte_of };
-
-    fn default() -> Delimiter {
-        Delimiter::Comma
-    }
+    ghost value_of = { delimiter_of };
 
     fn named(word: &str) -> Option<Delimiter> {
         match word {
@@ -80,24 +93,43 @@ impl OptionValue for Delimiter {
     }
 }
 
-/// What the word of an option names, or its default where there is no word.
+/// What the word of an option names, if there is a word.
 ///
 /// # Errors
 ///
 /// A word that names nothing, and that this is what is wrong with it.
-pub fn chosen<'a, V: OptionValue>(
+pub fn chosen_word<'a, W: OptionWords>(
     what: &'static str,
     word: Option<&'a str>,
-) -> Result<V, RequestFault<'a>>
-    ensures value { IfOk result (λ value. IsValueOf V.option (option_map (λ w. w.now) word.entry) (V.number value)) }
+) -> Result<Option<W::Value>, RequestFault<'a>>
+    ensures value { IfOk result (λ value. value ≡ option_and_then W.value_of (option_map (λ w. w.now) word.entry)) }
+    ensures passes { OnOk result ((option_check W.value_of what.entry.now (option_map (λ w. w.now) word.entry)).passes) }
     ensures fault { IfErr result (λ error. IsSomeAnd (fault_of_error error)
-        ((option_check V.option what.entry.now (option_map (λ w. w.now) word.entry)).fails)) }
+        ((option_check W.value_of what.entry.now (option_map (λ w. w.now) word.entry)).fails)) }
 {
     let Some(word) = word else {
-        return Ok(V::default());
+        return Ok(None);
     };
-    match V::named(word) {
-        Some(value) => Ok(value),
+    match W::named(word) {
+        Some(value) => Ok(Some(value)),
         None => Err(RequestFault::Refused(what, word)),
     }
+}
+
+/// What the value of an option names, if the arguments give one.
+///
+/// # Errors
+///
+/// A value that names nothing, and that this is what is wrong with it.
+pub fn chosen<'a, W: OptionWords>(
+    matches: &ArgMatches<'a>,
+    name: &str,
+    what: &'static str,
+) -> Result<Option<W::Value>, RequestFault<'a>>
+    ensures value { IfOk result (λ value. value ≡ option_and_then W.value_of (first_of name.now (rows_of (found_of matches.now)))) }
+    ensures passes { OnOk result ((option_check W.value_of what.entry.now (first_of name.now (rows_of (found_of matches.now)))).passes) }
+    ensures fault { IfErr result (λ error. IsSomeAnd (fault_of_error error)
+        ((option_check W.value_of what.entry.now (first_of name.now (rows_of (found_of matches.now)))).fails)) }
+{
+    chosen_word::<W>(what, value_given(matches, name))
 }

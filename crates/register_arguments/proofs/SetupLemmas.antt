@@ -1,16 +1,18 @@
 -- What the arguments ask for fits a setup: numbers within their limits, and each target once, the default ones too,
 -- since their names differ.
-use Rattle.std.proofs.Common.{◌≡◌, ◌&&◌, ℕ, true, nat_le, le-leb, refl, rules, ◌∙◌, ◌<◌, false, List, [], length, map}
+use Rattle.std.proofs.Common.{◌≡◌, ◌&&◌, ℕ, true, nat_le, refl, rules, ◌∙◌, ◌<◌, false, List, [], length, map}
 use Rattle.std.proofs.Common.{sym, ap, arith, Some, None, Option, Result, Err, inl, inr, true≢false, get_or, Bool}
-use Rattle.std.specs.Prelude.{if◌then◌else◌, option_map, unwrap_or}
+use Rattle.std.specs.Prelude.{if◌then◌else◌, option_and_then, unwrap_or}
 use Rattle.std.specs.List.{IsDistinct}
+use Rattle.std.specs.Option.{ForSome}
 use Rattle.std.proofs.lemmas.List.{get_or-map}
 use Rattle.std.proofs.lemmas.Map.Made.{AllPairs-from_IsDistinct}
 use Rattle.std.proofs.lemmas.Option.{slice_get-get_or}
 use Rattle.std.specs.Str.{bytes_eq}
 use Rattle.std.proofs.lemmas.Slice.Eq.{bytes_eq-Decides}
 use Rattle.clap.specs.Words.{Text}
-use Rattle.programs.specs.Values.{IsNumberWord, byte_of}
+use Rattle.programs.proofs.ValueLemmas.{none_some, number_within}
+use Rattle.programs.specs.Values.{byte_of, number_of}
 use Rattle.date_texts.specs.declared.target.Target.TheVariants.{Haab}
 use Rattle.date_texts.specs.Calendars.{default_targets, target_name}
 use Rattle.date_texts.specs.declared.target.Target.{Target}
@@ -22,13 +24,13 @@ use Rattle.register_records.specs.declared.setups.SetupFault.{SetupFault}
 use Rattle.register_records.specs.declared.setups.SetupFault.TheVariants.{TargetTwice, RingSize, Delimiter, Stripes}
 use Rattle.programs.specs.declared.values.Delimiter.{Delimiter as DelimiterWord}
 use Rattle.register_arguments.specs.Requests.{AreTargetsOf}
-use Rattle.register_arguments.specs.declared.option_values.Ring.{Ring}
-use Rattle.register_arguments.specs.declared.option_values.Stripes.{Stripes as StripesValue}
 use Rattle.register_arguments.proofs.ListLemmas.{never_twice}
 
 -- a number that a word names is from 1 to the most
-pub named_within : (most : ℕ) (word : Text) (n : ℕ) → IsNumberWord most word n → (nat_le 1 n && nat_le n most) ≡ true
-named_within most word n is = rw (le-leb 1 n is.some, le-leb n most is.no_more) refl
+pub number_fits : (most : ℕ) (word : Option Text) (number : Option ℕ) → number ≡ option_and_then (number_of most) word
+    → ForSome number (λ n. (nat_le 1 n && nat_le n most) ≡ true)
+number_fits most None number is n some = let bad : None ≡ Some n = cc in absurd (none_some n bad)
+number_fits most (Some word) number is n some = number_within most word n (sym is ∙ some)
 
 -- a table has notes where its register has seals
 pub notes_by : (sealed : Bool) → has_notes (if sealed then Sealed else Plain) ≡ sealed
@@ -69,13 +71,8 @@ no_fault made RingSize targets ring byte stripes is once fits cuts twice size ot
 no_fault made Delimiter targets ring byte stripes is once fits cuts twice size other few many = search rules
 no_fault made Stripes targets ring byte stripes is once fits cuts twice size other few many = search (rules, true≢false)
 
--- the number that is written, or else the other
-pub size_or : (written : Option Ring) (other : Ring) (size : ℕ) → other.size ≡ size
-    → (unwrap_or written other).size ≡ unwrap_or (option_map (λ ring. ring.size) written) size
-size_or None other size is = is
-size_or (Some ring) other size is = refl
-
-pub count_or : (written : Option StripesValue) (other : StripesValue) (count : ℕ) → other.count ≡ count
-    → (unwrap_or written other).count ≡ unwrap_or (option_map (λ stripes. stripes.count) written) count
-count_or None other count is = is
-count_or (Some stripes) other count is = refl
+-- a number that is written fits, and so does the one in its place
+pub or_fits : (fits : ℕ → Bool) (written : Option ℕ) (other : ℕ) → ForSome written (λ n. fits n ≡ true)
+    → fits other ≡ true → fits (unwrap_or written other) ≡ true
+or_fits fits None other few is = is
+or_fits fits (Some n) other few is = few n refl

@@ -1,14 +1,11 @@
 -- What the values of the options mean.
-use Rattle.std.specs.Prelude.{◌≡◌, ◌≢◌, ◌⊎◌, ◌==◌, ◌++◌, ℕ, List, [], ◌∷◌, codes, ⊤, Contains, Option, Some, None}
+use Rattle.std.specs.Prelude.{◌≡◌, ◌≢◌, ◌⊎◌, ◌==◌, ◌++◌, ℕ, List, [], ◌∷◌, codes, ⊤, Contains}
 use Rattle.std.specs.List.{slice_split}
 use Rattle.date_texts.specs.Calendars.{target_name}
 use Rattle.date_texts.specs.Names.{IsNamed}
 use Rattle.date_texts.specs.declared.target.Target.{Target}
-use Rattle.register_records.specs.SetupRules.{NamesTwice, largest_ring, most_stripes}
-use Rattle.clap.specs.Words.{Text}
+use Rattle.register_records.specs.SetupRules.{NamesTwice}
 use Rattle.programs.specs.Faults.{Fault, refused}
-use Rattle.programs.specs.Meanings.{Check}
-use Rattle.programs.specs.Values.{IsNumberWord}
 
 -- the names in a list: what stands between its commas (44)
 abbrev pub names_in : List ℕ → List (List ℕ)
@@ -57,23 +54,3 @@ IsListFault list fault =
     ((name : List ℕ) × (fault ≡ refused (codes "unknown target: " ++ name)) × IsFirstUnknown list name)
     ⊎ ((target : Target) × (fault ≡ refused (codes "target named twice: " ++ target_name target))
     × IsFirstTargetTwice list target)
-
--- this is the number that is written, from 1 to the most, or none where there is no word
-abbrev pub IsWritten : ℕ → Option Text → Option ℕ → Type 0
-IsWritten most None number = number ≡ None
-IsWritten most (Some word) number = (n : ℕ) × (number ≡ Some n) × IsNumberWord most word n
-
--- the check of a number that may be written: where a word names none, this is said, and the word
-abbrev pub number_check : ℕ → Text → Option Text → Check
-number_check most what value = record {
-  fails = λ fault. (word : Text) × (fault ≡ refused (what ++ word)) × (value ≡ Some word)
-      × ((n : ℕ) → ¬ IsNumberWord most word n);
-  passes = (number : Option ℕ) × IsWritten most value number;
-}
-
--- those of the ring and of the stripes
-abbrev pub ring_check : Option Text → Check
-ring_check = number_check largest_ring (codes "bad ring size: ")
-
-abbrev pub stripes_check : Option Text → Check
-stripes_check = number_check most_stripes (codes "bad stripes: ")

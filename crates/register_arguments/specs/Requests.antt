@@ -1,7 +1,7 @@
 -- The command line: its options and its page of help, the values that arguments give to it, what these ask for, and what is
 -- wrong with them.
-use Rattle.std.specs.Prelude.{List, [], ◌∷◌, Bool, codes, Option, unwrap_or, ◌≡◌, ℕ, map, if◌then◌else◌, Some, None}
-use Rattle.std.specs.Prelude.{option_map, length}
+use Rattle.std.specs.Prelude.{List, [], ◌∷◌, ◌++◌, Bool, codes, Option, unwrap_or, ◌≡◌, ℕ, map, if◌then◌else◌, Some, None}
+use Rattle.std.specs.Prelude.{option_and_then, length}
 use Rattle.clap.specs.Words.{App, Row, Text, all_of, first_of, one_of}
 use Rattle.date_texts.specs.Calendars.{default_targets}
 use Rattle.date_texts.specs.declared.target.Target.{Target}
@@ -13,17 +13,17 @@ use Rattle.register_records.specs.Views.{layout_of, reading_of}
 use Rattle.register_records.specs.declared.setups.Form.TheVariants.{Plain, Sealed}
 use Rattle.register_records.specs.declared.setups.Setup.{Setup}
 use Rattle.programs.specs.Faults.{Fault}
-use Rattle.programs.specs.FileLists.{AreFilesToConvert}
 use Rattle.programs.specs.Meanings as lines
 use Rattle.programs.specs.Meanings.{Check, CommandLine, Meaning, file_check, option_check}
 use Rattle.programs.specs.OptionRows.{OptionRow, command_by, flag, page_by, valued}
 use Rattle.programs.specs.OwnLines as own_lines
 use Rattle.programs.specs.Requests.{meaning_by}
 use Rattle.programs.specs.Rules.{is_set}
-use Rattle.programs.specs.Values.{IsValueOf, byte_of, delimiter_option}
+use Rattle.programs.specs.Values.{byte_of, delimiter_of, number_of}
+use Rattle.programs.specs.declared.values.Delimiter.TheVariants.{Comma}
 use Rattle.programs.specs.declared.requests.Request.{Request}
 use Rattle.register_arguments.specs.Fittings.{fitting_for}
-use Rattle.register_arguments.specs.OptionValues.{AsksForTargets, IsListFault, IsWritten, ring_check, stripes_check}
+use Rattle.register_arguments.specs.OptionValues.{AsksForTargets, IsListFault}
 use Rattle.register_arguments.specs.declared.help.TheConstants.{ABOVE, BELOW, TO, DELIMITER, SEALED, SUMMARY, RING}
 use Rattle.register_arguments.specs.declared.help.TheConstants.{STRIPES}
 use Rattle.register_arguments.specs.declared.jobs.Job.{Job}
@@ -95,18 +95,27 @@ abbrev pub AreTargetsOf : Option Text → List Target → Type 0
 AreTargetsOf None targets = targets ≡ default_targets
 AreTargetsOf (Some list) targets = AsksForTargets list targets
 
+-- the byte of the delimiter that values ask for
+abbrev pub delimiter_asked : Values → ℕ
+delimiter_asked values = byte_of (unwrap_or (option_and_then delimiter_of values.delimiter) Comma)
+
+-- the task that they ask for, with these targets
+abbrev pub task_with : Values → List Target → Task
+task_with values targets = record {
+  reading = record { delimiter = delimiter_asked values; form = if values.sealed then Sealed else Plain };
+  layout = record {
+    writing = record { delimiter = delimiter_asked values; has_notes = values.sealed };
+    targets = targets;
+  };
+  ring = option_and_then (number_of largest_ring) values.ring;
+  stripes = option_and_then (number_of most_stripes) values.stripes;
+  summary = values.summary;
+  files = values.files;
+}
+
 -- the values ask for this task
-pub record Ask (values : Values) (task : Task) : Type 0 where
-  pub targets : AreTargetsOf values.to task.layout.targets
-  pub ring : IsWritten largest_ring values.ring task.ring
-  pub delimiter : IsValueOf delimiter_option values.delimiter task.reading.delimiter
-  pub same_delimiter : task.layout.writing.delimiter ≡ task.reading.delimiter
-  pub stripes : IsWritten most_stripes values.stripes task.stripes
-  pub form : task.reading.form ≡ (if values.sealed then Sealed else Plain)
-  pub notes : task.layout.writing.has_notes ≡ values.sealed
-  pub summary : task.summary ≡ values.summary
-  pub files : task.files ≡ values.files
-  pub files_fit : AreFilesToConvert values.files
+abbrev pub Ask : Values → Task → Type 0
+Ask values task = AreTargetsOf values.to task.layout.targets × (task ≡ task_with values task.layout.targets)
 
 -- what is wrong with the value of `--to`; without it, nothing is
 abbrev pub IsTargetFault : Option Text → Fault → Type 0
@@ -120,22 +129,22 @@ target_check value = record {
   passes = (targets : List Target) × AreTargetsOf value targets;
 }
 
--- the checks of values, in order
+-- the checks of words, in order, and of all values
+abbrev pub word_checks : Values → List Check
+word_checks values =
+    option_check (number_of largest_ring) (codes "bad ring size: ") values.ring
+    ∷ option_check delimiter_of (codes "unknown delimiter: ") values.delimiter
+    ∷ option_check (number_of most_stripes) (codes "bad stripes: ") values.stripes ∷ []
+
 abbrev pub value_checks : Values → List Check
-value_checks values =
-    target_check values.to
-    ∷ ring_check values.ring
-    ∷ option_check delimiter_option (codes "unknown delimiter: ") values.delimiter
-    ∷ stripes_check values.stripes
-    ∷ file_check values.files
-    ∷ []
+value_checks values = target_check values.to ∷ (word_checks values ++ file_check values.files ∷ [])
 
 -- the command line, and what is asked by it
 abbrev pub register_line : CommandLine Task
 register_line = record {
   command = command_line;
-  asks = λ found task. Ask (values_of found) task;
   checks = λ found. value_checks (values_of found);
+  asks = λ found. Ask (values_of found);
 }
 
 -- what the arguments mean and nothing else, what is wrong with them, and that something is
@@ -156,8 +165,8 @@ task_of job = record {
     writing = record { delimiter = byte_of job.delimiter; has_notes = has_notes job.form };
     targets = job.targets.items;
   };
-  ring = option_map (λ ring. ring.size) job.ring;
-  stripes = option_map (λ stripes. stripes.count) job.stripes;
+  ring = job.ring;
+  stripes = job.stripes;
   summary = job.summary;
   files = map (λ file. file.now) job.files.items;
 }

@@ -1,3 +1,2 @@
 -- What serves private clauses and proofs alone: no public clause reaches it.
 pub mod OptionValues
-pub mod Requests

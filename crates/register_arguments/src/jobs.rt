@@ -1,9 +1,10 @@
 //! A conversion, and the setup of its run.
 
-ghost use Rattle.register_records.specs.SetupRules.{NamesTwice};
+ghost use Rattle.std.specs.Prelude.{◌≡◌, true};
+ghost use Rattle.std.specs.Option.{ForSome};
+ghost use Rattle.register_records.specs.SetupRules.{NamesTwice, is_ring_size, is_stripe_count};
 
 use crate::fittings::fitting;
-use crate::option_values::{Ring, Stripes};
 use date_texts::Target;
 use programs::Delimiter;
 use register_records::{Form, Setup};
@@ -15,14 +16,16 @@ pub struct Job<'a> {
     pub(crate) delimiter: Delimiter,
     pub(crate) form: Form,
     /// The size of the rings, where it is written.
-    pub ring: Option<Ring>,
+    pub ring: Option<usize>,
     /// The number of converters of a source, where it is written.
-    pub stripes: Option<Stripes>,
+    pub stripes: Option<usize>,
     /// Whether a summary is asked for.
     pub summary: bool,
     /// The files to convert, in order; with none, one text from standard input.
     pub files: Vec<&'a str>,
     ghost once: { ¬ (NamesTwice targets.items) },
+    ghost ring_fits: { ForSome ring (λ size. is_ring_size size ≡ true) },
+    ghost stripes_fit: { ForSome stripes (λ count. is_stripe_count count ≡ true) },
 }
 
 impl Job<'_> {
@@ -37,13 +40,7 @@ impl Job<'_> {
         let ring = self.ring.unwrap_or(fit.ring);
         let stripes = self.stripes.unwrap_or(fit.stripes);
         let byte = self.delimiter.byte();
-        match Setup::new(
-            self.targets.as_slice(),
-            ring.size,
-            byte,
-            stripes.count,
-            self.form,
-        ) {
+        match Setup::new(self.targets.as_slice(), ring, byte, stripes, self.form) {
             Ok(setup) => setup,
             Err(_) => unreachable!(),
         }

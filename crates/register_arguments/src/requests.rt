@@ -1,26 +1,25 @@
 //! What the arguments ask for.
 
-ghost use Rattle.std.specs.Prelude.{◌≡◌, IfOk, IfErr, IfSome, map, option_map, if◌then◌else◌};
+ghost use Rattle.std.specs.Prelude.{◌≡◌, IfOk, IfErr, IfSome, OnOk, codes, map, if◌then◌else◌};
 ghost use Rattle.std.specs.String.{string_bytes};
-ghost use Rattle.clap.specs.Words.{app_of, found_of, rows_of};
+ghost use Rattle.clap.specs.Words.{app_of, first_of, found_of, rows_of};
 ghost use Rattle.programs.specs.Faults.{fault_of_error};
-ghost use Rattle.programs.specs.Meanings.{FailFirst, wrong};
+ghost use Rattle.programs.specs.Meanings.{AllPass, FailFirst, wrong};
 ghost use Rattle.register_arguments.specs.Requests.{command_line, values_of};
 ghost use Rattle.register_arguments.specs.Requests.{AreTargetsOf, Ask, IsTargetFault, MeanJust, meaning_of};
-ghost use Rattle.register_arguments.specs.Requests.{register_line, task_of, value_checks};
-ghost use Rattle.register_arguments.specs.private.Requests.{values_by};
+ghost use Rattle.register_arguments.specs.Requests.{task_of, value_checks};
 
 use crate::help::ARGUMENTS;
 use crate::jobs::Job;
-use crate::option_values::{chosen_ring, chosen_stripes, read_targets};
+use crate::option_values::read_targets;
 use clap::{ArgMatches, Command};
 use date_texts::Target;
 use date_texts::laws::{default_targets, one_target};
 use programs::{
-    Delimiter, Request, RequestFault, check_files, chosen, command_with, is_given, read_arguments,
-    value_given, values_given,
+    Delimiter, NumberTo, Request, RequestFault, check_files, chosen, command_with, is_given,
+    read_arguments, value_given, values_given,
 };
-use register_records::Form;
+use register_records::{Form, MAX_RING, MAX_STRIPES};
 use std::alloc::{AllocError, Global};
 
 /// The name of the program.
@@ -28,18 +27,6 @@ pub const NAME: &str = "register";
 
 /// The version of the program.
 pub const VERSION: &str = "1.2.0";
-
-/// The values of the options and the files, as the arguments have them.
-#[derive(Drop)]
-struct Options<'a> {
-    to: Option<&'a str>,
-    ring: Option<&'a str>,
-    stripes: Option<&'a str>,
-    delimiter: Option<&'a str>,
-    sealed: bool,
-    summary: bool,
-    files: Vec<&'a str>,
-}
 
 /// The command line, as clap reads it: its options and flags, and the files.
 ///
@@ -52,36 +39,20 @@ pub fn command<'a>(alloc: Global) -> Result<Command<'a>, AllocError>
     command_with(alloc, NAME, VERSION, &ARGUMENTS)
 }
 
-/// The values of the options that clap found, and the files.
-fn options_found<'a>(alloc: Global, matches: &ArgMatches<'a>) -> Result<Options<'a>, AllocError>
-    ensures { IfOk result (λ options. values_by options ≡ values_of (rows_of (found_of matches.now))) }
-{
-    let files = values_given(alloc, matches, "file")?;
-    Ok(Options {
-        to: value_given(matches, "to"),
-        ring: value_given(matches, "ring"),
-        stripes: value_given(matches, "stripes"),
-        delimiter: value_given(matches, "delimiter"),
-        sealed: is_given(matches, "sealed"),
-        summary: is_given(matches, "summary"),
-        files,
-    })
-}
-
-/// The targets that the value of `--to` asks for, or the default ones where there is none.
-fn chosen_targets<'a>(alloc: Global, list: Option<&'a str>) -> Result<Vec<Target>, RequestFault<'a>>
-    ensures value { IfOk result (λ targets. AreTargetsOf (option_map (λ l. l.now) list.entry) targets.items) }
+/// The targets that `--to` asks for, or the default ones where it is not given.
+fn chosen_targets<'a>(
+    alloc: Global,
+    matches: &ArgMatches<'a>,
+) -> Result<Vec<Target>, RequestFault<'a>>
+    ensures value { IfOk result (λ targets. AreTargetsOf (first_of (codes "to") (rows_of (found_of matches.now))) targets.items) }
     ensures fault { IfErr result (λ error. IfSome (fault_of_error error)
-        (IsTargetFault (option_map (λ l. l.now) list.entry))) }
+        (IsTargetFault (first_of (codes "to") (rows_of (found_of matches.now))))) }
 {
-    match list {
+    match value_given(matches, "to") {
         Some(list) => read_targets(alloc, list),
         None => {
             default_targets();
-            match Target::DEFAULT.to_vec(alloc) {
-                Ok(targets) => Ok(targets),
-                Err(_) => Err(RequestFault::OutOfMemory),
-            }
+            Ok(Target::DEFAULT.to_vec(alloc)?)
         }
     }
 }
@@ -93,42 +64,32 @@ fn chosen_form(sealed: bool) -> Form
     if sealed { Form::Sealed } else { Form::Plain }
 }
 
-/// The conversion that the options ask for.
+/// The conversion that the values which clap found ask for.
 ///
 /// # Errors
 ///
 /// The first thing that is wrong, in the order of the lines below.
-fn chosen_job<'a>(alloc: Global, options: Options<'a>) -> Result<Job<'a>, RequestFault<'a>>
-    ensures asked { IfOk result (λ job. Ask (values_by options.entry) (task_of job)) }
-    ensures fault { IfErr result (λ error. IfSome (fault_of_error error)
-        (FailFirst (value_checks (values_by options.entry)))) }
-{
-    let targets = chosen_targets(alloc, options.to)?;
-    let ring = chosen_ring(options.ring)?;
-    let delimiter = chosen::<Delimiter>("unknown delimiter: ", options.delimiter)?;
-    let stripes = chosen_stripes(options.stripes)?;
-    check_files(options.files.as_slice())?;
-    Ok(Job {
-        targets,
-        delimiter,
-        form: chosen_form(options.sealed),
-        ring,
-        stripes,
-        summary: options.summary,
-        files: options.files,
-    })
-}
-
-/// The conversion that the values which clap found ask for.
 fn job_found<'a>(alloc: Global, matches: &ArgMatches<'a>) -> Result<Job<'a>, RequestFault<'a>>
+    ensures passed { OnOk result (AllPass (value_checks (values_of (rows_of (found_of matches.now))))) }
     ensures asked { IfOk result (λ job. Ask (values_of (rows_of (found_of matches.now))) (task_of job)) }
     ensures fault { IfErr result (λ error. IfSome (fault_of_error error)
         (FailFirst (value_checks (values_of (rows_of (found_of matches.now)))))) }
 {
-    match options_found(alloc, matches) {
-        Ok(options) => chosen_job(alloc, options),
-        Err(_) => Err(RequestFault::OutOfMemory),
-    }
+    let targets = chosen_targets(alloc, matches)?;
+    let ring = chosen::<NumberTo<MAX_RING>>(matches, "ring", "bad ring size: ")?;
+    let delimiter = chosen::<Delimiter>(matches, "delimiter", "unknown delimiter: ")?;
+    let stripes = chosen::<NumberTo<MAX_STRIPES>>(matches, "stripes", "bad stripes: ")?;
+    let files = values_given(alloc, matches, "file")?;
+    check_files(files.as_slice())?;
+    Ok(Job {
+        targets,
+        delimiter: delimiter.unwrap_or(Delimiter::Comma),
+        form: chosen_form(is_given(matches, "sealed")),
+        ring,
+        stripes,
+        summary: is_given(matches, "summary"),
+        files,
+    })
 }
 
 /// What the arguments ask for.

@@ -20,7 +20,7 @@ pub fn fit_facts(alloc: Global) -> Result<Vec<FitFacts>, AllocError> {
         let mut before = (0, 0);
         for files in 1..=MAX_FILES {
             let fit = fitting(processors, files);
-            let (ring, stripes) = (fit.ring.size, fit.stripes.count);
+            let (ring, stripes) = (fit.ring, fit.stripes);
             if (ring, stripes) != before {
                 before = (ring, stripes);
                 all.push(FitFacts {

@@ -1,14 +1,14 @@
 -- The columns that words name, one after the other.
-use Rattle.std.proofs.Common.{◌≡◌, ◌↔◌, ◌∙◌, ◌+◌, ◌-◌, ◌<◌, ◌≤◌, ◌∷◌, ◌++◌, ℕ, List, [], None, Some, ap}
+use Rattle.std.proofs.Common.{◌≡◌, ◌∙◌, ◌+◌, ◌-◌, ◌<◌, ◌≤◌, ◌∷◌, ◌++◌, ℕ, List, [], None, Some, ap}
 use Rattle.std.proofs.Common.{arith, get_or, inl, inr, length, length-append, refl, slice_get, sym, subst}
 use Rattle.std.proofs.Common.{Contains, Option}
 use Rattle.sheet_app.proofs.Common.{DateColumn, NameLine, Task, Text, calendar_words}
 use Rattle.std.proofs.lemmas.List.Elements.{Contains-get_or}
-use Rattle.std.proofs.lemmas.Option.{get_or_from_slice_get, none-some, slice_get_within}
+use Rattle.std.proofs.lemmas.Option.{get_or_from_slice_get, slice_get_within}
 use Rattle.sheets.proofs.TakeLemmas.{appended}
 use Rattle.register_records.specs.Entries.{Fields}
 use Rattle.sheet_arguments.specs.Requests.{CalendarsWanted, all_have, in_columns}
-use Rattle.programs.specs.Values.{IsNumberWord}
+use Rattle.programs.specs.Values.{number_of}
 use Rattle.sheet_app.specs.CalendarWords.{SaysNothing}
 use Rattle.sheet_app.specs.Columns.{HoldsOfNone, IsBareWord, IsCalendarField, IsColumn, IsDateColumn}
 use Rattle.sheet_app.specs.private.Columns.{IsForWord}
@@ -42,26 +42,20 @@ one_more_date lines names task columns new n column first is more = record {
 }
 
 -- a word that is a number from 1 names the column before it, where no name is the word
-pub number_some : (word : Text) (most number : ℕ) → ((n : ℕ) → (Some number ≡ Some n) ↔ IsNumberWord most word n)
-    → 1 ≤ number
-number_some word most number is = ((is number).0 refl).some
-
 pub column_by_number : (names : Fields) (word text bare : Text) (most number : ℕ) → text ≡ word → bare ≡ word
-    → most ≡ length names → ((n : ℕ) → (Some number ≡ Some n) ↔ IsNumberWord most word n)
+    → most ≡ length names → Some number ≡ number_of most word → 1 ≤ number
     → HoldsOfNone (IsWord text) names → HoldsOfNone (IsBareWord bare) names → IsColumn names word (number - 1)
-column_by_number names word text bare most number e f many is none bare_none =
-    let named : IsNumberWord most word number = (is number).0 refl in
-    let low : 1 ≤ number = named.some in
+column_by_number names word text bare most number e f many is low none bare_none =
     let next : number - 1 + 1 ≡ number = omega (arith, low) in
-    inr (inr (rw e at none, rw f at bare_none, rw (next, ← many) named))
+    inr (inr (rw e at none, rw f at bare_none, rw (next, ← many) (sym is)))
 
 pub no_column : (names : Fields) (word text bare : Text) (most : ℕ) → text ≡ word → bare ≡ word
-    → most ≡ length names → ((n : ℕ) → (None ≡ Some n) ↔ IsNumberWord most word n)
+    → most ≡ length names → None ≡ number_of most word
     → HoldsOfNone (IsWord text) names → HoldsOfNone (IsBareWord bare) names → NamesNoColumn names word
 no_column names word text bare most e f many is none bare_none = record {
   no_name = rw e at none;
   no_bare_name = rw f at bare_none;
-  no_number = λ number named. none-some number ((is number).1 (rw many named));
+  no_number = rw (← many) (sym is);
 }
 
 -- the column of dates that a word asks for

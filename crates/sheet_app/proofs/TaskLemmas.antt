@@ -15,7 +15,11 @@ use Rattle.std.proofs.lemmas.Map.Keys.{IsDistinct-push, apart_from_distinct}
 use Rattle.std.proofs.lemmas.Map.Made.{length-le_from_is_member}
 use Rattle.std.proofs.lemmas.Option.{unwrap_or-slice_get}
 use Rattle.date_texts.specs.Calendars.{target_name}
-use Rattle.programs.specs.Values.{IsValueOf, delimiter_option}
+use Rattle.programs.specs.Meanings.{AllPass}
+use Rattle.programs.specs.Values.{byte_of, delimiter_of}
+use Rattle.programs.specs.declared.values.Delimiter.{Delimiter as DelimiterWord}
+use Rattle.programs.specs.declared.values.Delimiter.TheVariants.{Comma}
+use Rattle.std.specs.Prelude.{option_and_then}
 use Rattle.date_texts.specs.declared.calendar.Calendar.TheVariants as calendar
 use Rattle.date_texts.specs.declared.target.Target.{Target}
 use Rattle.date_texts.specs.declared.target.Target.TheVariants as target
@@ -31,7 +35,7 @@ use Rattle.sheets.specs.declared.choices.AskedColumn.TheVariants.{Cells, Church,
 use Rattle.sheets.specs.declared.choices.SheetChoice.{SheetChoice}
 use Rattle.sheets.specs.declared.choices.Spans.{Spans}
 use Rattle.sheets.specs.declared.choices.Spans.TheVariants as spans
-use Rattle.sheet_arguments.specs.Requests.{Values, Ask}
+use Rattle.sheet_arguments.specs.Requests.{Ask, Values, date_checks}
 use Rattle.programs.specs.Faults.{Fault}
 use Rattle.sheet_arguments.specs.WordLists.{all_columns, column_named, columns_asked, is_among, names_in, or_fault}
 use Rattle.sheet_arguments.specs.WordLists.{column_twice, unknown_column, with_columns}
@@ -251,19 +255,16 @@ is_choice task lines names headings asked sheet in_dates of_calendars choice tas
           ∙ ap (λ (kind : Spans). length choice.dates.now * added_each kind (length choice.columns.now)) (sym of.spans);
     }
 
-delimiter_is : (value : Option Text) (byte : ℕ) → IsValueOf delimiter_option value byte → is_delimiter byte ≡ true
-delimiter_is None byte is = rw is refl
-delimiter_is (Some word) byte (inl comma) = rw comma.1 refl
-delimiter_is (Some word) byte (inr (inl semicolon)) = rw semicolon.1 refl
-delimiter_is (Some word) byte (inr (inr tab)) = rw tab.1 refl
+delimiter_is : (delimiter : DelimiterWord) → is_delimiter (byte_of delimiter) ≡ true
+delimiter_is delimiter = grind arith
 
-pub is_task : (values : Values) (task : Task) → Ask values task → IsTask task
-is_task values task ask =
-    let distinct = asked_distinct values.to task.columns ask.columns in
+pub is_task : (values : Values) (task : Task) → AllPass (date_checks values) → Ask values task → IsTask task
+is_task values task pass ask =
+    let distinct = asked_distinct values.to task.columns ask.1 in
     record {
-      some_dates = rw ask.dates ask.some_dates;
-      few_dates = rw ask.dates ask.few_dates;
-      delimited = delimiter_is values.delimiter task.delimiter ask.delimiter;
+      some_dates = rw ask.2 pass.0;
+      few_dates = rw ask.2 pass.1.0;
+      delimited = rw ask.2 (delimiter_is (unwrap_or (option_and_then delimiter_of values.delimiter) Comma));
       few_columns = few task.columns distinct;
       once = asked_once task.columns distinct;
       targets = none_twice (asked_targets task.columns) (targets_distinct task.columns distinct);

@@ -2,7 +2,7 @@
 use Rattle.std.specs.Prelude.{◌≡◌, ◌≢◌, ◌≤◌, ◌<◌, ◌+◌, ◌^◌, ◌⊎◌, ℕ, Contains, List, [], Option, None, Some, get_or, length}
 use Rattle.std.specs.Prelude.{◌==◌, ◌&&◌, Bool, false, is_some, slice_get, true}
 use Rattle.clap.specs.Words.{Text}
-use Rattle.programs.specs.Values.{IsNumberWord}
+use Rattle.programs.specs.Values.{number_of}
 use Rattle.register_records.specs.Entries.{Fields}
 use Rattle.sheets.specs.declared.choices.CalendarColumn.{CalendarColumn}
 use Rattle.sheets.specs.declared.choices.CalendarField.{CalendarField}
@@ -40,13 +40,13 @@ IsColumn names word index =
     IsFirst (IsWord word) names index
     ⊎ (HoldsOfNone (IsWord word) names × IsFirst (IsBareWord word) names index)
     ⊎ (HoldsOfNone (IsWord word) names × HoldsOfNone (IsBareWord word) names
-    × IsNumberWord (length names) word (index + 1))
+    × (number_of (length names) word ≡ Some (index + 1)))
 
 -- the word names no column
 pub record NamesNoColumn (names : Fields) (word : Text) : Type 0 where
   pub no_name : HoldsOfNone (IsWord word) names
   pub no_bare_name : HoldsOfNone (IsBareWord word) names
-  pub no_number : (number : ℕ) → ¬ IsNumberWord (length names) word number
+  pub no_number : number_of (length names) word ≡ None
 
 -- it names none, or only one whose index has more than 32 bits
 abbrev pub NamesNone : Fields → Text → Type 0

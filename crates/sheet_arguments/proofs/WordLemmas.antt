@@ -1,7 +1,7 @@
 -- What words name, and lists of words.
 use Rattle.std.proofs.Common.{◌≡◌, ◌↔◌, ◌∙◌, ◌+◌, ◌<◌, ◌++◌, ◌∷◌, ℕ, zero, suc, Bool, true, false, List, [], Option, None}
-use Rattle.std.proofs.Common.{Some, true≢false, Bor, ap, ap₂, arith, drop, get_or, length, lit<, map, refl, sym, take}
-use Rattle.std.proofs.Common.{Result, Ok, Err, IfSome, inl, inr, is_some, subst}
+use Rattle.std.proofs.Common.{Some, true≢false, ap, ap₂, arith, drop, get_or, length, lit<, refl, sym, take}
+use Rattle.std.proofs.Common.{Result, Ok, Err}
 use Rattle.std.specs.List.{find}
 use Rattle.std.specs.Prelude.{if◌then◌else◌}
 use Rattle.std.specs.Str.{bytes_eq, str_to_ascii_lowercase}
@@ -12,7 +12,6 @@ use Rattle.std.specs.declared.str.Split.{Split}
 use Rattle.std.proofs.lemmas.Iterator.{YieldsList}
 use Rattle.std.proofs.lemmas.Iterator.Consumers.{YieldsList-at}
 use Rattle.std.proofs.lemmas.Iterator.Splits.{YieldsList-from_str_split}
-use Rattle.std.proofs.lemmas.List.{get_or-map, length-map, take_more}
 use Rattle.std.proofs.lemmas.Slice.Eq.{bytes_eq-Decides}
 use Rattle.clap.specs.Words.{Text}
 use Rattle.date_texts.specs.Calendars.{target_name}

@@ -1,48 +1,30 @@
--- What the values of the options mean.
-use Rattle.std.specs.Prelude.{◌≡◌, ◌⊎◌, ◌+◌, ◌%◌, ℕ, List, Option, Some, None, codes, if◌then◌else◌}
+-- What the words of options name.
+use Rattle.std.specs.Prelude.{◌==◌, ◌%◌, ℕ, List, [], ◌∷◌, Option, Some, None, codes, if◌then◌else◌, option_and_then, option_map}
 use Rattle.std.specs.Str.{bytes_eq, str_to_ascii_lowercase}
-use Rattle.programs.specs.Values.{IsNumberWord, ValueOption}
+use Rattle.programs.specs.Values.{number_of, value_in, value_or}
 use Rattle.written_dates.specs.declared.rules.Order.{Order}
 use Rattle.written_dates.specs.declared.rules.Order.TheVariants.{YearFirst, DayFirst, MonthFirst}
 use Rattle.written_dates.specs.declared.written.Short.{Short}
 use Rattle.written_dates.specs.declared.written.Short.TheVariants.{Refuse, Keep, Add}
 
--- a number for each order
-abbrev pub order_number : Order → ℕ
-order_number YearFirst = 0
-order_number DayFirst = 1
-order_number MonthFirst = 2
+-- an order, in letters of any case
+abbrev pub order_of : List ℕ → Option Order
+order_of word =
+    value_in ((codes "year", YearFirst) ∷ (codes "day", DayFirst) ∷ (codes "month", MonthFirst) ∷ [])
+    (str_to_ascii_lowercase word)
 
--- the words for an order, in letters of any case
-abbrev pub IsOrderWord : List ℕ → ℕ → Type 0
-IsOrderWord word n =
-    ((str_to_ascii_lowercase word ≡ codes "year") × (n ≡ order_number YearFirst))
-    ⊎ ((str_to_ascii_lowercase word ≡ codes "day") × (n ≡ order_number DayFirst))
-    ⊎ ((str_to_ascii_lowercase word ≡ codes "month") × (n ≡ order_number MonthFirst))
+-- a century up to 2000
+abbrev pub century_of : List ℕ → Option ℕ
+century_of word = option_and_then (λ years. if years % 100 == 0 then Some years else None) (number_of 2000 word)
 
--- a number for each rule of short years
-abbrev pub short_number : Short → ℕ
-short_number Refuse = 0
-short_number Keep = 1
-short_number (Add years) = years + 2
+-- what is done with short years; a century is added
+abbrev pub short_of : List ℕ → Option Short
+short_of =
+    value_or ((codes "refuse", Refuse) ∷ (codes "keep", Keep) ∷ [])
+    (λ word. option_map (λ years. Add years) (century_of word))
 
--- the word is one of these two
-abbrev pub IsBareShortWord : List ℕ → ℕ → Type 0
-IsBareShortWord word n =
-    ((word ≡ codes "refuse") × (n ≡ short_number Refuse)) ⊎ ((word ≡ codes "keep") × (n ≡ short_number Keep))
-
--- the word is a century up to 2000, which is added
-pub record IsCenturyWord (word : List ℕ) (n : ℕ) : Type 0 where
-  pub years : ℕ
-  pub named : IsNumberWord 2000 word years
-  pub whole : years % 100 ≡ 0
-  pub added : n ≡ short_number (Add years)
-
-abbrev pub IsShortWord : List ℕ → ℕ → Type 0
-IsShortWord word n = IsBareShortWord word n ⊎ IsCenturyWord word n
-
-abbrev pub IsShortHebrewWord : List ℕ → ℕ → Type 0
-IsShortHebrewWord word n = IsBareShortWord word n ⊎ ((word ≡ codes "5000") × (n ≡ short_number (Add 5000)))
+abbrev pub short_hebrew_of : List ℕ → Option Short
+short_hebrew_of = value_in ((codes "refuse", Refuse) ∷ (codes "keep", Keep) ∷ (codes "5000", Add 5000) ∷ [])
 
 -- what is said of short years counts for those of other calendars too, if it keeps them
 abbrev pub if_keep : List ℕ → Option (List ℕ)
@@ -55,18 +37,6 @@ other_word (Some word) years = Some word
 other_word None (Some years) = if_keep years
 other_word None None = None
 
--- the word is 0, or a number of at most five digits
-abbrev pub IsSkipWord : List ℕ → ℕ → Type 0
-IsSkipWord word n = ((word ≡ codes "0") × (n ≡ 0)) ⊎ IsNumberWord 99_999 word n
-
-abbrev pub order_option : ValueOption
-order_option = record { names = IsOrderWord; default = order_number YearFirst }
-
-abbrev pub short_option : ValueOption
-short_option = record { names = IsShortWord; default = short_number Refuse }
-
-abbrev pub short_hebrew_option : ValueOption
-short_hebrew_option = record { names = IsShortHebrewWord; default = short_number Refuse }
-
-abbrev pub skip_option : ValueOption
-skip_option = record { names = IsSkipWord; default = 0 }
+-- 0, or a number of at most five digits
+abbrev pub skip_of : List ℕ → Option ℕ
+skip_of = value_or ((codes "0", 0) ∷ []) (number_of 99_999)

@@ -3,26 +3,27 @@
 -- in a tree the day stands before the month.
 use Rattle.std.specs.Option.{option_map_or}
 use Rattle.std.specs.Prelude.{List, [], ◌∷◌, Bool, codes, Option, unwrap_or, ◌||◌, ◌&&◌, ◌==◌, ◌++◌, false}
-use Rattle.std.specs.Prelude.{if◌then◌else◌, length, not, true, None, Some, option_to_list, ◌≡◌, ℕ, map, nat_lt}
-use Rattle.std.specs.Prelude.{is_some, option_map, Result, Ok, Err}
+use Rattle.std.specs.Prelude.{if◌then◌else◌, length, not, true, option_to_list, ◌≡◌, ℕ, map, nat_lt}
+use Rattle.std.specs.Prelude.{is_some, option_and_then, option_map, Result, Ok, Err}
 use Rattle.clap.specs.Words.{App, Row, Text, all_of, first_of, one_of}
 use Rattle.programs.specs.Faults.{Fault, refused}
-use Rattle.programs.specs.FileLists.{AreFilesToConvert}
 use Rattle.programs.specs.Meanings as lines
 use Rattle.programs.specs.Meanings.{Check, CommandLine, Meaning, file_check, option_check}
 use Rattle.programs.specs.OptionRows.{OptionRow, command_by, flag, page_by, repeated, valued}
 use Rattle.programs.specs.OwnLines as own_lines
 use Rattle.programs.specs.Requests.{meaning_by}
 use Rattle.programs.specs.Rules.{is_set}
-use Rattle.programs.specs.Values.{IsValueOf, delimiter_option}
+use Rattle.programs.specs.Values.{byte_of, delimiter_of}
+use Rattle.programs.specs.declared.values.Delimiter.TheVariants.{Comma}
 use Rattle.programs.specs.declared.requests.Request.{Request}
 use Rattle.sheets.specs.Choices.{date_limit}
 use Rattle.sheets.specs.declared.choices.AskedColumn.{AskedColumn}
 use Rattle.sheets.specs.declared.choices.Spans.{Spans}
 use Rattle.sheets.specs.declared.choices.Spans.TheVariants as spans_of
 use Rattle.written_dates.specs.declared.written.Choice.{Choice}
-use Rattle.sheet_arguments.specs.OptionValues.{order_number, order_option, other_word, short_hebrew_option}
-use Rattle.sheet_arguments.specs.OptionValues.{short_number, short_option, skip_option}
+use Rattle.written_dates.specs.declared.rules.Order.TheVariants.{DayFirst, YearFirst}
+use Rattle.written_dates.specs.declared.written.Short.TheVariants.{Refuse}
+use Rattle.sheet_arguments.specs.OptionValues.{order_of, other_word, short_hebrew_of, short_of, skip_of}
 use Rattle.sheet_arguments.specs.ThreeColumns.{ThreeWords, three_asked, words_seen}
 use Rattle.sheet_arguments.specs.WordLists.{columns_asked}
 use Rattle.sheet_arguments.specs.declared.help.TheConstants.{ABOVE, BELOW, TREE, DATE, THREE, CALENDAR, ALL, ELSE, ID}
@@ -32,6 +33,7 @@ use Rattle.sheet_arguments.specs.declared.help.TheConstants.{SPANS, EDTF, REGIST
 use Rattle.sheet_arguments.specs.declared.requests.CalendarsAsked.{CalendarsAsked}
 use Rattle.sheet_arguments.specs.declared.requests.CalendarsAsked.TheVariants as asked
 use Rattle.sheet_arguments.specs.declared.requests.Job.{Job}
+use Rattle.sheet_arguments.specs.declared.requests.Reading.{Reading}
 
 -- the options, in order
 abbrev pub options : List OptionRow
@@ -142,25 +144,14 @@ is_at_odds values =
     values.tree && (are_given values.dates || is_given values.three || are_given values.calendars
     || are_given values.all || is_given values.skip || is_given values.delimiter)
 
-abbrev pub or_word : Option Text → Text → Option Text
-or_word None other = Some other
-or_word word other = word
+-- the words for the columns of dates: that of a tree's sheet, or those that are given, behind which the column stands of
+-- the dates that are joined of three, whose word is the list of these
+abbrev pub dates_meant : Values → List Text
+dates_meant values = if values.tree then codes "date" ∷ [] else (values.dates ++ option_to_list values.three)
 
--- the columns of dates and of calendars of a tree's sheet, and the order of numbers where no other is given
-abbrev pub of_tree : Values → Values
-of_tree values = record values {
-  dates = codes "date" ∷ [];
-  calendars = codes "calendar" ∷ [];
-  order = or_word values.order (codes "day");
-}
-
--- the column of the dates that are joined of three stands behind the others, and its word is the list of these
-abbrev pub with_three : Values → Values
-with_three values = record values { dates = values.dates ++ option_to_list values.three }
-
--- the values that are meant
-abbrev pub meant : Values → Values
-meant values = if values.tree then of_tree values else with_three values
+-- and those for the columns of calendars
+abbrev pub calendars_meant : Values → List Text
+calendars_meant values = if values.tree then codes "calendar" ∷ [] else values.calendars
 
 -- where the calendars of the dates are: in these columns, with a word for empty fields, or a word says them for all dates
 -- of a column; one for all columns of dates, or one for each
@@ -204,45 +195,52 @@ calendars_wanted (word ∷ words) all otherwise = in_columns (word ∷ words) ot
 abbrev pub is_else_alone : ℕ → Option Text → Bool
 is_else_alone columns otherwise = (columns == 0) && is_some otherwise
 
--- registers are asked for, and no file
-abbrev pub asks_for_registers_of_input : Values → Bool
-asks_for_registers_of_input values = values.register && (length values.files == 0)
-
 -- what becomes of dates that say no single day, by the flags for spans and for EDTF
 abbrev pub spans_asked : Bool → Bool → Spans
 spans_asked spans true = spans_of.EndsAndEdtf
 spans_asked true false = spans_of.Ends
 spans_asked false false = spans_of.Unread
 
+-- how the values say that a sheet and its dates are read; where no order is given, the day stands in front in a tree
+abbrev pub reading_asked : Values → Reading
+reading_asked values = record {
+  dates = record {
+    order = unwrap_or (option_and_then order_of values.order) (if values.tree then DayFirst else YearFirst);
+    short_years = unwrap_or (option_and_then short_of values.short_years) Refuse;
+    short_hebrew_years = unwrap_or (option_and_then short_hebrew_of values.short_hebrew_years) Refuse;
+    short_other_years = unwrap_or
+        (option_and_then short_of (other_word values.short_other_years values.short_years)) Refuse;
+    charters = values.charter_years;
+  };
+  skip = unwrap_or (option_and_then skip_of values.skip) 0;
+  delimiter = byte_of (unwrap_or (option_and_then delimiter_of values.delimiter) Comma);
+}
+
+-- the task that they ask for, with these columns to join and to come out
+abbrev pub task_with : Values → Option ThreeWords → List AskedColumn → Task
+task_with values three columns = record {
+  tree = values.tree;
+  dates = dates_meant values;
+  three = three;
+  calendars = calendars_wanted (calendars_meant values) values.all values.otherwise;
+  id = values.id;
+  columns = columns;
+  spans = spans_asked values.spans values.edtf;
+  reading = (reading_asked values).dates;
+  names = values.names;
+  skip = (reading_asked values).skip;
+  delimiter = (reading_asked values).delimiter;
+  register = values.register;
+  unknown = values.unknown;
+  summary = values.summary;
+  files = values.files;
+}
+
 -- the values ask for this task
-pub record Ask (values : Values) (task : Task) : Type 0 where
-  pub tree : task.tree ≡ values.tree
-  pub dates : task.dates ≡ values.dates
-  pub three : three_asked values.three ≡ Ok task.three
-  pub some_dates : (length values.dates == 0) ≡ false
-  pub few_dates : nat_lt date_limit (length values.dates) ≡ false
-  pub as_many : are_misfits (length values.dates) (length values.calendars) (length values.all) ≡ false
-  pub not_alone : is_else_alone (length values.calendars) values.otherwise ≡ false
-  pub calendars : task.calendars ≡ calendars_wanted values.calendars values.all values.otherwise
-  pub id : task.id ≡ values.id
-  pub order : IsValueOf order_option values.order (order_number task.reading.order)
-  pub short_years : IsValueOf short_option values.short_years (short_number task.reading.short_years)
-  pub short_hebrew_years : IsValueOf short_hebrew_option values.short_hebrew_years
-      (short_number task.reading.short_hebrew_years)
-  pub short_other_years : IsValueOf short_option (other_word values.short_other_years values.short_years)
-      (short_number task.reading.short_other_years)
-  pub charters : task.reading.charters ≡ values.charter_years
-  pub skip : IsValueOf skip_option values.skip task.skip
-  pub delimiter : IsValueOf delimiter_option values.delimiter task.delimiter
-  pub columns : columns_asked values.to ≡ Ok task.columns
-  pub spans : task.spans ≡ spans_asked values.spans values.edtf
-  pub names : task.names ≡ values.names
-  pub register : task.register ≡ values.register
-  pub for_files : asks_for_registers_of_input values ≡ false
-  pub unknown : task.unknown ≡ values.unknown
-  pub summary : task.summary ≡ values.summary
-  pub files : task.files ≡ values.files
-  pub files_fit : AreFilesToConvert values.files
+abbrev pub Ask : Values → Task → Type 0
+Ask values task =
+    (three_asked values.three ≡ Ok task.three) × (columns_asked values.to ≡ Ok task.columns)
+    × (task ≡ task_with values task.three task.columns)
 
 -- the check of what is wrong where this holds, of which this is said
 abbrev pub false_check : Bool → Text → Check
@@ -252,24 +250,31 @@ false_check holds what = record { fails = λ fault. (fault ≡ refused what) × 
 abbrev pub result_check : {A : Type 0} → Result A Fault → Check
 result_check {A} result = record { fails = λ f. result ≡ Err f; passes = (a : A) × (result ≡ Ok a) }
 
--- the checks of values, in order: of where the dates and their calendars are, of words, and of what is to come out
-abbrev pub date_checks : Values → List Check
-date_checks values =
-    false_check (length values.dates == 0) (codes "no column of dates: give --date COLUMN")
-    ∷ false_check (nat_lt date_limit (length values.dates)) (codes "more than 8 columns of dates")
-    ∷ false_check (are_misfits (length values.dates) (length values.calendars) (length values.all))
+-- the check of a tree, and those of where the dates and their calendars are, of words, and of what is to come out
+abbrev pub tree_check : Values → Check
+tree_check values =
+    false_check (is_at_odds values) (codes "--tree takes no --date, --three, --calendar, --all, --skip and --delimiter")
+
+abbrev pub column_checks : List Text → List Text → List Text → Option Text → List Check
+column_checks dates calendars all otherwise =
+    false_check (length dates == 0) (codes "no column of dates: give --date COLUMN")
+    ∷ false_check (nat_lt date_limit (length dates)) (codes "more than 8 columns of dates")
+    ∷ false_check (are_misfits (length dates) (length calendars) (length all))
     (codes "give --calendar COLUMN or --all CALENDAR, once or once for each --date")
-    ∷ false_check (is_else_alone (length values.calendars) values.otherwise) (codes "--else is for --calendar") ∷ []
+    ∷ false_check (is_else_alone (length calendars) otherwise) (codes "--else is for --calendar") ∷ []
+
+abbrev pub date_checks : Values → List Check
+date_checks values = column_checks (dates_meant values) (calendars_meant values) values.all values.otherwise
 
 abbrev pub word_checks : Values → List Check
 word_checks values =
-    option_check order_option (codes "unknown order: ") values.order
-    ∷ option_check short_option (codes "bad short years: ") values.short_years
-    ∷ option_check short_hebrew_option (codes "bad short Hebrew years: ") values.short_hebrew_years
-    ∷ option_check short_option (codes "bad short years of other calendars: ")
+    option_check order_of (codes "unknown order: ") values.order
+    ∷ option_check short_of (codes "bad short years: ") values.short_years
+    ∷ option_check short_hebrew_of (codes "bad short Hebrew years: ") values.short_hebrew_years
+    ∷ option_check short_of (codes "bad short years of other calendars: ")
     (other_word values.short_other_years values.short_years)
-    ∷ option_check skip_option (codes "bad number of records to skip: ") values.skip
-    ∷ option_check delimiter_option (codes "unknown delimiter: ") values.delimiter ∷ []
+    ∷ option_check skip_of (codes "bad number of records to skip: ") values.skip
+    ∷ option_check delimiter_of (codes "unknown delimiter: ") values.delimiter ∷ []
 
 abbrev pub file_checks : Bool → List Text → List Check
 file_checks register files =
@@ -280,26 +285,16 @@ output_checks values =
     result_check (columns_asked values.to) ∷ result_check (three_asked values.three)
     ∷ file_checks values.register values.files
 
+-- all of them, in order
 abbrev pub value_checks : Values → List Check
-value_checks values = date_checks values ++ (word_checks values ++ output_checks values)
-
--- what is given asks for this task: nothing is at odds with a tree, and what is meant asks for it
-pub record AskMeant (values : Values) (task : Task) : Type 0 where
-  pub fits : is_at_odds values ≡ false
-  pub asks : Ask (meant values) task
-
--- the checks of what is given, and then of what is meant
-abbrev pub given_checks : Values → List Check
-given_checks values =
-    false_check (is_at_odds values) (codes "--tree takes no --date, --three, --calendar, --all, --skip and --delimiter")
-    ∷ value_checks (meant values)
+value_checks values = tree_check values ∷ (date_checks values ++ (word_checks values ++ output_checks values))
 
 -- the command line, and what is asked by it
 abbrev pub sheet_line : CommandLine Task
 sheet_line = record {
   command = command_line;
-  asks = λ found task. AskMeant (values_of found) task;
-  checks = λ found. given_checks (values_of found);
+  checks = λ found. value_checks (values_of found);
+  asks = λ found. Ask (values_of found);
 }
 
 -- what the arguments mean and nothing else, what is wrong with them, and that something is

@@ -1,3 +1,3 @@
 -- What serves private clauses and proofs alone: no public clause reaches it.
-pub mod Requests
 pub mod ThreeColumns
+pub mod Requests

@@ -1,12 +1,11 @@
-//! The values of the options.
+//! The words of the options.
 
-ghost use Rattle.std.specs.Prelude.{◌≡◌, ◌↔◌, ◌%◌, ℕ, Some, option_map, true};
-ghost use Rattle.std.specs.Str.{str_to_ascii_lowercase};
-ghost use Rattle.programs.specs.Values.{IsNumberWord};
-ghost use Rattle.sheet_arguments.specs.OptionValues.{order_number, order_option, other_word as other_spec};
-ghost use Rattle.sheet_arguments.specs.OptionValues.{short_hebrew_option, short_number, short_option, skip_option};
+ghost use Rattle.std.specs.Prelude.{◌≡◌, option_map};
+ghost use Rattle.std.specs.Str.{bytes_eq, str_to_ascii_lowercase};
+ghost use Rattle.sheet_arguments.specs.OptionValues.{century_of, order_of, other_word as other_spec};
+ghost use Rattle.sheet_arguments.specs.OptionValues.{short_hebrew_of, short_of, skip_of};
 
-use programs::{OptionValue, number_named};
+use programs::{OptionWords, number_named};
 use written_dates::{Order, Short};
 
 /// The last century that may be added to short years.
@@ -19,52 +18,39 @@ const CENTURY: usize = 100;
 pub(crate) const MOST_ABOVE: usize = 99_999;
 
 /// In which order three numbers stand, by `--order`.
-#[derive(Clone, Copy)]
-pub struct OrderValue {
-    pub order: Order,
-}
+pub enum OrderWords {}
 
 /// Whether a text is this word, in letters of any case.
 fn is_caseless(text: &str, word: &str) -> bool
-    ensures { (result ≡ true) ↔ (str_to_ascii_lowercase text.now ≡ str_to_ascii_lowercase word.now) }
+    ensures { result ≡ bytes_eq (str_to_ascii_lowercase text.now) (str_to_ascii_lowercase word.now) }
 {
     text.eq_ignore_ascii_case(word)
 }
 
-impl OptionValue for OrderValue {
-    ghost option = { order_option };
+impl OptionWords for OrderWords {
+    type Value = Order;
 
-    ghost number = { λ value. order_number value.order };
+    ghost value_of = { order_of };
 
-    fn default() -> OrderValue {
-        OrderValue {
-            order: Order::YearFirst,
-        }
-    }
-
-    fn named(word: &str) -> Option<OrderValue> {
-        let order = if is_caseless(word, "year") {
-            Order::YearFirst
+    fn named(word: &str) -> Option<Order> {
+        if is_caseless(word, "year") {
+            Some(Order::YearFirst)
         } else if is_caseless(word, "day") {
-            Order::DayFirst
+            Some(Order::DayFirst)
         } else if is_caseless(word, "month") {
-            Order::MonthFirst
+            Some(Order::MonthFirst)
         } else {
-            return None;
-        };
-        Some(OrderValue { order })
+            None
+        }
     }
 }
 
 /// What is done with short years, by `--short-years`.
-#[derive(Clone, Copy)]
-pub struct ShortYears {
-    pub rule: Short,
-}
+pub enum ShortYears {}
 
 /// The century that a word names: 100, 200 and so on to 2000.
 fn century_named(word: &str) -> Option<u32>
-    ensures { (n : ℕ) → (result ≡ Some n) ↔ (IsNumberWord 2000 word.now n × (n % 100 ≡ 0)) }
+    ensures { result ≡ century_of word.now }
 {
     let Some(years) = number_named(word, LAST_CENTURY) else {
         return None;
@@ -76,86 +62,57 @@ fn century_named(word: &str) -> Option<u32>
     }
 }
 
-impl OptionValue for ShortYears {
-    ghost option = { short_option };
+impl OptionWords for ShortYears {
+    type Value = Short;
 
-    ghost number = { λ value. short_number value.rule };
+    ghost value_of = { short_of };
 
-    fn default() -> ShortYears {
-        ShortYears {
-            rule: Short::Refuse,
-        }
-    }
-
-    fn named(word: &str) -> Option<ShortYears> {
+    fn named(word: &str) -> Option<Short> {
         if word == "refuse" {
-            return Some(ShortYears {
-                rule: Short::Refuse,
-            });
+            return Some(Short::Refuse);
         }
         if word == "keep" {
-            return Some(ShortYears { rule: Short::Keep });
+            return Some(Short::Keep);
         }
         match century_named(word) {
-            Some(years) => Some(ShortYears {
-                rule: Short::Add(years),
-            }),
+            Some(years) => Some(Short::Add(years)),
             None => None,
         }
     }
 }
 
 /// What is done with short Hebrew years, by `--short-hebrew-years`.
-#[derive(Clone, Copy)]
-pub struct ShortHebrewYears {
-    pub rule: Short,
-}
+pub enum ShortHebrewYears {}
 
-impl OptionValue for ShortHebrewYears {
-    ghost option = { short_hebrew_option };
+impl OptionWords for ShortHebrewYears {
+    type Value = Short;
 
-    ghost number = { λ value. short_number value.rule };
+    ghost value_of = { short_hebrew_of };
 
-    fn default() -> ShortHebrewYears {
-        ShortHebrewYears {
-            rule: Short::Refuse,
+    fn named(word: &str) -> Option<Short> {
+        match word {
+            "refuse" => Some(Short::Refuse),
+            "keep" => Some(Short::Keep),
+            "5000" => Some(Short::Add(5000)),
+            _ => None,
         }
-    }
-
-    fn named(word: &str) -> Option<ShortHebrewYears> {
-        let rule = match word {
-            "refuse" => Short::Refuse,
-            "keep" => Short::Keep,
-            "5000" => Short::Add(5000),
-            _ => return None,
-        };
-        Some(ShortHebrewYears { rule })
     }
 }
 
 /// How many records stand above the names, by `--skip`.
-#[derive(Clone, Copy)]
-pub struct Skip {
-    pub count: u32,
-}
+pub enum Skip {}
 
-impl OptionValue for Skip {
-    ghost option = { skip_option };
+impl OptionWords for Skip {
+    type Value = u32;
 
-    ghost number = { λ skip. skip.count };
+    ghost value_of = { skip_of };
 
-    fn default() -> Skip {
-        Skip { count: 0 }
-    }
-
-    fn named(word: &str) -> Option<Skip> {
+    fn named(word: &str) -> Option<u32> {
         if word == "0" {
-            return Some(Skip { count: 0 });
+            return Some(0);
         }
         match number_named(word, MOST_ABOVE) {
-            Some(count) => Some(Skip {
-                count: count as u32,
-            }),
+            Some(count) => Some(count as u32),
             None => None,
         }
     }

@@ -1,28 +1,27 @@
 //! What the arguments ask for.
 
-ghost use Rattle.std.specs.Prelude.{◌≡◌, ◌==◌, ◌&&◌, ◌∷◌, [], IfErr, IfOk, IfSome, OnOk, false, length, map, option_map};
+ghost use Rattle.std.specs.Prelude.{◌≡◌, ◌∷◌, [], IfErr, IfOk, IfSome, OnOk, if◌then◌else◌, length, map, option_map};
 ghost use Rattle.std.specs.String.{string_bytes};
-ghost use Rattle.clap.specs.Words.{app_of, found_of, rows_of};
+ghost use Rattle.clap.specs.Words.{app_of};
 ghost use Rattle.programs.specs.Faults.{fault_of_error};
-ghost use Rattle.programs.specs.FileLists.{AreFilesToConvert};
-ghost use Rattle.programs.specs.Meanings.{FailFirst, wrong};
-ghost use Rattle.sheet_arguments.specs.Requests.{command_line, values_of, Ask, AskMeant, MeanJust};
+ghost use Rattle.programs.specs.Meanings.{AllPass, FailFirst, wrong};
+ghost use Rattle.sheet_arguments.specs.Requests.{command_line, Ask, MeanJust};
 ghost use Rattle.sheet_arguments.specs.Requests.{are_misfits as misfits_spec, calendars_wanted};
-ghost use Rattle.sheet_arguments.specs.Requests.{date_checks, file_checks, given_checks};
-ghost use Rattle.sheet_arguments.specs.Requests.{is_misfit as misfit_spec, meaning_of, sheet_line};
-ghost use Rattle.sheet_arguments.specs.Requests.{spans_asked as spans_spec, task_of, value_checks, wanted_by};
-ghost use Rattle.sheet_arguments.specs.Requests.{word_checks, is_at_odds as odds_spec, meant as meant_spec};
-ghost use Rattle.sheet_arguments.specs.Requests.{with_three as three_spec};
-ghost use Rattle.sheet_arguments.specs.private.Requests.{AreSaidBy, FewDates, values_by};
+ghost use Rattle.sheet_arguments.specs.Requests.{calendars_meant as calendars_spec, column_checks, date_checks};
+ghost use Rattle.sheet_arguments.specs.Requests.{dates_meant as dates_spec, file_checks, reading_asked};
+ghost use Rattle.sheet_arguments.specs.Requests.{is_misfit as misfit_spec, meaning_of};
+ghost use Rattle.sheet_arguments.specs.Requests.{spans_asked as spans_spec, task_of, tree_check, value_checks, wanted_by};
+ghost use Rattle.sheet_arguments.specs.Requests.{word_checks, is_at_odds as odds_spec};
+ghost use Rattle.sheet_arguments.specs.private.Requests.{values_in};
 
 use crate::column_lists::chosen_columns;
 use crate::help::ARGUMENTS;
-use crate::option_values::{OrderValue, ShortHebrewYears, ShortYears, Skip, other_word};
+use crate::option_values::{OrderWords, ShortHebrewYears, ShortYears, Skip, other_word};
 use crate::three_columns::{ThreeColumns, chosen_three};
 use clap::{ArgMatches, Command};
 use programs::{
-    Delimiter, Request, RequestFault, check_files, chosen, command_with, is_given, read_arguments,
-    value_given, values_given,
+    Delimiter, Request, RequestFault, are_given, check_files, chosen, chosen_word, command_with,
+    is_given, read_arguments, value_given, values_given,
 };
 use sheets::{AskedColumn, MAX_DATES, Spans};
 use std::alloc::{AllocError, Global};
@@ -78,33 +77,6 @@ pub struct Job<'a> {
     pub files: Vec<&'a str>,
 }
 
-/// The values of the options and the files, as the arguments have them.
-#[derive(Drop)]
-struct Options<'a> {
-    tree: bool,
-    dates: Vec<&'a str>,
-    three: Option<&'a str>,
-    calendars: Vec<&'a str>,
-    all: Vec<&'a str>,
-    otherwise: Option<&'a str>,
-    id: Option<&'a str>,
-    order: Option<&'a str>,
-    names: Vec<&'a str>,
-    short_years: Option<&'a str>,
-    short_hebrew_years: Option<&'a str>,
-    short_other_years: Option<&'a str>,
-    charter_years: bool,
-    skip: Option<&'a str>,
-    delimiter: Option<&'a str>,
-    to: Option<&'a str>,
-    spans: bool,
-    edtf: bool,
-    register: bool,
-    unknown: bool,
-    summary: bool,
-    files: Vec<&'a str>,
-}
-
 /// The command line, as clap reads it: its options and flags, and the files.
 ///
 /// # Errors
@@ -114,41 +86,6 @@ pub fn command<'a>(alloc: Global) -> Result<Command<'a>, AllocError>
     ensures { IfOk result (λ c. app_of c ≡ command_line) }
 {
     command_with(alloc, NAME, VERSION, &ARGUMENTS)
-}
-
-/// The values of the options that clap found, and the files.
-fn options_found<'a>(alloc: Global, matches: &ArgMatches<'a>) -> Result<Options<'a>, AllocError>
-    ensures { IfOk result (λ options. values_by options ≡ values_of (rows_of (found_of matches.now))) }
-{
-    let dates = values_given(alloc, matches, "date")?;
-    let calendars = values_given(alloc, matches, "calendar")?;
-    let all = values_given(alloc, matches, "all")?;
-    let names = values_given(alloc, matches, "names")?;
-    let files = values_given(alloc, matches, "file")?;
-    Ok(Options {
-        tree: is_given(matches, "tree"),
-        dates,
-        three: value_given(matches, "three"),
-        calendars,
-        all,
-        otherwise: value_given(matches, "else"),
-        id: value_given(matches, "id"),
-        order: value_given(matches, "order"),
-        names,
-        short_years: value_given(matches, "short-years"),
-        short_hebrew_years: value_given(matches, "short-hebrew-years"),
-        short_other_years: value_given(matches, "short-other-years"),
-        charter_years: is_given(matches, "charter-years"),
-        skip: value_given(matches, "skip"),
-        delimiter: value_given(matches, "delimiter"),
-        to: value_given(matches, "to"),
-        spans: is_given(matches, "spans"),
-        edtf: is_given(matches, "edtf"),
-        register: is_given(matches, "register"),
-        unknown: is_given(matches, "unknown"),
-        summary: is_given(matches, "summary"),
-        files,
-    })
 }
 
 /// How many words these are.
@@ -181,24 +118,29 @@ fn are_misfits(dates: usize, columns: usize, calendars: usize) -> bool
 /// # Errors
 ///
 /// The first thing that is wrong.
-fn dates_fit<'a>(options: &Options<'a>) -> Result<(), RequestFault<'a>>
-    ensures fine { OnOk result (FewDates (values_by options.now)) }
-    ensures fault { IfErr result (λ error. IfSome (fault_of_error error)
-        (FailFirst (date_checks (values_by options.now)))) }
+fn columns_fit<'a>(
+    dates: &[&'a str],
+    calendars: &[&'a str],
+    all: &[&'a str],
+    otherwise: Option<&'a str>,
+) -> Result<(), RequestFault<'a>>
+    ensures passed { OnOk result (AllPass (column_checks (map (λ w. w.now) dates.now) (map (λ w. w.now) calendars.now)
+        (map (λ w. w.now) all.now) (option_map (λ w. w.now) otherwise.entry))) }
+    ensures fault { IfErr result (λ error. IfSome (fault_of_error error) (FailFirst
+        (column_checks (map (λ w. w.now) dates.now) (map (λ w. w.now) calendars.now) (map (λ w. w.now) all.now)
+        (option_map (λ w. w.now) otherwise.entry)))) }
 {
-    let dates = count_of(options.dates.as_slice());
-    let columns = count_of(options.calendars.as_slice());
-    let all = count_of(options.all.as_slice());
-    if dates == 0 {
+    let (count, columns) = (count_of(dates), count_of(calendars));
+    if count == 0 {
         Err(RequestFault::Refused("no column of dates: give --date COLUMN", ""))
-    } else if dates > MAX_DATES {
+    } else if count > MAX_DATES {
         Err(RequestFault::Refused("more than 8 columns of dates", ""))
-    } else if are_misfits(dates, columns, all) {
+    } else if are_misfits(count, columns, count_of(all)) {
         Err(RequestFault::Refused(
             "give --calendar COLUMN or --all CALENDAR, once or once for each --date",
             "",
         ))
-    } else if columns == 0 && options.otherwise.is_some() {
+    } else if columns == 0 && otherwise.is_some() {
         Err(RequestFault::Refused("--else is for --calendar", ""))
     } else {
         Ok(())
@@ -221,15 +163,97 @@ fn chosen_calendars<'a>(
     }
 }
 
+/// The words for the columns of dates, and where their calendars are.
+#[derive(Drop)]
+struct Columns<'a> {
+    dates: Vec<&'a str>,
+    calendars: CalendarsAsked<'a>,
+}
+
+/// A list of one word.
+fn one_word<'a>(alloc: Global, word: &'a str) -> Result<Vec<&'a str>, AllocError>
+    ensures { IfOk result (λ words. map (λ w. w.now) words.items ≡ word.now ∷ []) }
+{
+    let mut words = Vec::new(alloc);
+    words.push(word)?;
+    Ok(words)
+}
+
+/// The words for the columns of dates that are meant: with a tree that of its sheet, and else those that are given, and
+/// the column of joined dates.
+fn dates_meant<'a>(alloc: Global, matches: &ArgMatches<'a>) -> Result<Vec<&'a str>, AllocError>
+    ensures { IfOk result (λ dates. map (λ w. w.now) dates.items ≡ dates_spec (values_in matches.now)) }
+{
+    if is_given(matches, "tree") {
+        return one_word(alloc, "date");
+    }
+    let mut dates = values_given(alloc, matches, "date")?;
+    if let Some(list) = value_given(matches, "three") {
+        dates.push(list)?;
+    }
+    Ok(dates)
+}
+
+/// The words for the columns of calendars that are meant.
+fn calendars_meant<'a>(alloc: Global, matches: &ArgMatches<'a>) -> Result<Vec<&'a str>, AllocError>
+    ensures { IfOk result (λ words. map (λ w. w.now) words.items ≡ calendars_spec (values_in matches.now)) }
+{
+    if is_given(matches, "tree") {
+        one_word(alloc, "calendar")
+    } else {
+        values_given(alloc, matches, "calendar")
+    }
+}
+
+/// The words for the columns of dates, and where their calendars are, by what is meant with a tree.
+///
+/// # Errors
+///
+/// The faults of [`columns_fit`].
+fn columns_meant<'a>(
+    alloc: Global,
+    matches: &ArgMatches<'a>,
+) -> Result<Columns<'a>, RequestFault<'a>>
+    ensures dates { IfOk result (λ columns. map (λ w. w.now) columns.dates.items ≡ dates_spec (values_in matches.now)) }
+    ensures calendars { IfOk result (λ columns. wanted_by columns.calendars ≡ calendars_wanted
+        (calendars_spec (values_in matches.now)) (values_in matches.now).all (values_in matches.now).otherwise) }
+    ensures passed { OnOk result (AllPass (date_checks (values_in matches.now))) }
+    ensures fault { IfErr result (λ error. IfSome (fault_of_error error)
+        (FailFirst (date_checks (values_in matches.now)))) }
+{
+    let dates = dates_meant(alloc, matches)?;
+    let calendars = calendars_meant(alloc, matches)?;
+    let all = values_given(alloc, matches, "all")?;
+    let otherwise = value_given(matches, "else");
+    columns_fit(
+        dates.as_slice(),
+        calendars.as_slice(),
+        all.as_slice(),
+        otherwise,
+    )?;
+    Ok(Columns {
+        dates,
+        calendars: chosen_calendars(calendars, all, otherwise),
+    })
+}
+
 /// How a sheet and its dates are read.
 #[derive(Clone, Copy)]
-struct Reading {
-    order: Order,
-    short_years: Short,
-    short_hebrew_years: Short,
-    short_other_years: Short,
+pub(crate) struct Reading {
+    dates: Choice,
     skip: u32,
     delimiter: u8,
+}
+
+/// The order of three numbers where none is given: of a tree the one with the day in front.
+fn default_order(tree: bool) -> Order
+    ensures { result ≡ (if tree then Order.DayFirst else Order.YearFirst) }
+{
+    if tree {
+        Order::DayFirst
+    } else {
+        Order::YearFirst
+    }
 }
 
 /// How a sheet and its dates are read, by the words of the arguments.
@@ -237,28 +261,36 @@ struct Reading {
 /// # Errors
 ///
 /// The first word that says nothing.
-fn chosen_reading<'a>(options: &Options<'a>) -> Result<Reading, RequestFault<'a>>
-    ensures value { IfOk result (AreSaidBy (values_by options.now)) }
+fn chosen_reading<'a>(matches: &ArgMatches<'a>) -> Result<Reading, RequestFault<'a>>
+    ensures passed { OnOk result (AllPass (word_checks (values_in matches.now))) }
+    ensures value { IfOk result (λ reading. reading ≡ reading_asked (values_in matches.now)) }
     ensures fault { IfErr result (λ error. IfSome (fault_of_error error)
-        (FailFirst (word_checks (values_by options.now)))) }
+        (FailFirst (word_checks (values_in matches.now)))) }
 {
-    let order = chosen::<OrderValue>("unknown order: ", options.order)?;
-    let short_years = chosen::<ShortYears>("bad short years: ", options.short_years)?;
-    let short_hebrew_years = chosen::<ShortHebrewYears>(
+    let order = chosen::<OrderWords>(matches, "order", "unknown order: ")?;
+    let years = chosen::<ShortYears>(matches, "short-years", "bad short years: ")?;
+    let hebrew = chosen::<ShortHebrewYears>(
+        matches,
+        "short-hebrew-years",
         "bad short Hebrew years: ",
-        options.short_hebrew_years,
     )?;
-    let other = other_word(options.short_other_years, options.short_years);
-    let short_other_years = chosen::<ShortYears>("bad short years of other calendars: ", other)?;
-    let skip = chosen::<Skip>("bad number of records to skip: ", options.skip)?;
-    let delimiter = chosen::<Delimiter>("unknown delimiter: ", options.delimiter)?;
+    let word = other_word(
+        value_given(matches, "short-other-years"),
+        value_given(matches, "short-years"),
+    );
+    let other = chosen_word::<ShortYears>("bad short years of other calendars: ", word)?;
+    let skip = chosen::<Skip>(matches, "skip", "bad number of records to skip: ")?;
+    let delimiter = chosen::<Delimiter>(matches, "delimiter", "unknown delimiter: ")?;
     Ok(Reading {
-        order: order.order,
-        short_years: short_years.rule,
-        short_hebrew_years: short_hebrew_years.rule,
-        short_other_years: short_other_years.rule,
-        skip: skip.count,
-        delimiter: delimiter.byte(),
+        dates: Choice {
+            order: order.unwrap_or(default_order(is_given(matches, "tree"))),
+            short_years: years.unwrap_or(Short::Refuse),
+            short_hebrew_years: hebrew.unwrap_or(Short::Refuse),
+            short_other_years: other.unwrap_or(Short::Refuse),
+            charters: is_given(matches, "charter-years"),
+        },
+        skip: skip.unwrap_or(0),
+        delimiter: delimiter.unwrap_or(Delimiter::Comma).byte(),
     })
 }
 
@@ -279,8 +311,7 @@ fn spans_asked(spans: bool, edtf: bool) -> Spans
 ///
 /// Registers are asked for of no file, or else the faults of the files as [`check_files`] has them.
 fn files_fit<'a>(register: bool, files: &[&'a str]) -> Result<(), RequestFault<'a>>
-    ensures fine { OnOk result (((register && (length (map (λ f. f.now) files.now) == 0)) ≡ false)
-        × AreFilesToConvert (map (λ f. f.now) files.now)) }
+    ensures passed { OnOk result (AllPass (file_checks register (map (λ f. f.now) files.now))) }
     ensures fault { IfErr result (λ error. IfSome (fault_of_error error)
         (FailFirst (file_checks register (map (λ f. f.now) files.now)))) }
 {
@@ -291,129 +322,70 @@ fn files_fit<'a>(register: bool, files: &[&'a str]) -> Result<(), RequestFault<'
     }
 }
 
-/// The conversion that the options ask for.
-///
-/// # Errors
-///
-/// The first thing that is wrong, in the order of the lines below.
-fn chosen_job<'a>(alloc: Global, options: Options<'a>) -> Result<Job<'a>, RequestFault<'a>>
-    ensures asked { IfOk result (λ job. Ask (values_by options.entry) (task_of job)) }
-    ensures fault { IfErr result (λ error. IfSome (fault_of_error error)
-        (FailFirst (value_checks (values_by options.entry)))) }
-{
-    dates_fit(&options)?;
-    let reading = chosen_reading(&options)?;
-    let columns = chosen_columns(alloc, options.to)?;
-    let three = chosen_three(options.three)?;
-    files_fit(options.register, options.files.as_slice())?;
-    Ok(Job {
-        tree: options.tree,
-        dates: options.dates,
-        three,
-        calendars: chosen_calendars(options.calendars, options.all, options.otherwise),
-        id: options.id,
-        columns,
-        spans: spans_asked(options.spans, options.edtf),
-        reading: Choice {
-            order: reading.order,
-            short_years: reading.short_years,
-            short_hebrew_years: reading.short_hebrew_years,
-            short_other_years: reading.short_other_years,
-            charters: options.charter_years,
-        },
-        names: options.names,
-        skip: reading.skip,
-        delimiter: reading.delimiter,
-        register: options.register,
-        unknown: options.unknown,
-        summary: options.summary,
-        files: options.files,
-    })
-}
-
 /// Whether the columns or the form of a sheet are given beside a tree, which has its own.
-fn is_at_odds(options: &Options) -> bool
-    ensures { result ≡ odds_spec (values_by options.now) }
+fn is_at_odds(matches: &ArgMatches<'_>) -> bool
+    ensures { result ≡ odds_spec (values_in matches.now) }
 {
-    options.tree
-        && (count_of(options.dates.as_slice()) != 0
-            || options.three.is_some()
-            || count_of(options.calendars.as_slice()) != 0
-            || count_of(options.all.as_slice()) != 0
-            || options.skip.is_some()
-            || options.delimiter.is_some())
+    is_given(matches, "tree")
+        && (are_given(matches, "date")
+            || value_given(matches, "three").is_some()
+            || are_given(matches, "calendar")
+            || are_given(matches, "all")
+            || value_given(matches, "skip").is_some()
+            || value_given(matches, "delimiter").is_some())
 }
 
-/// A list of one word.
-fn one_word<'a>(alloc: Global, word: &'a str) -> Result<Vec<&'a str>, AllocError>
-    ensures { IfOk result (λ words. map (λ w. w.now) words.items ≡ word.now ∷ []) }
+/// Finds that what a tree does not take is given.
+fn check_tree<'a>(matches: &ArgMatches<'a>) -> Result<(), RequestFault<'a>>
+    ensures passed { OnOk result ((tree_check (values_in matches.now)).passes) }
+    ensures fault { IfErr result (λ error. IfSome (fault_of_error error) ((tree_check (values_in matches.now)).fails)) }
 {
-    let mut words = Vec::new(alloc);
-    words.push(word)?;
-    Ok(words)
-}
-
-/// The options with the column of the dates that are joined of three behind the others.
-fn with_three<'a>(options: Options<'a>) -> Result<Options<'a>, AllocError>
-    ensures { IfOk result (λ meant. values_by meant ≡ three_spec (values_by options.entry)) }
-{
-    let mut options = options;
-    if let Some(list) = options.three {
-        options.dates.push(list)?;
-    }
-    Ok(options)
-}
-
-/// The options that are meant: with a tree the columns of its sheet, and, where no other is given, the order with the day
-/// in front; else with the column of joined dates.
-fn meant<'a>(alloc: Global, options: Options<'a>) -> Result<Options<'a>, AllocError>
-    ensures { IfOk result (λ meant. values_by meant ≡ meant_spec (values_by options.entry)) }
-{
-    if !options.tree {
-        return with_three(options);
-    }
-    let dates = one_word(alloc, "date")?;
-    let calendars = one_word(alloc, "calendar")?;
-    Ok(Options {
-        dates,
-        calendars,
-        order: Some(options.order.unwrap_or("day")),
-        ..options
-    })
-}
-
-/// The conversion that the options ask for, by what is meant with a tree.
-///
-/// # Errors
-///
-/// What a tree does not take is given, or else the faults of [`chosen_job`].
-fn meant_job<'a>(alloc: Global, options: Options<'a>) -> Result<Job<'a>, RequestFault<'a>>
-    ensures asked { IfOk result (λ job. AskMeant (values_by options.entry) (task_of job)) }
-    ensures fault { IfErr result (λ error. IfSome (fault_of_error error)
-        (FailFirst (given_checks (values_by options.entry)))) }
-{
-    if is_at_odds(&options) {
+    if is_at_odds(matches) {
         return Err(RequestFault::Refused(
             "--tree takes no --date, --three, --calendar, --all, --skip and --delimiter",
             "",
         ));
     }
-    match meant(alloc, options) {
-        Ok(options) => chosen_job(alloc, options),
-        Err(_) => Err(RequestFault::OutOfMemory),
-    }
+    Ok(())
 }
 
 /// The conversion that the values which clap found ask for.
+///
+/// # Errors
+///
+/// The first thing that is wrong, in the order of the lines below.
 fn job_found<'a>(alloc: Global, matches: &ArgMatches<'a>) -> Result<Job<'a>, RequestFault<'a>>
-    ensures asked { IfOk result (λ job. AskMeant (values_of (rows_of (found_of matches.now))) (task_of job)) }
+    ensures passed { OnOk result (AllPass (value_checks (values_in matches.now))) }
+    ensures asked { IfOk result (λ job. Ask (values_in matches.now) (task_of job)) }
     ensures fault { IfErr result (λ error. IfSome (fault_of_error error)
-        (FailFirst (given_checks (values_of (rows_of (found_of matches.now)))))) }
+        (FailFirst (value_checks (values_in matches.now)))) }
 {
-    match options_found(alloc, matches) {
-        Ok(options) => meant_job(alloc, options),
-        Err(_) => Err(RequestFault::OutOfMemory),
-    }
+    check_tree(matches)?;
+    let Columns { dates, calendars } = columns_meant(alloc, matches)?;
+    let reading = chosen_reading(matches)?;
+    let columns = chosen_columns(alloc, value_given(matches, "to"))?;
+    let three = chosen_three(value_given(matches, "three"))?;
+    let register = is_given(matches, "register");
+    let files = values_given(alloc, matches, "file")?;
+    files_fit(register, files.as_slice())?;
+    let names = values_given(alloc, matches, "names")?;
+    Ok(Job {
+        tree: is_given(matches, "tree"),
+        dates,
+        three,
+        calendars,
+        id: value_given(matches, "id"),
+        columns,
+        spans: spans_asked(is_given(matches, "spans"), is_given(matches, "edtf")),
+        reading: reading.dates,
+        names,
+        skip: reading.skip,
+        delimiter: reading.delimiter,
+        register,
+        unknown: is_given(matches, "unknown"),
+        summary: is_given(matches, "summary"),
+        files,
+    })
 }
 
 /// What the arguments ask for.

@@ -24,7 +24,7 @@ const FITS: [(usize, usize, usize, usize); 10] = [
 fn each_machine_and_number_of_files_has_what_fits(rt: HostRuntime) -> Result<(), Fail> {
     for (processors, files, ring, stripes) in FITS {
         let fit = fitting(processors, files);
-        assert_eq!(rt; (fit.ring.size, fit.stripes.count), (ring, stripes));
+        assert_eq!(rt; (fit.ring, fit.stripes), (ring, stripes));
     }
     Ok(())
 }

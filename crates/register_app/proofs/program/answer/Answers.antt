@@ -1,9 +1,12 @@
 -- Arguments that ask for something have no fault beside it, and arguments that are refused have one.
-use Rattle.std.proofs.Common.{◌≤◌, ◌⊎◌, ◌≡◌, ◌≢◌, ℕ, rules, arith, inl, inr, map, ap, length, refl, []}
+use Rattle.std.proofs.Common.{◌≤◌, ◌⊎◌, ◌≡◌, ◌≢◌, ◌∷◌, ℕ, rules, arith, inl, inr, map, ap, length, refl, []}
 use Rattle.std.proofs.lemmas.List.{length-map, nil_from_length}
 use Rattle.std.specs.String.{string_bytes}
-use Rattle.programs.specs.Meanings.{help, version, work}
-use Rattle.register_arguments.specs.Requests.{MeanJust, register_line, task_of}
+use Rattle.clap.specs.Words.{matches_of}
+use Rattle.programs.proofs.CheckLemmas.{later_pass}
+use Rattle.programs.specs.Meanings.{file_check, help, version, work}
+use Rattle.register_arguments.specs.Requests.{MeanJust, Task, command_line, register_line, task_of, values_of}
+use Rattle.register_arguments.specs.Requests.{word_checks}
 use Rattle.programs.specs.Faults.{fault_of_error}
 use Rattle.register_app.specs.Answers.{version_line}
 use Rattle.programs.proofs.RefusedLemmas.{is_wrong}
@@ -44,7 +47,9 @@ convert_files-requires-clause-few g c =
     let job = c.in-Ok-Convert.job in
     let just : MeanJust arguments (work (task_of job)) = search (rules, c.in-Ok-Convert.ensures.asked) in
     let asks = (just (work (task_of job))).0 refl in
-    omega (arith, asks.1.files_fit.0, ap length asks.1.files, length-map job.files.items (λ f. f.now))
+    let values = values_of (matches_of command_line arguments) in
+    let fit = (later_pass (word_checks values) (file_check values.files ∷ []) asks.1.1).0 in
+    omega (arith, fit.0, ap (λ (task : Task). length task.files) asks.2.1, length-map job.files.items (λ f. f.now))
 
 at_most_three : (status : ℕ) → 2 ≤ status → (status ≡ 0) ⊎ (status ≡ 1) ⊎ (status ≡ 3) → status ≡ 3
 at_most_three status high among = grind arith

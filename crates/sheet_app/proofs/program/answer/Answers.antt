@@ -4,7 +4,9 @@ use Rattle.std.specs.Option.{option_map_or}
 use Rattle.std.specs.String.{string_bytes}
 use Rattle.clap.specs.Words.{matches_of}
 use Rattle.programs.specs.Meanings.{help, version, work}
-use Rattle.sheet_arguments.specs.Requests.{command_line, values_of, MeanJust, meaning_of, sheet_line, task_of, meant}
+use Rattle.sheet_arguments.specs.Requests.{command_line, values_of, MeanJust, meaning_of, sheet_line, task_of}
+use Rattle.sheet_arguments.specs.Requests.{date_checks}
+use Rattle.programs.proofs.CheckLemmas.{first_pass}
 use Rattle.programs.specs.declared.requests.Request.{Request}
 use Rattle.sheet_arguments.specs.declared.requests.Job.{Job}
 use Rattle.programs.specs.Faults.{fault_of_error}
@@ -21,7 +23,8 @@ run_job-requires g c =
     let just : MeanJust arguments (work task)
     = subst (λ (r : Request Job). MeanJust arguments (meaning_of r)) c.in-Ok-Convert.field-0-is c.in-Ok-Convert.ensures.asked in
     let asked = (just (work task)).0 refl in
-    is_task (meant (values_of (matches_of command_line arguments))) task asked.1.asks
+    let values = values_of (matches_of command_line arguments) in
+    is_task values task (first_pass (date_checks values) _ asked.1.1) asked.2
 
 -- a page of help
 pub returns-in-Ok-Help : goal.returns-in-Ok-Help

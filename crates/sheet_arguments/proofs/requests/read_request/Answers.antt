@@ -45,4 +45,5 @@ pub returns-in_ok-job_found-in-Convert-clause-asked : goal.returns-in_ok-job_fou
 returns-in_ok-job_found-in-Convert-clause-asked c =
     work_just sheet_line (map string_bytes c.args.arguments.now) is_clear _ c.in-Ok.ensures
     _ c.in_ok-read_arguments.ensures.read c.in-Convert.matches c.in-Convert.is
-    (task_of c.in_ok-job_found-in-Convert.field-0) c.in_ok-job_found-in-Convert.ensures.asked
+    (task_of c.in_ok-job_found-in-Convert.field-0) c.in_ok-job_found-in-Convert.ensures.passed
+    c.in_ok-job_found-in-Convert.ensures.asked

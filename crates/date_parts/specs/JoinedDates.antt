@@ -1,5 +1,5 @@
 -- One column of dates of three columns, which have their years, months and days.
-use Rattle.std.specs.Prelude.{◌&&◌, ◌++◌, ◌∷◌, ℕ, Bool, List, [], drop, get_or, if◌then◌else◌, map, take}
+use Rattle.std.specs.Prelude.{◌&&◌, ◌++◌, ◌∷◌, ℕ, List, [], drop, get_or, if◌then◌else◌, map, take}
 use Rattle.register_records.specs.Entries.{Fields, text_records}
 use Rattle.sheets.specs.Sheets.{filled, records_text, widest}
 use Rattle.written_dates.specs.Fields.{without_blanks}

@@ -126,8 +126,10 @@ pub fn chosen<'a, W: OptionWords>(
     name: &str,
     what: &'static str,
 ) -> Result<Option<W::Value>, RequestFault<'a>>
-    ensures value { IfOk result (λ value. value ≡ option_and_then W.value_of (first_of name.now (rows_of (found_of matches.now)))) }
-    ensures passes { OnOk result ((option_check W.value_of what.entry.now (first_of name.now (rows_of (found_of matches.now)))).passes) }
+    ensures value { IfOk result (λ value.
+        value ≡ option_and_then W.value_of (first_of name.now (rows_of (found_of matches.now)))) }
+    ensures passes { OnOk result
+        ((option_check W.value_of what.entry.now (first_of name.now (rows_of (found_of matches.now)))).passes) }
     ensures fault { IfErr result (λ error. IsSomeAnd (fault_of_error error)
         ((option_check W.value_of what.entry.now (first_of name.now (rows_of (found_of matches.now)))).fails)) }
 {

@@ -1,9 +1,7 @@
-use Rattle.std.proofs.Common.{◌≡◌, ◌∙◌, ◌++◌, ◌∷◌, [], List, ap, append_assoc, map, refl, rules, true}
+use Rattle.std.proofs.Common.{◌≡◌, ◌∙◌, ◌++◌, ◌∷◌, [], ap, append_assoc, refl, rules, true}
 use Rattle.std.specs.Prelude.{Ok}
 use Rattle.csv.specs.Records.{fields_of}
-use Rattle.register_records.specs.Entries.{Fields}
 use Rattle.date_parts.specs.JoinedDates.{with_date}
-use Rattle.sheets.specs.Reading.{left_of}
 use Rattle.date_parts.proofs.RecordLemmas.{gains_dated, gains_more}
 use Rattle.date_parts.proofs.joining.join_left.Goals as goal
 

@@ -1,4 +1,4 @@
-use Rattle.std.proofs.Common.{◌≡◌, ◌∙◌, ◌++◌, ℕ, List, ap, drop, refl, take}
+use Rattle.std.proofs.Common.{◌≡◌, ◌++◌, ℕ, List, ap, drop, refl, take}
 use Rattle.register_records.specs.Entries.{Fields, text_records}
 use Rattle.date_parts.specs.JoinedDates.{dated_records, joined_records}
 use Rattle.sheets.specs.Reading.{left_of}

@@ -7,7 +7,8 @@ pub returns-in-Some-number_named-clause-some : goal.returns-in-Some-number_named
 returns-in-Some-number_named-clause-some c =
     column_by_number (fields_of c.args.names.now) c.args.word.now c.as_bytes.result.now c.as_bytes-2.result.now c.len.result
     c.in-Some-number_named.number c.as_bytes.ensures.value c.as_bytes-2.ensures.value c.len.ensures
-    c.in-Some-number_named.ensures.named c.in-Some-number_named.ensures.within.0 c.in_default.ensures.none c.in_default-bare_index_of.ensures.none
+    c.in-Some-number_named.ensures.named c.in-Some-number_named.ensures.within.0 c.in_default.ensures.none
+    c.in_default-bare_index_of.ensures.none
 
 pub returns-in-None-clause-none : goal.returns-in-None-clause-none
 returns-in-None-clause-none c =

@@ -1,11 +1,11 @@
 -- Arguments that ask for something have no fault beside it, and arguments that are refused have one.
-use Rattle.std.proofs.Common.{◌≡◌, ◌≤◌, ◌⊎◌, ℕ, Option, None, Some, rules, arith, inl, inr, map, refl, subst}
+use Rattle.std.proofs.Common.{◌≡◌, ◌≤◌, ◌⊎◌, ◌++◌, ℕ, Option, None, Some, rules, arith, inl, inr, map, refl, subst}
 use Rattle.std.specs.Option.{option_map_or}
 use Rattle.std.specs.String.{string_bytes}
 use Rattle.clap.specs.Words.{matches_of}
 use Rattle.programs.specs.Meanings.{help, version, work}
 use Rattle.sheet_arguments.specs.Requests.{command_line, values_of, MeanJust, meaning_of, sheet_line, task_of}
-use Rattle.sheet_arguments.specs.Requests.{date_checks}
+use Rattle.sheet_arguments.specs.Requests.{date_checks, output_checks, word_checks}
 use Rattle.programs.proofs.CheckLemmas.{first_pass}
 use Rattle.programs.specs.declared.requests.Request.{Request}
 use Rattle.sheet_arguments.specs.declared.requests.Job.{Job}
@@ -24,7 +24,8 @@ run_job-requires g c =
     = subst (λ (r : Request Job). MeanJust arguments (meaning_of r)) c.in-Ok-Convert.field-0-is c.in-Ok-Convert.ensures.asked in
     let asked = (just (work task)).0 refl in
     let values = values_of (matches_of command_line arguments) in
-    is_task values task (first_pass (date_checks values) _ asked.1.1) asked.2
+    let rest = word_checks values ++ output_checks values in
+    is_task values task (first_pass (date_checks values) rest asked.1.1) asked.2
 
 -- a page of help
 pub returns-in-Ok-Help : goal.returns-in-Ok-Help

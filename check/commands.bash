@@ -45,6 +45,19 @@ meanwhile() {
   rm pipe.csv
 }
 
+# Runs over a pipe with all standard streams closed, and prints where their numbers lead meanwhile.
+# shellcheck disable=SC2086,SC2154  # They are words, of the environment.
+while_closed() {
+  mkfifo pipe.csv
+  "./$name" $options $columns pipe.csv <&- >&- 2>&- &
+  first=$!
+  exec 7> pipe.csv
+  readlink "/proc/$first/fd/"{0,1,2}
+  cat a.csv >&7
+  exec 7>&-
+  wait "$first"
+}
+
 # Kills the program that runs.
 kill_run() {
   { kill -KILL "$first" && wait "$first"; } 2> /dev/null

@@ -85,7 +85,7 @@ int rename(const char *from, const char *to) {
 int statx(int folder, const char *restrict name, int flags, unsigned wanted, struct statx *restrict found) {
   static int (*next)(int, const char *restrict, int, unsigned, struct statx *restrict);
   if (!next) next = NEXT(statx);
-  int result = next(folder, name, flags, wanted, found);
+  int result = next(folder, name, flags, wanted, found), fault = errno;
   const char *files = getenv("FAULT_FILES");
   char other[64];
   unsigned file_system;
@@ -99,6 +99,7 @@ int statx(int folder, const char *restrict name, int flags, unsigned wanted, str
       found->stx_ino = file;
     }
   }
+  errno = fault;
   return result;
 }
 

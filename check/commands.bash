@@ -82,3 +82,37 @@ sealed() {
   yes x,iso,1970-W01-4, | head -n "$1"
   echo "END,$1"
 }
+
+# Prints what the system shows of a command that waits for more of its input, behind the table of 20,000 records: whether
+# its sleeps are short ones, how many threads it has, whether it does nothing, and whether it wrote many rows at a time.
+waiting() {
+  local pid naps key value writes=0 tries=600 line
+  local -a stat threads
+  mkfifo waiting
+  "$@" < waiting > table &
+  pid=$!
+  exec 7> waiting
+  long 20000 >&7
+  until [ "$(wc -l < table)" -gt 20000 ] || [ $((tries -= 1)) = 0 ]; do sleep 0.1; done
+  sleep 3
+  read -r naps < "/proc/$pid/timerslack_ns"
+  read -r -a stat < "/proc/$pid/stat"
+  threads=("/proc/$pid/task/"*)
+  while read -r key value; do [ "$key" != syscw: ] || writes=$value; done < "/proc/$pid/io"
+  exec 7>&-
+  wait "$pid"
+  line="status $?, $([ "$naps" = 5000 ] || echo 'no ')short naps, ${#threads[@]} threads"
+  line+=", $([ $((stat[13] + stat[14])) -lt 150 ] && echo idle || echo busy)"
+  echo "$line, $([ "$writes" -lt 5000 ] && echo many || echo few) rows a write"
+}
+
+# Runs over a.csv into a pipe that has the name of what is made of it, and prints what came through, and what it is then.
+into_pipe() {
+  mkfifo "a.csv$made"
+  timeout 60 cat "a.csv$made" > came &
+  "./$name" $options $columns a.csv
+  echo "status $?"
+  wait "$!"
+  cat came
+  [ -p "a.csv$made" ] && echo 'a pipe as before'
+}

@@ -260,6 +260,9 @@ class Itself(Trials):
         self.need("no such tool")
         self.compare("what is not tried", "one", "one")
 
+    def test_broken(self):
+        raise OSError("what breaks a test off")
+
 
 def end_on_signals():
     """Lets this program end as by an interrupt where it is asked to end, so that it clears up. What it starts takes
@@ -286,9 +289,10 @@ def main():
     for program in PROGRAMS:
         parser.add_argument(f"--{program.name}", dest=program.name, metavar="FILE",
                             help="the program, in place of what its launcher builds")
-    found = counted([Itself("test_comparison"), Itself("test_left_out")], itself)
-    told = ("FAILED: two texts that differ\n", "not tried, since no such tool is not there: A test")
-    if (found.passed, found.failed) != (1, 1) or any(it not in itself.getvalue() for it in told):
+    found = counted(tests_of(sys.modules[Itself.__module__]), itself)
+    told = ("FAILED: two texts that differ\n", "not tried, since no such tool is not there: A test",
+            "OSError: what breaks")
+    if (found.passed, found.failed) != (1, 2) or any(it not in itself.getvalue() for it in told):
         print("FAILED: the comparison of texts", "0 passed, 1 failed", sep="\n")
         sys.exit(1)
     GIVEN.update(vars(parser.parse_args()))

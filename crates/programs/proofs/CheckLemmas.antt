@@ -20,13 +20,10 @@ pub both_pass : (checks later : List Check) → AllPass checks → AllPass later
 both_pass [] later pass rest = rest
 both_pass (check ∷ checks) later pass rest = (pass.0, both_pass checks later pass.1 rest)
 
-pub first_pass : (checks later : List Check) → AllPass (checks ++ later) → AllPass checks
-first_pass [] later pass = tt
-first_pass (check ∷ checks) later pass = (pass.0, first_pass checks later pass.1)
-
-pub later_pass : (checks later : List Check) → AllPass (checks ++ later) → AllPass later
-later_pass [] later pass = pass
-later_pass (check ∷ checks) later pass = later_pass checks later pass.1
+-- where checks and later ones pass together, both pass
+pub each_pass : (checks later : List Check) → AllPass (checks ++ later) → AllPass checks × AllPass later
+each_pass [] later pass = (tt, pass)
+each_pass (check ∷ checks) later pass = let rest = each_pass checks later pass.1 in ((pass.0, rest.0), rest.1)
 
 -- the first of some checks that fails is the first of these and later ones
 pub among_first : (checks later : List Check) (fault : Fault) → FailFirst checks fault

@@ -12,8 +12,10 @@ digits_model : IsNumeralModel (λ ds. all_ascii_digits ds ≡ true) (digits_valu
 digits_model = numerals_by_value _ tells_all_ascii_digits
 
 -- a number that is read of a word without a sign
-pub number_read : {E : Type 0} (word : List ℕ) (most n : ℕ) (read : Result ℕ E) → ParsesUnsigned 64 10 word read
-    → get_or word 0 0 ≢ 43 → length word ≤ 5 → read ≡ Ok n → 1 ≤ n → n ≤ most → Some n ≡ number_of most word
+pub number_read : {E : Type 0} (word : List ℕ) (most n : ℕ) (read : Result ℕ E)
+    → ParsesUnsigned 64 10 word read → get_or word 0 0 ≢ 43 → length word ≤ 5
+    → read ≡ Ok n → 1 ≤ n → n ≤ most
+    → Some n ≡ number_of most word
 number_read word most n read parses plain few is some no_more =
     let so = rw is at (parse_plain digits_model 64 word read parses plain) in
     rw (le-leb (length word) 5 few, so.0.0, ← so.1, le-leb 1 n some, le-leb n most no_more) refl

@@ -1,5 +1,5 @@
 -- What is read for a date.
-use Rattle.std.proofs.Common.{◌≡◌, ◌∙◌, [], ℕ, ℤ, Bool, List, Option, Vec, ap, cond, false, is_ok, refl, subst, Err, Ok}
+use Rattle.std.proofs.Common.{◌≡◌, ◌∙◌, ℕ, ℤ, Bool, List, Option, Vec, ap, cond, false, is_ok, refl, subst, Err, Ok}
 use Rattle.std.proofs.Common.{Result, option_map, sym, true}
 use Rattle.sheets.proofs.Common.{Refusal, Fields, calendar_of, CalendarMeaning, asked_targets, calendar_for}
 use Rattle.sheets.proofs.Common.{id_text, meaning_for, AreEndsIn, DatedEnd, as_text, DateStop, IsStopBy}

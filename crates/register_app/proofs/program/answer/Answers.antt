@@ -3,7 +3,7 @@ use Rattle.std.proofs.Common.{◌≤◌, ◌⊎◌, ◌≡◌, ◌≢◌, ◌∷
 use Rattle.std.proofs.lemmas.List.{length-map, nil_from_length}
 use Rattle.std.specs.String.{string_bytes}
 use Rattle.clap.specs.Words.{matches_of}
-use Rattle.programs.proofs.CheckLemmas.{later_pass}
+use Rattle.programs.proofs.CheckLemmas.{each_pass}
 use Rattle.programs.specs.Meanings.{file_check, help, version, work}
 use Rattle.register_arguments.specs.Requests.{MeanJust, Task, command_line, register_line, task_of, values_of}
 use Rattle.register_arguments.specs.Requests.{word_checks}
@@ -48,7 +48,7 @@ convert_files-requires-clause-few g c =
     let just : MeanJust arguments (work (task_of job)) = search (rules, c.in-Ok-Convert.ensures.asked) in
     let asks = (just (work (task_of job))).0 refl in
     let values = values_of (matches_of command_line arguments) in
-    let fit = (later_pass (word_checks values) (file_check values.files ∷ []) asks.1.1).0 in
+    let fit = (each_pass (word_checks values) (file_check values.files ∷ []) asks.1.1).1.0 in
     omega (arith, fit.0, ap (λ (task : Task). length task.files) asks.2.1, length-map job.files.items (λ f. f.now))
 
 at_most_three : (status : ℕ) → 2 ≤ status → (status ≡ 0) ⊎ (status ≡ 1) ⊎ (status ≡ 3) → status ≡ 3

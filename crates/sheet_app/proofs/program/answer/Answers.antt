@@ -6,7 +6,7 @@ use Rattle.clap.specs.Words.{matches_of}
 use Rattle.programs.specs.Meanings.{help, version, work}
 use Rattle.sheet_arguments.specs.Requests.{command_line, values_of, MeanJust, meaning_of, sheet_line, task_of}
 use Rattle.sheet_arguments.specs.Requests.{date_checks, output_checks, word_checks}
-use Rattle.programs.proofs.CheckLemmas.{first_pass}
+use Rattle.programs.proofs.CheckLemmas.{each_pass}
 use Rattle.programs.specs.declared.requests.Request.{Request}
 use Rattle.sheet_arguments.specs.declared.requests.Job.{Job}
 use Rattle.programs.specs.Faults.{fault_of_error}
@@ -25,7 +25,7 @@ run_job-requires g c =
     let asked = (just (work task)).0 refl in
     let values = values_of (matches_of command_line arguments) in
     let rest = word_checks values ++ output_checks values in
-    is_task values task (first_pass (date_checks values) rest asked.1.1) asked.2
+    is_task values task (each_pass (date_checks values) rest asked.1.1).0 asked.2
 
 -- a page of help
 pub returns-in-Ok-Help : goal.returns-in-Ok-Help

@@ -8,7 +8,8 @@ use Rattle.sheets.proofs.new_headings.NewNames.push_dates.Goals as goal
 
 pub dates-preserved : goal.dates-preserved
 dates-preserved c =
-    let wanted = wanted_for (nat_lt 1 (length c.args.dates.now)) (fields_of c.args.self.now.own) c.args.spans c.args.columns.now in
+    let named = fields_of c.args.self.now.own in
+    let wanted = wanted_for (nat_lt 1 (length c.args.dates.now)) named c.args.spans c.args.columns.now in
     subst (λ (names : Fields). NamesMore names c.args.self.now c.push_all.new.self)
     (sym (flat_more wanted (take (c.dates.date-index + 1) c.args.dates.now) (take c.dates.date-index c.args.dates.now) _
     (take_more c.args.dates.now c.dates.date-index no_column c.dates-test.true)))

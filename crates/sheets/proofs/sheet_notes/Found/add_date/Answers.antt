@@ -23,7 +23,13 @@ returns c dates most found =
     let (number, is) = c.requires.read in
     let seen = date_seen c.args.dates.now in
     let stopped : IsStopOf choice (column, fields) seen.stop
-    = record { first = as_text seen.dated.first; last = as_text seen.dated.last; marks = seen.dated.marks; ends = is.dated.ends; stop = is.stop } in
+    = record {
+      first = as_text seen.dated.first;
+      last = as_text seen.dated.last;
+      marks = seen.dated.marks;
+      ends = is.dated.ends;
+      stop = is.stop;
+    } in
     let short : IsShort choice (column, fields) c.is_short-is_short.result
     = record {
       first = as_text seen.dated.first;

@@ -1,4 +1,4 @@
-use Rattle.std.proofs.Common.{◌≡◌, ◌∙◌, ap, arith, false, refl, rules, true, Ok}
+use Rattle.std.proofs.Common.{◌≡◌, ◌∙◌, arith, false, refl, rules, true}
 use Rattle.sheets.proofs.Common.{record_read}
 use Rattle.sheets.proofs.ReadingLemmas.{all_given, given_more, not_given}
 use Rattle.sheets.proofs.sheet_reader.SheetReader.read_next.Goals as goal

@@ -8,8 +8,17 @@ listed_programs() {
   sed '1d; s/,.*//' "$root/check/programs.csv"
 }
 
+# Writes for check/named what is compared, and the lines that led there, where PLACES names a file.
+note() {
+  local line lines=
+  [ -n "${PLACES:-}" ] && [ "${BASH_SOURCE[2]##*/}" = "${0##*/}" ] || return 0
+  for line in "${BASH_LINENO[@]:1}"; do [ "$line" = 0 ] || lines+=" check/${0##*/}:$line"; done
+  printf 'check/%s\t%s\t%s\n' "${0##*/}" "${lines# }" "${1%%$'\n'*}" >> "$PLACES"
+}
+
 # Counts what was tried: WHAT EXPECTED CAME, and shows where they differ.
 compare() {
+  note "$1"
   [ "$2" = "$3" ] && passed=$((passed + 1)) && return
   failed=$((failed + 1))
   printf 'FAILED: %s\n' "$1"

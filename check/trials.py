@@ -170,6 +170,22 @@ def wait_for(seconds, is_so):
 # ---- to try them
 
 
+def note(what):
+    """Writes for check/named what is compared, and the lines that led there in its test, where PLACES names a file."""
+    if not os.environ.get("PLACES"):
+        return
+    lines, frame = [], sys._getframe(1)
+    while frame:
+        *_, folder, name = pathlib.Path(frame.f_code.co_filename).resolve().parts
+        if folder in ("check", "page") and name != "trials.py" and frame.f_code.co_name != "<module>":
+            lines.append(f"{folder}/{name}:{frame.f_lineno}")
+        frame = None if frame.f_code.co_name.startswith("test_") else frame.f_back
+    trial, name = "/".join(pathlib.Path(sys.argv[0]).resolve().parts[-2:]), what.partition("\n")[0]
+    if lines:
+        with open(os.environ["PLACES"], "a", encoding="utf-8", errors="backslashreplace") as places:
+            places.write(f"{trial}\t{' '.join(lines)}\t{name}\n")
+
+
 class Trials(unittest.TestCase):
     """Tests of which each comparison is a trial, named by what it shows."""
 
@@ -178,6 +194,7 @@ class Trials(unittest.TestCase):
         for the names of trials, those without are left out."""
         if GIVEN["cases"] and not any(word in what for word in GIVEN["cases"]):
             return True
+        note(what)
         with self.subTest(what=what):
             came = came() if callable(came) else came
             if expected != came:

@@ -2,7 +2,8 @@
 // it compares is a test inside it, which page/counts.cjs counts and tells. --only NAME runs one part. With --until WHAT
 // the parts that have a check of this name go first, and the trial ends where one fails: page/try-edits asks no more.
 'use strict';
-const assert = require('node:assert/strict'), path = require('node:path'), { test } = require('node:test');
+const assert = require('node:assert/strict'), fs = require('node:fs'), path = require('node:path');
+const { test } = require('node:test');
 const { spawnSync } = require('node:child_process');
 const { told, triesItself } = require('./counts.cjs');
 require('./read-files.cjs');
@@ -26,6 +27,16 @@ function difference(wanted, came) {
   return new assert.AssertionError({ actual, expected, operator: 'deepStrictEqual' });
 }
 
+// Writes for check/named what is compared, and the lines that led there, where PLACES names a file.
+function note(what) {
+  const { PLACES } = process.env, nameOf = (file) => path.relative(path.dirname(__dirname), file);
+  if (!PLACES) return;
+  Error.stackTraceLimit = 60;
+  const frames = new Error().stack.matchAll(/(?:\(| )(\/[^():]+):(\d+):\d+\)?$/gm);
+  const lines = [...frames].filter(([, file]) => /\/(try-\w+|check\/[^/]+)$/.test(file)).map(([, file, line]) => `${nameOf(file)}:${line}`);
+  fs.appendFileSync(PLACES, `${[nameOf(process.argv[1]), lines.join(' '), what.split('\n')[0]].join('\t')}\n`);
+}
+
 function endAt(what, fault) {
   console.log(told(what, fault));
   process.exit(1);
@@ -33,6 +44,7 @@ function endAt(what, fault) {
 
 function check(what, wanted, came) {
   const fault = difference(wanted, came);
+  note(what);
   compared.push([what, fault]);
   if (fault !== null && until !== null && what.startsWith(until)) endAt(what, fault);
   return fault === null;

@@ -33,7 +33,7 @@ none_read [] most read error parses plain few is = refl
 none_read (c ∷ cs) most read error parses plain few is =
     let so = rw is at (parse_plain digits_model 64 (c ∷ cs) read parses plain) in
     no_number _ _ _ _
-        (λ digits. so (digits, omega arith, omega (arith, digits_value_short digits_model (c ∷ cs) 5 digits few)))
+    (λ digits. so (digits, omega arith, omega (arith, digits_value_short digits_model (c ∷ cs) 5 digits few)))
 
 -- ---- what is known of it
 

@@ -43,7 +43,8 @@ export async function textIn(bytes, files, name) {
   const file = files.get(name), view = viewOf(bytes);
   if (!file) return null;
   if (file.isLocked) throw new NoArchive('locked');
-  if (view.getUint32(file.at, true) !== LOCAL) throw new NoArchive('cut');
+  const isThere = file.at + LOCAL_LENGTH <= view.byteLength && view.getUint32(file.at, true) === LOCAL;
+  if (!isThere) throw new NoArchive('cut');
   const from = file.at + LOCAL_LENGTH + view.getUint16(file.at + 26, true) + view.getUint16(file.at + 28, true);
   const packed = bytes.subarray(from, from + file.length);
   if (packed.length < file.length) throw new NoArchive('cut');

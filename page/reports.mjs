@@ -321,7 +321,7 @@ export function registersStatus(state, now) {
   if (state.notice) return WORDS[state.notice];
   if (run === null) return '';
   const ended = run.jobs.filter(({ status }) => status === 'ended').length;
-  if (run.jobs.some(({ status }) => status === 'stopped')) return WORDS.stoppedAfter(ended);
+  if (run.jobs.some(({ status }) => status === 'stopped')) return WORDS.stoppedAfter(run.jobs.filter(registers.isWhole).length);
   if (!registers.isRunning(state)) return endedWords(run, state.choice.left.length);
   if (run.jobs.length === 1) return '';
   return WORDS.converting(ended, run.jobs.length, Math.round((now - run.begun) / 1000));

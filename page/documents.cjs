@@ -40,10 +40,13 @@ function matches(element, selector) {
   if (!SELECTORS.has(selector)) {
     SELECTORS.set(selector, selector.split(',').map((one) => one.trim().split(/\s+/).reverse().map(partOf)));
   }
-  return SELECTORS.get(selector).some(([last, ...others]) => last(element) && others.every((is) => {
-    do element = element.parentNode; while (element && !is(element));
-    return element;
-  }));
+  return SELECTORS.get(selector).some(([last, ...others]) => {
+    let at = element;
+    return last(element) && others.every((is) => {
+      do at = at.parentNode; while (at && !is(at));
+      return at;
+    });
+  });
 }
 
 class Element {
